@@ -1,0 +1,4 @@
+pub mod Name
+pub mod Library
+pub mod FaultKind
+pub mod Picture

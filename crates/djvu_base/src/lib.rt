@@ -1,0 +1,19 @@
+//! What every crate of the viewer speaks of: names of files, faults and their places, meters, rasters and lists.
+//!
+//! `specs/` has the definitions that the contracts cite: `Name` (what a name is, and the order of names), `Library`
+//! (the files that a run works on), `FaultKind` (the words of faults) and `Picture` (what a raster holds).
+#![tactic(auto)]
+
+mod faults;
+mod lists;
+mod meters;
+mod names;
+mod rasters;
+#[cfg(test)]
+mod tests;
+
+pub use faults::{Fault, FaultKind, Place};
+pub use lists::Items;
+pub use meters::{CountMeter, Meter};
+pub use names::Name;
+pub use rasters::Raster;

@@ -1,0 +1,3 @@
+pub mod CommonFront
+pub mod Feeding
+pub mod Telling

@@ -1,0 +1,22 @@
+use Rattle.std.proofs.Common.{subst, sym}
+use Rattle.std.proofs.lemmas.Option.{slice_get_within}
+use Rattle.iff_chunks.specs.declared.stages.Stage.TheVariants as stage
+use Rattle.iff_chunks.specs.Told.{Feeds}
+use Rattle.iff_chunks.proofs.Feeding.{feeds_behind, first_byte, start_magic, start_head}
+use Rattle.iff_chunks.proofs.stages.start.Goals as goal
+
+pub returns-in-Some-eq65 : goal.returns-in-Some-eq65
+returns-in-Some-eq65 c =
+    let value = c.in-Some-eq65.ensures.value in
+    let first = first_byte c.args.piece.now 65 c.in-Some-eq65.field-0.now value c.in-Some-eq65.field-0-test in
+    let rest = subst (λ piece. Feeds (stage.Magic 1) piece c.magic.result) c.rest_of.ensures c.magic.ensures.feeds in
+    rw c.behind.ensures (feeds_behind stage.Start (stage.Magic 1) c.args.piece.now 1 c.magic.result (slice_get_within c.args.piece.now 0 _ (sym value))
+    (start_magic c.args.piece.now first) rest c.magic.ensures.no_data)
+
+pub returns-in-Some-eq70 : goal.returns-in-Some-eq70
+returns-in-Some-eq70 c =
+    let value = c.in-Some-eq70.ensures.value in
+    let first = first_byte c.args.piece.now 70 c.in-Some-eq70.field-0.now value c.in-Some-eq70.field-0-test in
+    let rest = subst (λ piece. Feeds (stage.Head 0 1) piece c.head.result) c.rest_of-in-Some-eq70.ensures c.head.ensures.feeds in
+    rw c.behind-in-Some-eq70.ensures (feeds_behind stage.Start (stage.Head 0 1) c.args.piece.now 1 c.head.result (slice_get_within c.args.piece.now 0 _ (sym value))
+    (start_head c.args.piece.now first) rest c.head.ensures.no_data)

@@ -1,0 +1,5 @@
+pub mod Start
+pub mod Matching
+pub mod Chunks
+pub mod Events
+pub mod Told

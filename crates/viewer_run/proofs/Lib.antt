@@ -1,0 +1,5 @@
+pub mod Walking
+pub mod Infos
+pub mod Listing
+pub mod Parts
+pub mod Texts

@@ -1,0 +1,7 @@
+use Rattle.std.proofs.Common.{refl}
+use Rattle.djvu_base.specs.Library.{file_limit}
+use Rattle.viewer_run.proofs.read.file_limit.Goals as goal
+
+pub returns : goal.returns
+unfolding file_limit
+returns c = refl

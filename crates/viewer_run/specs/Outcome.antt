@@ -1,0 +1,58 @@
+-- How a run, or a part of it, ends.
+use Rattle.std.specs.Prelude.{ℕ, ◌≡◌, ◌<◌, ◌++◌, ◌⊎◌, ⊤, List, Option, Some, Result, Ok, Err}
+use Rattle.djvu_base.specs.Library.{Files}
+use Rattle.djvu_outside.specs.Faults.{Rises}
+use Rattle.djvu_outside.specs.Reading.{GrowsWithin, HasFile}
+use Rattle.viewer_run.specs.declared.stop.Stop.{Stop}
+use Rattle.viewer_run.specs.declared.stop.Stop.TheVariants as stop
+use Rattle.viewer_run.specs.declared.page.Page.{Page}
+use Rattle.viewer_run.specs.declared.page.Page.TheVariants as page
+use Rattle.viewer_run.specs.declared.front.Front.{Front}
+use Rattle.viewer_run.specs.declared.front.Front.TheVariants as front
+
+-- all of the text was put, or, where the part stopped, a front of it
+abbrev pub Delivers : {T : Type 0} → Result T Stop → List ℕ → List ℕ → List ℕ → Type 0
+Delivers (Ok value) before text after = after ≡ before ++ text
+Delivers (Err stop) before text after = GrowsWithin before text after
+
+-- of a part that reads alone: it stops for the folder exactly where the folder failed
+abbrev pub FolderStops : {T : Type 0} → Result T Stop → ℕ → ℕ → Type 0
+FolderStops (Ok value) before after = after ≡ before
+FolderStops (Err stop.Folder) before after = Rises before after
+FolderStops (Err stop.Sink) before after = ⊥
+FolderStops (Err stop.Memory) before after = after ≡ before
+
+-- of a part that puts alone: it stops for the sink exactly where the sink failed
+abbrev pub SinkStops : {T : Type 0} → Result T Stop → ℕ → ℕ → Type 0
+SinkStops (Ok value) before after = after ≡ before
+SinkStops (Err stop.Folder) before after = ⊥
+SinkStops (Err stop.Sink) before after = Rises before after
+SinkStops (Err stop.Memory) before after = after ≡ before
+
+-- the page of a front is a file of the folder
+abbrev pub CanDraw : Files → Front → Type 0
+CanDraw files (front.Draw name) = HasFile files name
+CanDraw files (front.Refused line) = ⊤
+
+-- what a sink tells went on with the text, or, where the part stopped, with a front of it
+abbrev pub Gives : {T : Type 0} → Result T Stop → Option (List ℕ) → Option (List ℕ) → List ℕ → Type 0
+Gives result old new text = (before : List ℕ) → old ≡ Some before → (after : List ℕ) × (new ≡ Some after) × Delivers result before text after
+
+-- of a part that reads and then puts: the folder's count rose exactly where it stopped for the folder
+abbrev pub FolderEnds : {T : Type 0} → Result T Stop → ℕ → ℕ → Type 0
+FolderEnds (Ok value) before after = after ≡ before
+FolderEnds (Err stop.Folder) before after = Rises before after
+FolderEnds (Err stop.Sink) before after = after ≡ before
+FolderEnds (Err stop.Memory) before after = after ≡ before
+
+-- a sink's count rose exactly where it stopped for a sink; first the counts of the one sink, and then those of the other
+abbrev pub SinksEnd : {T : Type 0} → Result T Stop → ℕ → ℕ → ℕ → ℕ → Type 0
+SinksEnd (Ok value) a b x y = (b ≡ a) × (y ≡ x)
+SinksEnd (Err stop.Folder) a b x y = (b ≡ a) × (y ≡ x)
+SinksEnd (Err stop.Sink) a b x y = Rises a b ⊎ Rises x y
+SinksEnd (Err stop.Memory) a b x y = (b ≡ a) × (y ≡ x)
+
+-- a page that is drawn has rows and columns
+abbrev pub HasArea : Page → Type 0
+HasArea (page.Blank size) = (0 < size.width) × (0 < size.height)
+HasArea (page.Refused kind) = ⊤

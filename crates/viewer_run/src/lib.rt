@@ -1,0 +1,21 @@
+//! The commands of the viewer, over any folder, sinks and meter.
+//!
+//! So far `draw PAGE` draws one page that has an `INFO` of 10 bytes and nothing else: a white raster. `run` is the
+//! call; its contract says which bytes both sinks get, and which status comes when.
+//!
+//! `specs/` has the definitions: `Words` (what words say), `Picture` (which page bytes are), `Walk` (a walk over a
+//! page), `Lines` (what is written, as bytes), `Offline` (all of a run, where nothing outside fails), `Outcome` and
+//! `Status` (how a run stops).
+#![tactic(auto)]
+
+mod command;
+mod front;
+mod lines;
+mod page;
+mod put;
+mod read;
+mod stop;
+mod walk;
+mod whole;
+
+pub use whole::run;

@@ -1,12 +1,15 @@
 //! What lies outside of the program: folders of files, which are read, and sinks, which bytes are put into.
 #![tactic(auto)]
 
+mod calls;
 mod faults;
 mod folder;
+mod memory_bytes;
 mod sink;
 #[cfg(test)]
 mod tests;
 
 pub use faults::{Failed, FolderFault, SinkFault, Status};
 pub use folder::Folder;
+pub use memory_bytes::MemorySink;
 pub use sink::Sink;

@@ -1,0 +1,15 @@
+-- A sink in memory.
+use Rattle.std.specs.Prelude.{ℕ, ◌+◌, ◌-◌, ◌^◌, List, [], min}
+use Rattle.djvu_outside.specs.Calls.{Numbered, numbered_from_0}
+
+pub record MemoryBytes : Type 0 where
+  pub given : List ℕ
+  pub faults : ℕ
+  pub calls : Numbered
+
+abbrev pub new_bytes : List ℕ → MemoryBytes
+new_bytes failing = record { given = []; faults = 0; calls = numbered_from_0 failing }
+
+-- a count after one more, which stands still at its type's end
+abbrev pub one_more : ℕ → ℕ
+one_more count = min (count + 1) (2 ^ 64 - 1)

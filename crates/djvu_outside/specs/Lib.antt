@@ -2,3 +2,4 @@ pub mod Faults
 pub mod Reading
 pub mod Calls
 pub mod Sinks
+pub mod Folders

@@ -5,6 +5,8 @@ mod calls;
 mod faults;
 mod folder;
 mod memory_bytes;
+mod memory_files;
+mod memory_parts;
 mod sink;
 #[cfg(test)]
 mod tests;
@@ -12,4 +14,5 @@ mod tests;
 pub use faults::{Failed, FolderFault, SinkFault, Status};
 pub use folder::Folder;
 pub use memory_bytes::MemorySink;
+pub use memory_files::MemoryFolder;
 pub use sink::Sink;

@@ -7,6 +7,7 @@ mod folder;
 mod memory_bytes;
 mod memory_files;
 mod memory_parts;
+mod real_sink;
 mod sink;
 #[cfg(test)]
 mod tests;
@@ -15,4 +16,5 @@ pub use faults::{Failed, FolderFault, SinkFault, Status};
 pub use folder::Folder;
 pub use memory_bytes::MemorySink;
 pub use memory_files::MemoryFolder;
+pub use real_sink::WriteSink;
 pub use sink::Sink;

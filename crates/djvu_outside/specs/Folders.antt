@@ -56,3 +56,11 @@ pub record IsFolder (files : Files) (opened : Option Place) (notes : List Note) 
 -- how many bytes of the open file were not given yet
 abbrev pub bytes_left : Files → Opened → ℕ
 bytes_left files here = length (bytes_in files here.name) - here.position
+
+-- a folder of the file system: the open file, and how many calls failed
+pub record DirState : Type 0 where
+  pub opened : Option Opened
+  pub faults : ℕ
+
+abbrev pub unopened : DirState
+unopened = record { opened = None; faults = 0 }

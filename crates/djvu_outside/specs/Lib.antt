@@ -3,3 +3,4 @@ pub mod Reading
 pub mod Calls
 pub mod Sinks
 pub mod Folders
+pub mod Readers

@@ -1,8 +1,7 @@
 //! A sink over a writer.
-ghost use Rattle.std.specs.Prelude.{◌≡◌, ◌<◌, ℕ, List, None, length, OnOk, ◌≢◌};
+ghost use Rattle.std.specs.Prelude.{◌≡◌, ◌≢◌, ◌<◌, None, length, OnOk};
 ghost use Rattle.std.specs.Io.KnownBytes.{Appends};
 ghost use Rattle.djvu_outside.specs.Faults.{SinkCounts};
-ghost use Rattle.djvu_outside.specs.Reading.{Puts};
 ghost use Rattle.djvu_outside.specs.Sinks.{new_writer};
 
 use crate::faults::SinkFault;
@@ -44,7 +43,6 @@ impl<W: Write + Drop> Sink for WriteSink<W> {
     /// have been written in part.
     fn put(&mut self, piece: &[u8]) -> Result<(), SinkFault>
         requires { 0 < length piece.now }
-        ensures taken { (before : List ℕ) → None ≡ Some before → (after : List ℕ) × (None ≡ Some after) × Puts result before piece.now after }
         ensures counts { SinkCounts result self.old.faults self.new.faults }
 
         ensures written { OnOk result (Appends self.old.written self.new.written piece.now) }

@@ -1,5 +1,5 @@
 -- How many calls to come fail, before and after a call.
-use Rattle.std.proofs.Common.{◌≡◌, ◌+◌, ◌^◌, ◌<◌, ◌≤◌, ◌||◌, ℕ, Bool, true, false, cond, eqb, leb, ltb, length, List, [], ◌∷◌, Option, None, Some, arith, refl, rules}
+use Rattle.std.proofs.Common.{◌+◌, ◌^◌, ◌≤◌, ◌||◌, ℕ, Bool, true, false, cond, eqb, leb, ltb, length, List, [], ◌∷◌, Option, None, Some, arith}
 use Rattle.std.specs.Bool.{OnTrue}
 use Rattle.std.proofs.lemmas.Bool.Decides.{nat_tests}
 use Rattle.djvu_outside.specs.Calls.{Numbered, has_number, fails_at, number_after, count_from, failures_from, failures_left, is_failing, after_call}

@@ -1,8 +1,6 @@
 -- The files of a folder, by their indices and by their names.
-use Rattle.std.proofs.Common.{◌≡◌, ◌+◌, ◌<◌, ◌≤◌, ◌++◌, ℕ, zero, suc, Bool, true, false, cond, bytes_eq, length, take, drop, map, get_or, List, [], ◌∷◌, Option, None, Some, arith, refl, rules, sym, ap, ◌∙◌, add-one}
-use Rattle.std.proofs.lemmas.Bool.Decides.{nat_tests}
-use Rattle.std.proofs.lemmas.Grind.{common_steps}
-use Rattle.djvu_base.specs.Library.{Files, names_of, contents_of}
+use Rattle.std.proofs.Common.{◌≡◌, ◌+◌, ◌<◌, ℕ, zero, suc, true, false, cond, bytes_eq, length, drop, get_or, List, [], ◌∷◌, Some, arith, refl, sym, ap, ◌∙◌, add-one}
+use Rattle.djvu_base.specs.Library.{Files, contents_of}
 use Rattle.djvu_outside.specs.Folders.{name_at, bytes_at}
 
 pub name_at-index : (files : Files) (index : ℕ) (file : List ℕ × List ℕ) → index < length files → file ≡ get_or files index file → name_at index files ≡ file.0

@@ -1,6 +1,6 @@
 -- The order of names, from one to the next.
-use Rattle.std.proofs.Common.{◌≡◌, ◌+◌, ◌-◌, ◌<◌, ◌&&◌, ℕ, zero, suc, Bool, true, false, length, drop, get_or, List, [], ◌∷◌, add-one, arith, refl, sym, ◌∙◌}
-use Rattle.djvu_base.specs.Name.{is_ascending, is_before, is_name, IsName}
+use Rattle.std.proofs.Common.{◌≡◌, ◌+◌, ◌-◌, ◌<◌, ◌&&◌, ℕ, zero, suc, Bool, true, false, length, drop, get_or, List, [], ◌∷◌, add-one, arith, refl}
+use Rattle.djvu_base.specs.Name.{is_ascending, is_before, is_name}
 use Rattle.std.specs.Str.{is_utf8}
 
 is_ascending-drop_suc : (names : List (List ℕ)) (index : ℕ) → suc index < length names → is_ascending (drop index names) ≡ (is_before (get_or names index []) (get_or names (suc index) []) && is_ascending (drop (suc index) names))

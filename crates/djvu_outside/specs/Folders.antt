@@ -1,5 +1,5 @@
 -- Folders in memory, and the state of real ones.
-use Rattle.std.specs.Prelude.{◌≡◌, ℕ, zero, suc, ◌+◌, ◌-◌, ◌<◌, ◌≤◌, List, [], ◌∷◌, Option, Some, None, length, map, option_map}
+use Rattle.std.specs.Prelude.{◌≡◌, ℕ, zero, suc, ◌+◌, ◌-◌, ◌<◌, ◌≤◌, List, [], ◌∷◌, Option, Some, None, ◌++◌, length, codes}
 use Rattle.djvu_base.specs.Name.{IsAscending}
 use Rattle.djvu_base.specs.Library.{Files, names_of, contents_of}
 use Rattle.djvu_outside.specs.Calls.{Numbered, numbered_from_0, failures_left}
@@ -64,3 +64,8 @@ pub record DirState : Type 0 where
 
 abbrev pub unopened : DirState
 unopened = record { opened = None; faults = 0 }
+
+-- a folder's path, behind which a name may stand
+abbrev pub with_slash : List ℕ → List ℕ
+with_slash [] = []
+with_slash (byte ∷ bytes) = (byte ∷ bytes) ++ codes "/"

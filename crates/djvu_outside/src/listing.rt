@@ -1,6 +1,7 @@
 //! The plain files in a folder of the file system.
-ghost use Rattle.std.specs.Prelude.{◌≡◌, ◌≤◌, ◌++◌, length, codes, string_bytes, IfOk};
+ghost use Rattle.std.specs.Prelude.{◌≡◌, ◌≤◌, ◌++◌, length, string_bytes, IfOk};
 ghost use Rattle.djvu_base.specs.Name.{IsAscending};
+ghost use Rattle.djvu_outside.specs.Folders.{with_slash};
 
 use crate::orders::is_ascending;
 use djvu_base::Name;
@@ -28,12 +29,22 @@ pub fn plain_names<R: Files>(files: &R, alloc: Global, folder: &str) -> io::Resu
     Ok(names)
 }
 
-/// A folder's path, a slash, and a name in it.
-pub fn path_of(alloc: Global, folder: &str, name: &Name) -> Result<String, AllocError>
-    ensures { IfOk result (λ path. string_bytes path ≡ folder.now ++ codes "/" ++ name.now) }
+/// The path with a slash behind it, by which a link to a folder is followed. An empty path stays empty: it is no folder's.
+pub fn folder_path(alloc: Global, path: &str) -> Result<String, AllocError>
+    ensures { IfOk result (λ folder. string_bytes folder ≡ with_slash path.now) }
+{
+    let mut folder = String::from_str(alloc, path)?;
+    if !path.is_empty() {
+        folder.push_str("/")?;
+    }
+    Ok(folder)
+}
+
+/// The path of a file in the folder.
+pub fn file_path(alloc: Global, folder: &str, name: &Name) -> Result<String, AllocError>
+    ensures { IfOk result (λ path. string_bytes path ≡ folder.now ++ name.now) }
 {
     let mut path = String::from_str(alloc, folder)?;
-    path.push_str("/")?;
     path.push_str(text_of(name))?;
     Ok(path)
 }
@@ -86,7 +97,7 @@ fn plain_name<R: Files>(
     let Some(name) = Name::read(alloc, entry)? else {
         return Ok(None);
     };
-    let path = path_of(alloc, folder, &name)?;
+    let path = file_path(alloc, folder, &name)?;
     if is_plain_file(files, path.as_str())? {
         Ok(Some(name))
     } else {

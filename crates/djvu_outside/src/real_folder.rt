@@ -8,7 +8,7 @@ ghost use Rattle.djvu_outside.specs.Readers.{opened_of};
 
 use crate::faults::{Failed, FolderFault};
 use crate::folder::Folder;
-use crate::listing::{path_of, plain_names, read_some};
+use crate::listing::{file_path, folder_path, plain_names, read_some};
 use djvu_base::Name;
 use std::alloc::{AllocError, Global};
 use std::fs::OpenOptions;
@@ -51,7 +51,7 @@ impl<R: Files + Drop> DirFolder<R> {
     pub fn new(rt: R, alloc: Global, path: &str) -> Result<DirFolder<R>, AllocError>
         ensures { IfOk result (λ folder. folder ≡ unopened) }
     {
-        let path = String::from_str(alloc, path)?;
+        let path = folder_path(alloc, path)?;
         Ok(DirFolder {
             rt,
             alloc,
@@ -141,7 +141,7 @@ fn open_file<R: Files>(
 ) -> io::Result<Reader<R::File>>
     ensures { IfOk result (λ reader. opened_of reader ≡ opened_at_start name.now) }
 {
-    let path = path_of(alloc, folder, name)?;
+    let path = file_path(alloc, folder, name)?;
     let name = name.copy(alloc)?;
     let file = files.open_file(OpenOptions::new().read(true), path.as_str())?;
     Ok(Reader {

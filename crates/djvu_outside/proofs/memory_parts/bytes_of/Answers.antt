@@ -1,4 +1,3 @@
-use Rattle.std.proofs.Common.{sym, ◌∙◌}
 use Rattle.djvu_outside.proofs.FolderLemmas.{bytes_at-index}
 use Rattle.djvu_outside.proofs.memory_parts.bytes_of.Goals as goal
 

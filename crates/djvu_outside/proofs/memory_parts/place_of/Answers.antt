@@ -1,4 +1,4 @@
-use Rattle.std.proofs.Common.{◌≡◌, true, false, bytes_eq, rules, arith, sym, ◌∙◌}
+use Rattle.std.proofs.Common.{◌≡◌, rules, arith, sym, ◌∙◌}
 use Rattle.djvu_outside.specs.Folders.{name_at}
 use Rattle.djvu_outside.proofs.FolderLemmas.{contents_of-found, contents_of-next}
 use Rattle.djvu_outside.proofs.memory_parts.place_of.Goals as goal

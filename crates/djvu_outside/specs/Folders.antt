@@ -57,13 +57,14 @@ pub record IsFolder (files : Files) (opened : Option Place) (notes : List Note) 
 abbrev pub bytes_left : Files → Opened → ℕ
 bytes_left files here = length (bytes_in files here.name) - here.position
 
--- a folder of the file system: the open file, and how many calls failed
+-- a folder of the file system: its path, the open file, and how many calls failed
 pub record DirState : Type 0 where
+  pub path : List ℕ
   pub opened : Option Opened
   pub faults : ℕ
 
-abbrev pub unopened : DirState
-unopened = record { opened = None; faults = 0 }
+abbrev pub unopened : List ℕ → DirState
+unopened path = record { path = path; opened = None; faults = 0 }
 
 -- a folder's path, behind which a name may stand
 abbrev pub with_slash : List ℕ → List ℕ

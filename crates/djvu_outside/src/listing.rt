@@ -1,5 +1,6 @@
 //! The plain files in a folder of the file system.
 ghost use Rattle.std.specs.Prelude.{◌≡◌, ◌≤◌, ◌++◌, length, string_bytes, IfOk};
+ghost use Rattle.std.specs.Io.KnownBytes.{ReadConsumes};
 ghost use Rattle.djvu_base.specs.Name.{IsAscending};
 ghost use Rattle.djvu_outside.specs.Folders.{with_slash};
 
@@ -75,7 +76,8 @@ fn read_entries<R: Files>(files: &R, alloc: Global, folder: &str) -> io::Result<
 
 /// One read, which is tried again where it was interrupted.
 pub fn read_some<F: Read>(file: &mut F, buf: &mut [u8]) -> io::Result<usize>
-    ensures { IfOk result (λ count. count ≤ length buf.new) }
+    ensures within { IfOk result (λ count. count ≤ length buf.new) }
+    ensures bytes { ReadConsumes (F.remaining file.old) (F.remaining file.new) result buf.new }
 {
     for _ in 0..u64::MAX {
         match file.read(buf) {

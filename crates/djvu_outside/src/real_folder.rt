@@ -1,9 +1,10 @@
 //! A folder of the file system.
-ghost use Rattle.std.specs.Prelude.{◌≡◌, ◌≤◌, ◌↔◌, ℕ, [], None, length, IfOk, IfSome};
+ghost use Rattle.std.specs.Prelude.{◌≡◌, ◌<◌, ◌≤◌, ◌↔◌, ℕ, [], None, length, IsSome, IfOk, OnOk, OnErr, IfSome};
+ghost use Rattle.djvu_base.specs.Name.{IsAscending};
 ghost use Rattle.std.specs.IoError.{error_kind};
 ghost use Rattle.djvu_outside.specs.Faults.{FolderCounts, ReadCounts};
-ghost use Rattle.djvu_outside.specs.Folders.{unopened};
-ghost use Rattle.djvu_outside.specs.Reading.{opened_at_start, moved_on};
+ghost use Rattle.djvu_outside.specs.Folders.{unopened, with_slash};
+ghost use Rattle.djvu_outside.specs.Reading.{Opened, opened_at_start, moved_on};
 ghost use Rattle.djvu_outside.specs.Readers.{opened_of};
 
 use crate::faults::{Failed, FolderFault};
@@ -31,31 +32,31 @@ pub struct Reader<F> {
 pub struct DirFolder<R: Files> {
     rt: R,
     alloc: Global,
-    path: String,
+    folder: String,
     reader: Option<Reader<R::File>>,
     failed: u64,
 }
 
 impl<R: Files> Model for DirFolder<R> {
-    ghost use Rattle.std.specs.Prelude.{option_map};
+    ghost use Rattle.std.specs.Prelude.{option_map, string_bytes};
     ghost use Rattle.djvu_outside.specs.Folders.{DirState};
     ghost use Rattle.djvu_outside.specs.Readers.{opened_of};
 
     ghost Value = { DirState };
 
-    ghost view = { λ a. record { opened = option_map opened_of a.reader; faults = a.failed } };
+    ghost view = { λ a. record { path = string_bytes a.folder; opened = option_map opened_of a.reader; faults = a.failed } };
 }
 
 impl<R: Files + Drop> DirFolder<R> {
-    /// The folder at this path. Nothing is read yet.
+    /// The folder at this path, which may be a link to it. Nothing is read yet.
     pub fn new(rt: R, alloc: Global, path: &str) -> Result<DirFolder<R>, AllocError>
-        ensures { IfOk result (λ folder. folder ≡ unopened) }
+        ensures { IfOk result (λ folder. folder ≡ unopened (with_slash path.now)) }
     {
-        let path = folder_path(alloc, path)?;
+        let folder = folder_path(alloc, path)?;
         Ok(DirFolder {
             rt,
             alloc,
-            path,
+            folder,
             reader: None,
             failed: 0,
         })
@@ -66,6 +67,7 @@ impl<R: Files + Drop> DirFolder<R> {
         ensures kind { (result ≡ FolderFault.OutOfMemory) ↔ (error_kind error ≡ ErrorKind.OutOfMemory) }
         ensures counts { FolderCounts {T = ℕ} (Err result) self.old.faults self.new.faults }
         ensures same_opened { self.new.opened ≡ self.old.opened }
+        ensures same_path { self.new.path ≡ self.old.path }
     {
         if error.kind() == ErrorKind::OutOfMemory {
             return FolderFault::OutOfMemory;
@@ -84,16 +86,26 @@ impl<R: Files + Drop> Folder for DirFolder<R> {
 
     ghost opened = { λ folder. folder.opened };
 
-    fn list(&mut self, alloc: Global) -> Result<Vec<Name>, FolderFault> {
-        match plain_names(&self.rt, alloc, self.path.as_str()) {
+    fn list(&mut self, alloc: Global) -> Result<Vec<Name>, FolderFault>
+        ensures ascending { IfOk result (λ names. IsAscending names.items) }
+        ensures counts { FolderCounts result self.old.faults self.new.faults }
+        ensures same_opened { self.new.opened ≡ self.old.opened }
+        ensures same_path { self.new.path ≡ self.old.path }
+    {
+        match plain_names(&self.rt, alloc, self.folder.as_str()) {
             Ok(names) => Ok(names),
             Err(error) => Err(self.fault(error)),
         }
     }
 
-    fn open(&mut self, name: &Name) -> Result<(), FolderFault> {
+    fn open(&mut self, name: &Name) -> Result<(), FolderFault>
+        ensures ok { OnOk result (self.new.opened ≡ Some (opened_at_start name.now)) }
+        ensures err { OnErr result (self.new.opened ≡ None) }
+        ensures counts { FolderCounts result self.old.faults self.new.faults }
+        ensures same_path { self.new.path ≡ self.old.path }
+    {
         self.reader = None;
-        match open_file(&self.rt, self.alloc, self.path.as_str(), name) {
+        match open_file(&self.rt, self.alloc, self.folder.as_str(), name) {
             Ok(reader) => {
                 self.reader = Some(reader);
                 Ok(())
@@ -102,7 +114,15 @@ impl<R: Files + Drop> Folder for DirFolder<R> {
         }
     }
 
-    fn read(&mut self, buf: &mut [u8]) -> Result<usize, Failed> {
+    fn read(&mut self, buf: &mut [u8]) -> Result<usize, Failed>
+        requires is_open { IsSome self.old.opened }
+        requires room { 0 < length buf.old }
+        ensures within { IfOk result (λ count. count ≤ length buf.old) }
+        ensures ok { (here : Opened) → self.old.opened ≡ Some here → IfOk result (λ count. self.new.opened ≡ Some (moved_on here count)) }
+        ensures err { OnErr result (self.new.opened ≡ None) }
+        ensures counts { ReadCounts result self.old.faults self.new.faults }
+        ensures same_path { self.new.path ≡ self.old.path }
+    {
         let Some(reader) = self.reader.take() else {
             unreachable!()
         };

@@ -1,5 +1,6 @@
 //! What no clause says: that calls succeed, what the file system gives, and that a sink flushes its writer.
-ghost use Rattle.std.specs.Prelude.{◌≡◌, IfOk};
+ghost use Rattle.std.specs.Prelude.{◌≡◌, ◌<◌, length, codes, IfOk};
+ghost use Rattle.djvu_outside.specs.Reading.{HasFile};
 
 use super::*;
 use djvu_base::{Items, Name};
@@ -28,35 +29,56 @@ fn line_of(alloc: Global, names: &[Name]) -> Result<Vec<u8>, Fail> {
     Ok(line)
 }
 
+// A folder of two files, which fails at these calls.
+fn folder_of(alloc: Global, failing: &[u64]) -> Result<MemoryFolder, Fail>
+    ensures { IfOk result (λ folder. HasFile folder.files (codes "two")) }
+{
+    let mut files = Vec::new(alloc);
+    let nothing = Vec::new(alloc);
+    files.push((name_of(alloc, b"one")?, Items::of(nothing)))?;
+    let hello = Vec::from_slice(alloc, b"hello")?;
+    files.push((name_of(alloc, b"two")?, Items::of(hello)))?;
+    let failing = Vec::from_slice(alloc, failing)?;
+    Ok(MemoryFolder::new(alloc, files, failing)?)
+}
+
+// Opens the file and reads twice: how many bytes each read gave.
+fn read_twice(
+    folder: &mut MemoryFolder,
+    name: &Name,
+    buf: &mut [u8],
+) -> Result<(usize, usize), Fail>
+    requires file { HasFile folder.old.files name.now }
+    requires room { 0 < length buf.old }
+    ensures { folder.new.files ≡ folder.old.files }
+{
+    folder.open(name)?;
+    let Ok(first) = folder.read(buf) else {
+        return Err(Fail::from("the first read failed"));
+    };
+    let Ok(second) = folder.read(buf) else {
+        return Err(Fail::from("the second read failed"));
+    };
+    Ok((first, second))
+}
+
 #[test]
 fn a_folder_in_memory_fails_where_it_is_told(rt: HostRuntime) -> Result<(), Fail> {
     let alloc = rt.alloc();
-    let (one, two) = (name_of(alloc, b"one")?, name_of(alloc, b"two")?);
-    let mut files = Vec::new(alloc);
-    files.push((one, Items::of(Vec::new(alloc))))?;
-    let hello = Vec::from_slice(alloc, b"hello")?;
-    files.push((two.copy(alloc)?, Items::of(hello)))?;
-    let failing = Vec::from_slice(alloc, &[1, 3, 6])?;
-    let mut folder = MemoryFolder::new(alloc, files, failing)?;
-    let mut buf = [0; 4];
-
+    let mut folder = folder_of(alloc, &[1, 4, 5])?;
     let names = folder.list(alloc)?;
     assert_eq!(rt;
         line_of(alloc, names.as_slice())?.as_slice(),
         b"one/two/".as_slice()
     );
-    assert!(rt; matches!(folder.list(alloc), Err(FolderFault::Failed)));
-    assert_eq!(rt; folder.list(alloc)?.len(), 2);
-    assert!(rt; matches!(folder.open(&two), Err(FolderFault::Failed)));
-    folder.open(&two)?;
-    assert_eq!(rt; folder.read(&mut buf)?, 4);
+    assert!(rt; folder.list(alloc).is_err());
+    let two = name_of(alloc, b"two")?;
+    let mut buf = [0; 4];
+    assert!(rt; read_twice(&mut folder, &two, &mut buf).is_err());
     assert_eq!(rt; buf, *b"hell");
-    assert!(rt; folder.read(&mut buf).is_err());
-    folder.open(&two)?;
-    assert_eq!(rt; folder.read(&mut buf)?, 4);
-    assert_eq!(rt; folder.read(&mut buf)?, 1);
+    assert!(rt; read_twice(&mut folder, &two, &mut buf).is_err());
+    assert_eq!(rt; read_twice(&mut folder, &two, &mut buf)?, (4, 1));
     assert_eq!(rt; buf, *b"oell");
-    assert_eq!(rt; folder.read(&mut buf)?, 0);
     Ok(())
 }
 

@@ -137,6 +137,7 @@ impl Folder for MemoryFolder {
 
         ensures fails { IsErr result ↔ IsTrue (is_failing self.old.calls) }
         ensures count { (here : Opened) → self.old.opened ≡ Some here → IfOk result (λ count. count ≡ min (length buf.old) (bytes_left self.old.files here)) }
+        ensures still_open { OnOk result (IsSome self.new.opened) }
         ensures behind { IfOk result (λ count. drop count buf.new ≡ drop count buf.old) }
         ensures untouched { OnErr result (buf.new ≡ buf.old) }
         ensures calls { self.new.calls ≡ after_call self.old.calls }

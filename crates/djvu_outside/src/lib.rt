@@ -1,12 +1,24 @@
 //! What lies outside of the program: folders of files, which are read, and sinks, which bytes are put into.
 #![tactic(auto)]
 
+mod calls;
 mod faults;
 mod folder;
+mod listing;
+mod memory_bytes;
+mod memory_files;
+mod memory_parts;
+mod orders;
+mod real_folder;
+mod real_sink;
 mod sink;
 #[cfg(test)]
 mod tests;
 
 pub use faults::{Failed, FolderFault, SinkFault, Status};
 pub use folder::Folder;
+pub use memory_bytes::MemorySink;
+pub use memory_files::MemoryFolder;
+pub use real_folder::DirFolder;
+pub use real_sink::WriteSink;
 pub use sink::Sink;

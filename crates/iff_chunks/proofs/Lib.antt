@@ -1,3 +1,4 @@
 pub mod CommonFront
 pub mod Feeding
+pub mod Staying
 pub mod Telling

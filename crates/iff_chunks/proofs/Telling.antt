@@ -16,7 +16,7 @@ use Rattle.iff_chunks.specs.Told.{Awaits, IsThere, Stands, Fits, IsWithin, head_
 whole : ℕ → List ℕ → Chunks
 whole offset bytes = record { form = Some page_form; whole = info_chunk offset bytes ∷ []; tail = FormEnd }
 
-same_goes_on : (told : List Event) → GoesOn told told
+pub same_goes_on : (told : List Event) → GoesOn told told
 same_goes_on [] = tt
 same_goes_on (Data bytes ∷ []) = ([], sym (append-nil bytes))
 same_goes_on (Data bytes ∷ event ∷ told) = (refl, same_goes_on (event ∷ told))
@@ -28,7 +28,7 @@ after_data_goes_on : (offset : ℕ) (bytes : List ℕ) (t : Bool) → GoesOn hea
 after_data_goes_on offset bytes true = (refl, tt)
 after_data_goes_on offset bytes false = (refl, tt)
 
-header_goes_on : (offset : ℕ) (start : Start) → GoesOn head_told (events_of (after_header offset start))
+pub header_goes_on : (offset : ℕ) (start : Start) → GoesOn head_told (events_of (after_header offset start))
 header_goes_on offset (Begins bytes) = after_data_goes_on offset bytes (ltb (length bytes) 10)
 header_goes_on offset Arriving = (refl, tt)
 header_goes_on offset Differs = (refl, tt)
@@ -48,7 +48,7 @@ rest_of_ten bytes more early =
     ap (λ n. take n (bytes ++ more)) nine ∙ take-append-add bytes more (9 - length bytes)
 
 -- data that arrived go on in the data of the file
-data_goes_on : (offset : ℕ) (bytes more : List ℕ) (t : Bool) → length bytes ≤ 10
+pub data_goes_on : (offset : ℕ) (bytes more : List ℕ) (t : Bool) → length bytes ≤ 10
     → GoesOn (header_told offset ++ data_events bytes) (events_of (cond t (record { form = Some page_form; whole = []; tail = InData (info_chunk offset (bytes ++ more)) }) (record { form = Some page_form; whole = info_chunk offset (take 10 (bytes ++ more)) ∷ []; tail = FormEnd })))
 data_goes_on offset [] more true early = (refl, (refl, tt))
 data_goes_on offset [] more false early = (refl, (refl, tt))
@@ -109,7 +109,7 @@ open_told taken told chunks e all more = record {
   more = subst (λ c. IsOpen c.tail) (sym e) more;
 }
 
-arriving_chunks : (offset : ℕ) (bytes : List ℕ) → length bytes < 10 → after_data offset bytes ≡ record { form = Some page_form; whole = []; tail = InData (info_chunk offset bytes) }
+pub arriving_chunks : (offset : ℕ) (bytes : List ℕ) → length bytes < 10 → after_data offset bytes ≡ record { form = Some page_form; whole = []; tail = InData (info_chunk offset bytes) }
 arriving_chunks offset bytes short = ap (λ t. cond t (record { form = Some page_form; whole = []; tail = InData (info_chunk offset bytes) }) (record { form = Some page_form; whole = info_chunk offset (take 10 bytes) ∷ []; tail = FormEnd })) (lt-ltb _ _ short)
 
 pub within_told : (place : Stage) (taken : List ℕ) (told : List Event) → IsWithin place → Stands place taken told → AllTold taken told

@@ -1,6 +1,5 @@
 -- Libraries: the files that a run works on, and how much of each is there.
-use Rattle.std.specs.Prelude.{ℕ, Bool, ◌≡◌, List, [], ◌∷◌, map, take, Option, Some, None, if◌then◌else◌, bytes_eq, is_some}
-use Rattle.djvu_base.specs.Name.{IsAscending}
+use Rattle.std.specs.Prelude.{ℕ, List, [], ◌∷◌, map, take, Option, Some, None, if◌then◌else◌, bytes_eq}
 
 -- what is known of a file's end: more bytes may come, these are all, or the file broke off behind them
 pub data Mark : Type 0 where

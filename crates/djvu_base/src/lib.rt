@@ -5,6 +5,7 @@
 #![tactic(auto)]
 
 mod faults;
+mod laws;
 mod lists;
 mod meters;
 mod names;
@@ -13,6 +14,7 @@ mod rasters;
 mod tests;
 
 pub use faults::{Fault, FaultKind, Place};
+pub use laws::worked_names;
 pub use lists::Items;
 pub use meters::{CountMeter, Meter};
 pub use names::Name;

@@ -1,5 +1,5 @@
 -- How a walker's place goes on from a piece, case by case.
-use Rattle.std.proofs.Common.{◌≡◌, ◌≢◌, ℕ, ◌+◌, ◌-◌, ◌<◌, ◌≤◌, Bool, false, cond, Some, slice_get, List, [], ◌∷◌, ◌++◌, ◌⊎◌, ltb, length, take, drop, refl, sym, ap, ◌∙◌, subst, inl, inr, arith, codes, append_assoc}
+use Rattle.std.proofs.Common.{◌≡◌, ◌≢◌, ℕ, ◌+◌, ◌-◌, ◌<◌, ◌≤◌, false, cond, Some, slice_get, List, [], ◌∷◌, ◌++◌, ltb, length, take, drop, refl, sym, ap, ◌∙◌, subst, inl, inr, arith, codes, append_assoc}
 use Rattle.std.proofs.lemmas.List.{length-drop, append-nil, length-append, length-take-le, take_all, take-append-le}
 use Rattle.std.proofs.lemmas.Bool.{le-ltb}
 use Rattle.std.proofs.Math.Seq.{take-add, take-length}
@@ -10,9 +10,9 @@ use Rattle.iff_chunks.specs.declared.stages.Fed.{Fed}
 use Rattle.iff_chunks.specs.declared.stages.Stage.{Stage}
 use Rattle.iff_chunks.specs.declared.stages.Stage.TheVariants as stage
 use Rattle.iff_chunks.specs.Start.{Start, Begins, Arriving, Differs, start_of}
-use Rattle.iff_chunks.specs.Chunks.{Chunks, chunks_of, chunks_from, magic, page_head, info_header, after_magic, after_head, after_header, after_data, page_form, info_chunk, InData, FormEnd}
-use Rattle.iff_chunks.specs.Events.{Event, Begun, Header, Data, data_events, events_of, with_data, tell}
-use Rattle.iff_chunks.specs.Told.{Awaits, IsArriving, IsThere, IsBroken, Stands, Feeds, Fits, header_told, within_magic}
+use Rattle.iff_chunks.specs.Chunks.{chunks_of, magic, page_head, info_header, after_magic, after_head, after_header, after_data, page_form, info_chunk, InData, FormEnd}
+use Rattle.iff_chunks.specs.Events.{Event, Begun, Header, data_events, events_of, with_data, tell}
+use Rattle.iff_chunks.specs.Told.{IsArriving, Stands, Feeds, Fits, Stays, header_told, within_magic}
 
 -- the FORM's head is there
 pub head_whole : (offset matched : ℕ) (piece : List ℕ) (used : ℕ) → offset ≤ 4 → used ≤ length piece → ((more : List ℕ) → start_of (drop matched page_head) (take used piece ++ more) ≡ Begins more)
@@ -21,6 +21,7 @@ head_whole offset matched piece used early within whole = record {
   sound = (omega arith, omega arith);
   within = within;
   fits = tt;
+  stays = tt;
   told = λ taken told s. (
     record {
       some = omega arith;
@@ -37,6 +38,7 @@ head_part offset matched now piece early some part = record {
   sound = (early, some);
   within = omega arith;
   fits = (refl, tt);
+  stays = tt;
   told = λ taken told s. (
     record {
       some = omega (arith, length-drop now page_head);
@@ -53,6 +55,7 @@ head_differs offset matched piece used within other = record {
   sound = tt;
   within = within;
   fits = (refl, refl, refl);
+  stays = tt;
   told = λ taken told s.
       let on : (more : List ℕ) → chunks_of ((taken ++ take used piece) ++ more) ≡ after_head (offset + 12) Differs = λ more. ap chunks_of (append_assoc taken (take used piece) more) ∙ s.0.on (take used piece ++ more) ∙ ap (after_head (offset + 12)) (other more) in
       record {
@@ -68,6 +71,7 @@ header_whole offset matched piece used early within whole = record {
   sound = (omega arith, omega arith);
   within = within;
   fits = tt;
+  stays = tt;
   told = λ taken told s. record {
     offset = offset;
     bytes = [];
@@ -100,14 +104,15 @@ fits_behind (step.Broken kind offset) place passed used size h f = f
 -- the first bytes of a piece lead from one place to another without an event, and the rest is fed there
 pub feeds_behind : (from to : Stage) (piece : List ℕ) (passed : ℕ) (fed : Fed) → passed ≤ length piece
     → ((taken : List ℕ) (told : List Event) → Stands from taken told → Stands to (taken ++ take passed piece) told)
-    → Feeds to (drop passed piece) fed → fed.step ≢ step.Data
+    → Feeds to (drop passed piece) fed → fed.step ≢ step.Data → Stays from (record { used = passed + fed.used; stage = fed.stage; step = fed.step })
     → Feeds from piece (record { used = passed + fed.used; stage = fed.stage; step = fed.step })
-feeds_behind from to piece passed fed inside lead f no_data =
+feeds_behind from to piece passed fed inside lead f no_data stays =
     let size = length-drop passed piece in
     record {
       sound = f.sound;
       within = omega (arith, f.within);
       fits = fits_behind fed.step fed.stage passed fed.used (length piece) inside (subst (λ n. Fits fed.step fed.stage fed.used n) size f.fits);
+      stays = stays;
       told = λ taken told s.
           let there = f.told (taken ++ take passed piece) told (lead taken told s) in
           let bytes = append_assoc taken (take passed piece) (take fed.used (drop passed piece)) ∙ ap (λ l. taken ++ l) (sym (take-add passed fed.used piece)) in
@@ -168,6 +173,7 @@ data_part left piece some short early = record {
   sound = (omega arith, omega arith);
   within = omega arith;
   fits = (some, inl refl);
+  stays = tt;
   told = λ taken told s.
       let whole = take-length piece in
       subst (λ p. IsArriving (taken ++ p) (with_data told p) (left - length piece)) (sym whole) (record {
@@ -196,6 +202,7 @@ data_whole left piece some enough =
       sound = tt;
       within = enough;
       fits = (some, inr refl);
+      stays = tt;
       told = λ taken told s.
           let ten : length (s.bytes ++ take left piece) ≡ 10 = omega (arith, length-append s.bytes (take left piece), size, s.count) in
           record {

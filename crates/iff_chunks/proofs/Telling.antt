@@ -1,23 +1,22 @@
 -- What follows of a walker's place for the events of the file, however it goes on.
-use Rattle.std.proofs.Common.{◌≡◌, ℕ, ◌+◌, ◌-◌, ◌<◌, ◌≤◌, Bool, true, false, cond, Some, List, [], ◌∷◌, ◌++◌, ◌⊎◌, length, take, drop, ltb, refl, sym, ap, ◌∙◌, subst, inl, inr, arith, codes, append_assoc}
+use Rattle.std.proofs.Common.{◌≡◌, ℕ, ◌+◌, ◌-◌, ◌<◌, ◌≤◌, Bool, true, false, cond, Some, List, [], ◌∷◌, ◌++◌, length, take, drop, ltb, refl, sym, ap, ◌∙◌, subst, arith, append_assoc}
 use Rattle.std.proofs.lemmas.Bool.{lt-ltb}
-use Rattle.std.proofs.lemmas.List.{append-nil, length-append, take-append-drop, take-append-le, take_all}
+use Rattle.std.proofs.lemmas.List.{append-nil, take-append-drop}
 use Rattle.std.proofs.Math.Seq.{take-append-add}
-use Rattle.djvu_base.specs.declared.faults.FaultKind.TheVariants.{Unsupported}
 use Rattle.iff_chunks.specs.declared.walker.WalkStep.{WalkStep}
 use Rattle.iff_chunks.specs.declared.walker.WalkStep.TheVariants as step
 use Rattle.iff_chunks.specs.declared.stages.Stage.{Stage}
 use Rattle.iff_chunks.specs.declared.stages.Stage.TheVariants as stage
 use Rattle.iff_chunks.specs.Start.{Start, Begins, Arriving, Differs, start_of}
-use Rattle.iff_chunks.specs.Chunks.{Chunks, Tail, chunks_of, magic, page_head, info_header, after_head, after_header, after_data, page_form, info_chunk, InData, FormEnd, Broken}
+use Rattle.iff_chunks.specs.Chunks.{Chunks, chunks_of, magic, page_head, info_header, after_head, after_header, after_data, page_form, info_chunk, InData, FormEnd, Broken}
 use Rattle.iff_chunks.specs.Events.{Event, Begun, Header, Data, ChunkEnd, data_events, events_of, GoesOn, IsOpen, Ends}
-use Rattle.iff_chunks.specs.Told.{Awaits, IsArriving, IsThere, IsBroken, Stands, Fits, IsWithin, head_told, header_told, within_magic}
+use Rattle.iff_chunks.specs.Told.{Awaits, IsThere, Stands, Fits, IsWithin, head_told, header_told, within_magic}
 
 -- the file that is whole
 whole : ℕ → List ℕ → Chunks
 whole offset bytes = record { form = Some page_form; whole = info_chunk offset bytes ∷ []; tail = FormEnd }
 
-same_goes_on : (told : List Event) → GoesOn told told
+pub same_goes_on : (told : List Event) → GoesOn told told
 same_goes_on [] = tt
 same_goes_on (Data bytes ∷ []) = ([], sym (append-nil bytes))
 same_goes_on (Data bytes ∷ event ∷ told) = (refl, same_goes_on (event ∷ told))
@@ -29,7 +28,7 @@ after_data_goes_on : (offset : ℕ) (bytes : List ℕ) (t : Bool) → GoesOn hea
 after_data_goes_on offset bytes true = (refl, tt)
 after_data_goes_on offset bytes false = (refl, tt)
 
-header_goes_on : (offset : ℕ) (start : Start) → GoesOn head_told (events_of (after_header offset start))
+pub header_goes_on : (offset : ℕ) (start : Start) → GoesOn head_told (events_of (after_header offset start))
 header_goes_on offset (Begins bytes) = after_data_goes_on offset bytes (ltb (length bytes) 10)
 header_goes_on offset Arriving = (refl, tt)
 header_goes_on offset Differs = (refl, tt)
@@ -49,7 +48,7 @@ rest_of_ten bytes more early =
     ap (λ n. take n (bytes ++ more)) nine ∙ take-append-add bytes more (9 - length bytes)
 
 -- data that arrived go on in the data of the file
-data_goes_on : (offset : ℕ) (bytes more : List ℕ) (t : Bool) → length bytes ≤ 10
+pub data_goes_on : (offset : ℕ) (bytes more : List ℕ) (t : Bool) → length bytes ≤ 10
     → GoesOn (header_told offset ++ data_events bytes) (events_of (cond t (record { form = Some page_form; whole = []; tail = InData (info_chunk offset (bytes ++ more)) }) (record { form = Some page_form; whole = info_chunk offset (take 10 (bytes ++ more)) ∷ []; tail = FormEnd })))
 data_goes_on offset [] more true early = (refl, (refl, tt))
 data_goes_on offset [] more false early = (refl, (refl, tt))
@@ -110,7 +109,7 @@ open_told taken told chunks e all more = record {
   more = subst (λ c. IsOpen c.tail) (sym e) more;
 }
 
-arriving_chunks : (offset : ℕ) (bytes : List ℕ) → length bytes < 10 → after_data offset bytes ≡ record { form = Some page_form; whole = []; tail = InData (info_chunk offset bytes) }
+pub arriving_chunks : (offset : ℕ) (bytes : List ℕ) → length bytes < 10 → after_data offset bytes ≡ record { form = Some page_form; whole = []; tail = InData (info_chunk offset bytes) }
 arriving_chunks offset bytes short = ap (λ t. cond t (record { form = Some page_form; whole = []; tail = InData (info_chunk offset bytes) }) (record { form = Some page_form; whole = info_chunk offset (take 10 bytes) ∷ []; tail = FormEnd })) (lt-ltb _ _ short)
 
 pub within_told : (place : Stage) (taken : List ℕ) (told : List Event) → IsWithin place → Stands place taken told → AllTold taken told
@@ -126,11 +125,12 @@ within_told stage.DataEnd taken told w s = absurd w
 within_told stage.Ended taken told w s = absurd w
 within_told stage.Broken taken told w s = absurd w
 
--- after the data the chunk's end comes
+-- after the data the chunk's end is the only event that is to come
+pub there_events : (taken : List ℕ) (told : List Event) (more : List ℕ) → IsThere taken told [] → events_of (chunks_of (taken ++ more)) ≡ told ++ ChunkEnd ∷ []
+there_events taken told more s = ap events_of (s.on more) ∙ whole_events s.offset s.bytes s.count ∙ ap (λ t. t ++ ChunkEnd ∷ []) (sym (s.told_so ∙ append-nil (header_told s.offset ++ data_events s.bytes)))
+
 pub there_ends : (taken : List ℕ) (told : List Event) (more : List ℕ) → Stands stage.DataEnd taken told → GoesOn (told ++ ChunkEnd ∷ []) (events_of (chunks_of (taken ++ more)))
-there_ends taken told more s =
-    let all : events_of (chunks_of (taken ++ more)) ≡ told ++ ChunkEnd ∷ [] = ap events_of (s.on more) ∙ whole_events s.offset s.bytes s.count ∙ ap (λ t. t ++ ChunkEnd ∷ []) (sym (s.told_so ∙ append-nil (header_told s.offset ++ data_events s.bytes))) in
-    subst (λ e. GoesOn (told ++ ChunkEnd ∷ []) e) (sym all) (same_goes_on (told ++ ChunkEnd ∷ []))
+there_ends taken told more s = subst (λ e. GoesOn (told ++ ChunkEnd ∷ []) e) (sym (there_events taken told more s)) (same_goes_on (told ++ ChunkEnd ∷ []))
 
 -- the file, parted behind the bytes that were used
 pub parted : (taken piece after : List ℕ) (used : ℕ) → (taken ++ take used piece) ++ (drop used piece ++ after) ≡ taken ++ (piece ++ after)

@@ -8,7 +8,7 @@ use Rattle.iff_chunks.specs.declared.stages.Stage.{Stage}
 use Rattle.iff_chunks.specs.declared.stages.Stage.TheVariants as stage
 use Rattle.iff_chunks.specs.Start.{Start, Begins, Arriving, Differs, start_of}
 use Rattle.iff_chunks.specs.Chunks.{Chunks, Broken, FormEnd, magic, page_head, info_header, info_chunk, page_form, after_data, after_header, after_head, chunks_from, chunks_of}
-use Rattle.iff_chunks.specs.Events.{Event, Begun, Header, Data, ChunkEnd, data_events, events_of, tell}
+use Rattle.iff_chunks.specs.Events.{Event, Begun, Header, ChunkEnd, data_events, events_of, tell}
 
 -- a file that began with the first byte of "AT&T" goes on so
 abbrev pub within_magic : Start → Chunks
@@ -95,9 +95,21 @@ Fits (step.Form kind length) place used size = ⊤
 Fits (step.Header id offset length) place used size = ⊤
 Fits step.ChunkEnd place used size = ⊤
 
+-- behind the FORM's end and behind a break the same is answered again, and no byte is used
+abbrev pub Stays : Stage → Fed → Type 0
+Stays stage.Start fed = ⊤
+Stays (stage.Magic matched) fed = ⊤
+Stays (stage.Head offset matched) fed = ⊤
+Stays (stage.Header offset matched) fed = ⊤
+Stays (stage.Data left) fed = ⊤
+Stays stage.DataEnd fed = ⊤
+Stays stage.Ended fed = (fed.used ≡ 0) × (fed.step ≡ step.FormEnd)
+Stays stage.Broken fed = (fed.used ≡ 0) × (fed.step ≡ step.Broken Unsupported 0)
+
 -- the piece was fed to a walker that stood at this place
 pub record Feeds (from : Stage) (piece : List ℕ) (fed : Fed) : Type 0 where
   pub sound : IsSound fed.stage
   pub within : fed.used ≤ length piece
   pub fits : Fits fed.step fed.stage fed.used (length piece)
+  pub stays : Stays from fed
   pub told : (taken : List ℕ) (told : List Event) → Stands from taken told → Stands fed.stage (taken ++ take fed.used piece) (tell told fed.step (take fed.used piece))

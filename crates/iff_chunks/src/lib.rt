@@ -5,13 +5,16 @@
 //! `INFO` of 10 bytes, and then anything. Every other file is refused as unsupported.
 //!
 //! `specs/` has the definitions: `Chunks` (what the bytes of a file are, by cases on all of them), `Events` (what a
-//! walker tells of them, and in which order) and `Told` (how a walker stands to the bytes that it took).
+//! walker tells of them, and in which order), `Told` (how a walker stands to the bytes that it took), `FirstForm` (the
+//! form of files that is walked, as what their bytes are) and `Worked` (a file, byte by byte).
 #![tactic(auto)]
 
 mod fronts;
+mod laws;
 mod stages;
 #[cfg(test)]
 mod tests;
 mod walker;
 
+pub use laws::{chunks_stay, first_form, prefixes, worked_values};
 pub use walker::{WalkStep, Walker};

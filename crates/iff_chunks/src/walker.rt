@@ -1,6 +1,7 @@
 //! The walker.
 ghost use Rattle.std.specs.Prelude.{◌≡◌, ℕ, ◌<◌, ◌≤◌, ◌++◌, ◌⊎◌, List, [], ◌∷◌, length, take};
-ghost use Rattle.iff_chunks.specs.Chunks.{chunks_of};
+ghost use Rattle.djvu_base.specs.declared.faults.FaultKind.{FaultKind};
+ghost use Rattle.iff_chunks.specs.Chunks.{chunks_of, FormEnd, Broken};
 ghost use Rattle.iff_chunks.specs.Events.{Event, ChunkEnd, events_of, tell, GoesOn, IsOpen, Ends};
 ghost use Rattle.iff_chunks.specs.Told.{Told};
 
@@ -89,6 +90,12 @@ impl Walker {
         ensures some_data { result.1 ≡ WalkStep.Data → 0 < result.0 }
         ensures all_data { (taken after : List ℕ) (told : List Event) → Told taken told self.old → result.1 ≡ WalkStep.Data →
             (result.0 ≡ length piece.now) ⊎ GoesOn (tell told result.1 (take result.0 piece.now) ++ ChunkEnd ∷ []) (events_of (chunks_of (taken ++ (piece.now ++ after)))) }
+
+        // Once every event was told, the FORM's end and a break are answered again and again, and use nothing.
+        ensures stays_ended { (taken : List ℕ) (told : List Event) → Told taken told self.old → events_of (chunks_of taken) ≡ told → (chunks_of taken).tail ≡ FormEnd →
+            result ≡ (0, WalkStep.FormEnd) }
+        ensures stays_broken { (taken : List ℕ) (told : List Event) (kind : FaultKind) (offset : ℕ) → Told taken told self.old → events_of (chunks_of taken) ≡ told → (chunks_of taken).tail ≡ Broken kind offset →
+            result ≡ (0, WalkStep.Broken kind offset) }
     {
         let fed = self.stage.feed(piece);
         self.stage = fed.stage;

@@ -1,4 +1,4 @@
-use Rattle.std.proofs.Common.{ℕ, ◌<◌, Bool, false, List, [], ◌∷◌, length, eqb, ◌≡◌, arith}
+use Rattle.std.proofs.Common.{◌<◌, length, arith}
 use Rattle.std.proofs.lemmas.Bool.Decides.{nat_tests}
 use Rattle.iff_chunks.proofs.Feeding.{data_part, data_whole}
 use Rattle.iff_chunks.proofs.stages.data.Goals as goal

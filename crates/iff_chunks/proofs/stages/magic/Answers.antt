@@ -8,4 +8,4 @@ pub returns-in-Whole-clause-feeds : goal.returns-in-Whole-clause-feeds
 returns-in-Whole-clause-feeds c =
     let rest = subst (λ piece. Feeds (stage.Head 4 0) piece c.head.result) c.rest_of.ensures c.head.ensures.feeds in
     rw c.behind.ensures (feeds_behind (stage.Magic c.args.matched) (stage.Head 4 0) c.args.piece.now c.in-Whole.used c.head.result c.in-Whole.ensures.0
-    (magic_lead c.args.matched c.args.piece.now c.in-Whole.used c.in-Whole.ensures.1) rest c.head.ensures.no_data)
+    (magic_lead c.args.matched c.args.piece.now c.in-Whole.used c.in-Whole.ensures.1) rest c.head.ensures.no_data tt)

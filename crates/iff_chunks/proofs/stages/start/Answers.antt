@@ -11,7 +11,7 @@ returns-in-Some-eq65 c =
     let first = first_byte c.args.piece.now 65 c.in-Some-eq65.field-0.now value c.in-Some-eq65.field-0-test in
     let rest = subst (λ piece. Feeds (stage.Magic 1) piece c.magic.result) c.rest_of.ensures c.magic.ensures.feeds in
     rw c.behind.ensures (feeds_behind stage.Start (stage.Magic 1) c.args.piece.now 1 c.magic.result (slice_get_within c.args.piece.now 0 _ (sym value))
-    (start_magic c.args.piece.now first) rest c.magic.ensures.no_data)
+    (start_magic c.args.piece.now first) rest c.magic.ensures.no_data tt)
 
 pub returns-in-Some-eq70 : goal.returns-in-Some-eq70
 returns-in-Some-eq70 c =
@@ -19,4 +19,4 @@ returns-in-Some-eq70 c =
     let first = first_byte c.args.piece.now 70 c.in-Some-eq70.field-0.now value c.in-Some-eq70.field-0-test in
     let rest = subst (λ piece. Feeds (stage.Head 0 1) piece c.head.result) c.rest_of-in-Some-eq70.ensures c.head.ensures.feeds in
     rw c.behind-in-Some-eq70.ensures (feeds_behind stage.Start (stage.Head 0 1) c.args.piece.now 1 c.head.result (slice_get_within c.args.piece.now 0 _ (sym value))
-    (start_head c.args.piece.now first) rest c.head.ensures.no_data)
+    (start_head c.args.piece.now first) rest c.head.ensures.no_data tt)

@@ -6,8 +6,9 @@ use Rattle.iff_chunks.specs.declared.stages.Stage.TheVariants as stage
 use Rattle.iff_chunks.specs.declared.stages.Fed.{Fed}
 use Rattle.iff_chunks.specs.Chunks.{chunks_of}
 use Rattle.iff_chunks.specs.Events.{Event, ChunkEnd, events_of, tell, GoesOn, Ends, IsOpen}
-use Rattle.iff_chunks.specs.Told.{Told, Stands, Feeds, Fits, IsWithin}
+use Rattle.iff_chunks.specs.Told.{Told, Stands, Feeds, Fits}
 use Rattle.iff_chunks.proofs.Telling.{stands_goes_on, answer_ends, within_told, there_ends, parted, AllTold}
+use Rattle.iff_chunks.proofs.Staying.{stays_ended, stays_broken}
 use Rattle.iff_chunks.proofs.walker.Walker.feed.Goals as goal
 
 -- where the walker stands after the piece
@@ -69,3 +70,18 @@ pub returns-clause-all_data : goal.returns-clause-all_data
 returns-clause-all_data c taken after told t e =
     let fits = (subst (λ a. Fits a c.feed-fed.result.stage c.feed-fed.result.used (length c.args.piece.now)) e c.feed-fed.ensures.fits).1 in
     all_told c.feed-fed.result taken c.args.piece.now after told fits (stands c.self.inside.stage c.args.self.now c.args.piece.now c.feed-fed.result taken told c.self.view_is c.feed-fed.ensures t)
+
+-- where the walker stood before the piece
+stood : (from now : Stage) (taken : List ℕ) (told : List Event) → from ≡ now → Told taken told now → Stands from taken told
+unfolding Told
+stood from now taken told view t = subst (λ p. Stands p taken told) (sym view) t
+
+pub returns-clause-stays_ended : goal.returns-clause-stays_ended
+returns-clause-stays_ended c taken told t all e =
+    let same = stays_ended c.self.inside.stage taken told c.feed-fed.result c.feed-fed.ensures.stays (stood c.self.inside.stage c.args.self.now taken told c.self.view_is t) all e in
+    ap (λ n. (n, c.feed-fed.result.step)) same.0 ∙ ap (λ s. (0, s)) same.1
+
+pub returns-clause-stays_broken : goal.returns-clause-stays_broken
+returns-clause-stays_broken c taken told kind offset t all e =
+    let same = stays_broken c.self.inside.stage taken told c.feed-fed.result kind offset c.feed-fed.ensures.stays (stood c.self.inside.stage c.args.self.now taken told c.self.view_is t) e in
+    ap (λ n. (n, c.feed-fed.result.step)) same.0 ∙ ap (λ s. (0, s)) same.1

@@ -30,7 +30,7 @@ pub fn read_arguments<R: Env>(rt: &R, alloc: Global) -> Result<Arguments, AllocE
 
 /// The argument of this number, from 0, which is the program's name. `None` behind the last.
 fn argument<R: Env>(rt: &R, alloc: Global, number: usize) -> Result<Option<Items<u8>>, AllocError> {
-    for bits in 8..48 {
+    for bits in 8..48_u32 {
         match argument_within(rt, alloc, number, 1 << bits)? {
             Fill::Found(bytes) => return Ok(Some(bytes)),
             Fill::Missing => return Ok(None),

@@ -14,10 +14,14 @@ read_more content bytes now position n count e more =
     ∙ sym (take-add n count (drop position content))
 
 -- a read of nothing is the file's end
-pub read_all : (content bytes : List ℕ) (position n limit : ℕ) → bytes ≡ take n (drop position content) → length content ≤ position + n → n ≤ limit → bytes ≡ take limit (drop position content)
+read_all : (content bytes : List ℕ) (position n limit : ℕ) → bytes ≡ take n (drop position content) → length content ≤ position + n → n ≤ limit → bytes ≡ take limit (drop position content)
 read_all content bytes position n limit e end within =
     let size = length-drop position content in
     e ∙ take_all n (drop position content) (omega (arith, size)) ∙ sym (take_all limit (drop position content) (omega (arith, size)))
+
+pub read_nothing : (content bytes now : List ℕ) (position n limit count : ℕ) → bytes ≡ take n (drop position content) → now ≡ bytes ++ take count (drop (position + n) content) → count ≡ 0 → length content ≤ position + n → n ≤ limit → now ≡ take limit (drop position content)
+read_nothing content bytes now position n limit count e more none end within =
+    more ∙ ap (λ k. bytes ++ take k (drop (position + n) content)) none ∙ append-nil bytes ∙ read_all content bytes position n limit e end within
 
 -- what follows what was put before goes on with it
 pub grows_behind : (before part text rest after : List ℕ) → GrowsWithin (before ++ part) text after → GrowsWithin before (part ++ (text ++ rest)) after

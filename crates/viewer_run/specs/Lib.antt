@@ -5,3 +5,4 @@ pub mod Lines
 pub mod Offline
 pub mod Outcome
 pub mod Status
+pub mod Worked

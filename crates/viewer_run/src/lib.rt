@@ -10,12 +10,16 @@
 
 mod command;
 mod front;
+mod laws;
 mod lines;
 mod page;
 mod put;
 mod read;
 mod stop;
+#[cfg(test)]
+mod tests;
 mod walk;
 mod whole;
 
+pub use laws::{pages, white_sums, worked_values};
 pub use whole::run;

@@ -1,7 +1,7 @@
-use Rattle.std.proofs.Common.{ℕ, ◌+◌, ◌++◌, ap, ◌∙◌, sym, subst, take, drop, vec_len, arith, Some, IsSome, refl}
-use Rattle.std.proofs.lemmas.List.{append-nil, length-take}
+use Rattle.std.proofs.Common.{ℕ, ap, ◌∙◌, sym, subst, take, drop, vec_len, arith, Some, IsSome, refl}
+use Rattle.std.proofs.lemmas.List.{length-take}
 use Rattle.djvu_outside.specs.Reading.{bytes_in, moved_on}
-use Rattle.viewer_run.proofs.Parts.{read_more, read_all, some_of, moved_twice}
+use Rattle.viewer_run.proofs.Parts.{read_more, read_nothing, some_of, moved_twice}
 use Rattle.viewer_run.proofs.read.read_open.Goals as goal
 
 pub returns-then-count-eq0-clause-told : goal.returns-then-count-eq0-clause-told
@@ -11,10 +11,9 @@ returns-then-count-eq0-clause-told g c told here files opened =
     let content = bytes_in told here.name in
     let there = inv.moved here opened in
     let still = inv.files ∙ files in
-    let more = c.in_ok-count.ensures.told told (moved_on here n) still there in
     let end = (c.in_ok-count.ensures.end told (moved_on here n) still there).0 c.if-count-eq0.true in
-    let none = ap (λ k. c.loop-bytes.bytes.items ++ take k (drop (here.position + n) content)) c.if-count-eq0.true ∙ append-nil c.loop-bytes.bytes.items in
-    more ∙ none ∙ read_all content c.loop-bytes.bytes.items here.position n c.args.limit (inv.read told here files opened) end inv.within
+    read_nothing content c.loop-bytes.bytes.items c.read_some.new.bytes.items here.position n c.args.limit c.in_ok-count.count
+    (inv.read told here files opened) (c.in_ok-count.ensures.told told (moved_on here n) still there) c.if-count-eq0.true end inv.within
 
 pub loop-bytes-preserved : goal.loop-bytes-preserved
 loop-bytes-preserved g c =

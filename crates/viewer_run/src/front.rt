@@ -1,7 +1,9 @@
 //! What stands before the pages: the words, the listing, the number of names, and whether the page is listed.
-ghost use Rattle.std.specs.Prelude.{◌≡◌, Some, IfOk};
+ghost use Rattle.std.specs.Prelude.{◌≡◌, ℕ, Some, IfOk};
 ghost use Rattle.djvu_base.specs.Library.{Files, names_of};
 ghost use Rattle.viewer_run.specs.Offline.{front_of, front_of_names, is_listed};
+ghost use Rattle.viewer_run.specs.Lines.{words_line};
+ghost use Rattle.viewer_run.specs.Words.{command_of};
 ghost use Rattle.viewer_run.specs.Outcome.{FolderStops, CanDraw};
 
 use crate::command::{Command, read_command};
@@ -33,6 +35,8 @@ pub fn find_front<F: Folder>(
     ensures can_draw { (told : Files) → F.files folder.old ≡ Some told → IfOk result (λ front. CanDraw told front) }
     ensures stops { FolderStops result (F.faults folder.old) (F.faults folder.new) }
     ensures same_files { F.files folder.new ≡ F.files folder.old }
+    ensures words_first { (number : ℕ) → command_of words.now ≡ Command.Refused number → folder.new ≡ folder.old }
+    ensures refused { (number : ℕ) → command_of words.now ≡ Command.Refused number → IfOk result (λ front. front ≡ Front.Refused (words_line number)) }
 {
     match read_command(alloc, words)? {
         Command::Refused(number) => Ok(Front::Refused(Items::of(words_line(alloc, number)?))),

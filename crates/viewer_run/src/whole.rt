@@ -6,8 +6,10 @@ ghost use Rattle.djvu_outside.specs.Reading.{GrowsWithin, HasFile, bytes_in};
 ghost use Rattle.viewer_run.specs.Picture.{page_of};
 ghost use Rattle.viewer_run.specs.Lines.{raster_text, notice_line, fault_line};
 ghost use Rattle.viewer_run.specs.Offline.{offline, texts_of_page};
+ghost use Rattle.viewer_run.specs.Words.{command_of};
 ghost use Rattle.viewer_run.specs.Outcome.{Gives, FolderEnds, SinkStops, SinksEnd, HasArea};
 
+use crate::command::Command;
 use crate::front::{Front, find_front};
 use crate::lines::{fault_line, notice_line};
 use crate::page::{Page, Size, read_page};
@@ -51,6 +53,10 @@ pub fn run<F: Folder, S: Sink, E: Sink, M: Meter>(
     ensures report_part { (told : Files) (before : List ℕ) → F.files folder.old ≡ Some told → E.given report.old ≡ Some before →
         3 < result.0 → (after : List ℕ) × (E.given report.new ≡ Some after) × GrowsWithin before (offline (library_of told) words.now).report after }
 
+    // Words that don't fit are refused, whatever the folder is, and it isn't asked for anything.
+    ensures words_first { (number : ℕ) → command_of words.now ≡ Command.Refused number → folder.new ≡ folder.old }
+    ensures refused { (number : ℕ) → command_of words.now ≡ Command.Refused number → result.0 < 3 → result.0 ≡ 2 }
+
     ensures meter { meter.new ≡ meter.old }
     ensures statuses { result.0 ≤ 5 }
     ensures same_files { F.files folder.new ≡ F.files folder.old }
@@ -77,6 +83,8 @@ fn carry_out<F: Folder, S: Sink, E: Sink>(
     ensures sinks_end { SinksEnd result (S.faults out.old) (S.faults out.new) (E.faults report.old) (E.faults report.new) }
     ensures untouched { result ≡ Err Stop.Folder → (out.new ≡ out.old) × (report.new ≡ report.old) }
     ensures same_files { F.files folder.new ≡ F.files folder.old }
+    ensures words_first { (number : ℕ) → command_of words.now ≡ Command.Refused number → folder.new ≡ folder.old }
+    ensures refused { (number : ℕ) → command_of words.now ≡ Command.Refused number → IfOk result (λ status. status.0 ≡ 2) }
 {
     match find_front(alloc, words, folder)? {
         Front::Refused(line) => refuse(line.slice(), report),

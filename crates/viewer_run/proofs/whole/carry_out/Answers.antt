@@ -38,3 +38,9 @@ returns-in-Draw-clause-status g c told files =
     let texts = drawn_texts told c.args.words.now c.in-Draw.page (sym c.in-Draw.is ∙ c.in_ok-line.ensures.told told files) in
     subst (λ (t : Texts). IfOk c.draw.result (λ status. status.0 ≡ t.status)) (sym texts)
     (c.draw.ensures.status told (c.in_ok-line.ensures.same_files ∙ files))
+
+pub returns-in-Draw-clause-words_first : goal.returns-in-Draw-clause-words_first
+returns-in-Draw-clause-words_first g c number e = let both = sym c.in-Draw.is ∙ c.in_ok-line.ensures.refused number e in cc
+
+pub returns-in-Draw-clause-refused : goal.returns-in-Draw-clause-refused
+returns-in-Draw-clause-refused g c number e = let both = sym c.in-Draw.is ∙ c.in_ok-line.ensures.refused number e in cc

@@ -78,9 +78,9 @@ impl Walker {
         ensures events { (taken after : List ℕ) (told : List Event) → Told taken told self.old →
             GoesOn (tell told result.1 (take result.0 piece.now)) (events_of (chunks_of (taken ++ (piece.now ++ after)))) }
 
-        // The FORM's end and a break are answered once every event was told, and never too early.
+        // The FORM's end and a break are answered once every event was told and the used bytes settle it, whatever follows.
         ensures ends { (taken after : List ℕ) (told : List Event) → Told taken told self.old →
-            Ends result.1 told (chunks_of (taken ++ (piece.now ++ after))) }
+            Ends result.1 told (chunks_of (taken ++ (take result.0 piece.now ++ after))) }
 
         // More bytes are asked for exactly where all were used, every event was told, and the FORM goes on.
         ensures needs { (taken : List ℕ) (told : List Event) → Told taken told self.old → result.1 ≡ WalkStep.NeedBytes →

@@ -17,7 +17,7 @@ use Rattle.viewer_run.specs.Walk.{Follows, page_told, info_told, data_told, is_p
 pub record Feeds (before after : Stage) (rest : List ℕ) (used : ℕ) (answer : WalkStep) : Type 0 where
   pub told : (taken : List ℕ) (told : List Event) → Told taken told before → Told (taken ++ take used rest) (tell told answer (take used rest)) after
   pub events : (taken more : List ℕ) (told : List Event) → Told taken told before → GoesOn (tell told answer (take used rest)) (events_of (chunks_of (taken ++ (rest ++ more))))
-  pub ends : (taken more : List ℕ) (told : List Event) → Told taken told before → Ends answer told (chunks_of (taken ++ (rest ++ more)))
+  pub ends : (taken more : List ℕ) (told : List Event) → Told taken told before → Ends answer told (chunks_of (taken ++ (take used rest ++ more)))
   pub needs : (taken : List ℕ) (told : List Event) → Told taken told before → answer ≡ step.NeedBytes → (used ≡ length rest) × (events_of (chunks_of (taken ++ rest)) ≡ told) × IsOpen (chunks_of (taken ++ rest)).tail
   pub some_data : answer ≡ step.Data → 0 < used
   pub all_data : (taken more : List ℕ) (told : List Event) → Told taken told before → answer ≡ step.Data → (used ≡ length rest) ⊎ GoesOn (tell told answer (take used rest) ++ ChunkEnd ∷ []) (events_of (chunks_of (taken ++ (rest ++ more))))
@@ -34,7 +34,7 @@ answers file rest told before after used answer f g =
     let whole : f.taken ++ (rest ++ []) ≡ file = ap (λ r. f.taken ++ r) (append-nil rest) ∙ sym f.parts in
     record {
       events = subst (λ b. GoesOn (tell told answer (take used rest)) (events_of (chunks_of b))) whole (g.events f.taken [] told f.so_far);
-      ends = subst (λ b. Ends answer told (chunks_of b)) whole (g.ends f.taken [] told f.so_far);
+      ends = subst (λ b. Ends answer told (chunks_of b)) (ap (λ r. f.taken ++ r) (take-append-drop used rest) ∙ sym f.parts) (g.ends f.taken (drop used rest) told f.so_far);
       needs = λ e. subst (λ b. IsOpen (chunks_of b).tail) (sym f.parts) (g.needs f.taken told f.so_far e).2;
     }
 

@@ -13,7 +13,7 @@ use Rattle.viewer_run.specs.declared.front.Front.TheVariants as front
 -- all of the text was put, or, where the part stopped, a front of it
 abbrev pub Delivers : {T : Type 0} → Result T Stop → List ℕ → List ℕ → List ℕ → Type 0
 Delivers (Ok value) before text after = after ≡ before ++ text
-Delivers (Err stop) before text after = GrowsWithin before text after
+Delivers (Err fault) before text after = GrowsWithin before text after
 
 -- of a part that reads alone: it stops for the folder exactly where the folder failed
 abbrev pub FolderStops : {T : Type 0} → Result T Stop → ℕ → ℕ → Type 0
@@ -45,12 +45,17 @@ FolderEnds (Err stop.Folder) before after = Rises before after
 FolderEnds (Err stop.Sink) before after = after ≡ before
 FolderEnds (Err stop.Memory) before after = after ≡ before
 
--- a sink's count rose exactly where it stopped for a sink; first the counts of the one sink, and then those of the other
+-- one sink's count rose, and the other's didn't; first the counts of the one sink, and then those of the other
+abbrev pub OneRises : ℕ → ℕ → ℕ → ℕ → Type 0
+OneRises before after other_before other_after =
+  (Rises before after × (other_after ≡ other_before)) ⊎ ((after ≡ before) × Rises other_before other_after)
+
+-- a sink's count rose exactly where it stopped for a sink
 abbrev pub SinksEnd : {T : Type 0} → Result T Stop → ℕ → ℕ → ℕ → ℕ → Type 0
-SinksEnd (Ok value) a b x y = (b ≡ a) × (y ≡ x)
-SinksEnd (Err stop.Folder) a b x y = (b ≡ a) × (y ≡ x)
-SinksEnd (Err stop.Sink) a b x y = Rises a b ⊎ Rises x y
-SinksEnd (Err stop.Memory) a b x y = (b ≡ a) × (y ≡ x)
+SinksEnd (Ok value) before after other_before other_after = (after ≡ before) × (other_after ≡ other_before)
+SinksEnd (Err stop.Folder) before after other_before other_after = (after ≡ before) × (other_after ≡ other_before)
+SinksEnd (Err stop.Sink) before after other_before other_after = OneRises before after other_before other_after
+SinksEnd (Err stop.Memory) before after other_before other_after = (after ≡ before) × (other_after ≡ other_before)
 
 -- a page that is drawn has rows and columns
 abbrev pub HasArea : Page → Type 0

@@ -7,7 +7,7 @@ ghost use Rattle.viewer_run.specs.Picture.{page_of};
 ghost use Rattle.viewer_run.specs.Lines.{raster_text, notice_line, fault_line};
 ghost use Rattle.viewer_run.specs.Offline.{offline, texts_of_page};
 ghost use Rattle.viewer_run.specs.Words.{command_of};
-ghost use Rattle.viewer_run.specs.Outcome.{Gives, FolderEnds, SinkStops, SinksEnd, HasArea};
+ghost use Rattle.viewer_run.specs.Outcome.{OneRises, Gives, FolderEnds, SinkStops, SinksEnd, HasArea};
 
 use crate::command::Command;
 use crate::front::{Front, find_front};
@@ -46,12 +46,16 @@ pub fn run<F: Folder, S: Sink, E: Sink, M: Meter>(
     ensures untouched { result.0 ≡ 3 → (out.new ≡ out.old) × (report.new ≡ report.old) }
 
     // 4 comes where a sink failed. With 4 and 5 both grew by fronts of what the definition says.
-    ensures sink_failed { result.0 ≡ 4 → Rises (S.faults out.old) (S.faults out.new) ⊎ Rises (E.faults report.old) (E.faults report.new) }
+    ensures sink_failed { result.0 ≡ 4 → OneRises (S.faults out.old) (S.faults out.new) (E.faults report.old) (E.faults report.new) }
     ensures sinks_kept { result.0 < 4 → (S.faults out.new ≡ S.faults out.old) × (E.faults report.new ≡ E.faults report.old) }
     ensures out_part { (told : Files) (before : List ℕ) → F.files folder.old ≡ Some told → S.given out.old ≡ Some before →
         3 < result.0 → (after : List ℕ) × (S.given out.new ≡ Some after) × GrowsWithin before (offline (library_of told) words.now).out after }
     ensures report_part { (told : Files) (before : List ℕ) → F.files folder.old ≡ Some told → E.given report.old ≡ Some before →
         3 < result.0 → (after : List ℕ) × (E.given report.new ≡ Some after) × GrowsWithin before (offline (library_of told) words.now).report after }
+
+    // With 4 only a sink failed, and with 5 nothing did.
+    ensures sink_alone { result.0 ≡ 4 → F.faults folder.new ≡ F.faults folder.old }
+    ensures memory_alone { result.0 ≡ 5 → (F.faults folder.new ≡ F.faults folder.old) × (S.faults out.new ≡ S.faults out.old) × (E.faults report.new ≡ E.faults report.old) }
 
     // Words that don't fit are refused, whatever the folder is, and it isn't asked for anything.
     ensures words_first { (number : ℕ) → command_of words.now ≡ Command.Refused number → folder.new ≡ folder.old }

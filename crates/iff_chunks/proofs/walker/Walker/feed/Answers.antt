@@ -1,4 +1,4 @@
-use Rattle.std.proofs.Common.{◌≡◌, ℕ, List, [], ◌∷◌, ◌++◌, ◌⊎◌, length, take, drop, sym, ap, ◌∙◌, subst, inl, inr}
+use Rattle.std.proofs.Common.{append_assoc, ◌≡◌, ℕ, List, [], ◌∷◌, ◌++◌, ◌⊎◌, length, take, drop, sym, ap, ◌∙◌, subst, inl, inr}
 use Rattle.std.proofs.Math.Seq.{take-length}
 use Rattle.iff_chunks.specs.declared.walker.WalkStep.TheVariants as step
 use Rattle.iff_chunks.specs.declared.stages.Stage.{Stage}
@@ -42,7 +42,7 @@ returns-clause-ends c taken after told t =
     let fed = c.feed-fed.result in
     let piece = c.args.piece.now in
     let there = stands c.self.inside.stage c.args.self.now piece fed taken told c.self.view_is c.feed-fed.ensures t in
-    subst (λ bytes. Ends fed.step told (chunks_of bytes)) (parted taken piece after fed.used) (ends_after fed.step fed.stage fed.used (length piece) _ _ told (drop fed.used piece ++ after) c.feed-fed.ensures.fits there)
+    subst (λ bytes. Ends fed.step told (chunks_of bytes)) (append_assoc taken (take fed.used piece) after) (ends_after fed.step fed.stage fed.used (length piece) _ _ told after c.feed-fed.ensures.fits there)
 
 needs_all : (fed : Fed) (taken piece : List ℕ) (told : List Event) → fed.step ≡ step.NeedBytes → Fits fed.step fed.stage fed.used (length piece) → Stands fed.stage (taken ++ take fed.used piece) (tell told fed.step (take fed.used piece)) → (fed.used ≡ length piece) × (events_of (chunks_of (taken ++ piece)) ≡ told) × IsOpen (chunks_of (taken ++ piece)).tail
 needs_all fed taken piece told e f s =

@@ -6,3 +6,4 @@ pub mod Offline
 pub mod Outcome
 pub mod Status
 pub mod Worked
+pub mod Causes

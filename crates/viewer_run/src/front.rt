@@ -4,6 +4,7 @@ ghost use Rattle.djvu_base.specs.Library.{Files, names_of};
 ghost use Rattle.viewer_run.specs.Offline.{front_of, front_of_names, is_listed};
 ghost use Rattle.viewer_run.specs.Lines.{words_line};
 ghost use Rattle.viewer_run.specs.Words.{command_of};
+ghost use Rattle.viewer_run.specs.Causes.{Meets, IsListing, IsOfRun};
 ghost use Rattle.viewer_run.specs.Outcome.{FolderStops, CanDraw};
 
 use crate::command::{Command, read_command};
@@ -32,6 +33,7 @@ pub fn find_front<F: Folder>(
     folder: &mut F,
 ) -> Result<Front, Stop>
     ensures told { (told : Files) → F.files folder.old ≡ Some told → IfOk result (λ front. front ≡ front_of (names_of told) words.now) }
+    ensures failure { (told : Files) → F.files folder.old ≡ Some told → Meets result (IsOfRun (names_of told) words.now) (F.failures folder.old) (F.failures folder.new) }
     ensures can_draw { (told : Files) → F.files folder.old ≡ Some told → IfOk result (λ front. CanDraw told front) }
     ensures stops { FolderStops result (F.faults folder.old) (F.faults folder.new) }
     ensures same_files { F.files folder.new ≡ F.files folder.old }
@@ -47,6 +49,7 @@ pub fn find_front<F: Folder>(
 /// What a run that is to draw this page does over this folder.
 fn listed_front<F: Folder>(alloc: Global, page: Name, folder: &mut F) -> Result<Front, Stop>
     ensures told { (told : Files) → F.files folder.old ≡ Some told → IfOk result (λ front. front ≡ front_of_names (names_of told) page) }
+    ensures failure { (told : Files) → F.files folder.old ≡ Some told → Meets result IsListing (F.failures folder.old) (F.failures folder.new) }
     ensures can_draw { (told : Files) → F.files folder.old ≡ Some told → IfOk result (λ front. CanDraw told front) }
     ensures stops { FolderStops result (F.faults folder.old) (F.faults folder.new) }
     ensures same_files { F.files folder.new ≡ F.files folder.old }

@@ -2,11 +2,12 @@
 ghost use Rattle.std.specs.Prelude.{◌≡◌, ◌+◌, ◌<◌, ◌≤◌, ◌++◌, ◌↔◌, Some, IfOk, IsSome, length, take, drop, vec_len};
 ghost use Rattle.djvu_base.specs.Library.{Files, file_limit};
 ghost use Rattle.djvu_outside.specs.Reading.{Opened, HasFile, bytes_in, moved_on};
+ghost use Rattle.viewer_run.specs.Causes.{Meets, IsReadingOf};
 ghost use Rattle.viewer_run.specs.Outcome.{FolderStops};
 
 use crate::stop::Stop;
 use djvu_base::Name;
-use djvu_outside::{Folder, FolderFault};
+use djvu_outside::{Failed, Folder, FolderFault};
 use std::alloc::{AllocError, Global};
 
 /// How many bytes are asked for at once.
@@ -23,6 +24,7 @@ fn file_limit() -> usize
 pub fn read_file<F: Folder>(alloc: Global, folder: &mut F, name: &Name) -> Result<Vec<u8>, Stop>
     requires { (told : Files) → F.files folder.old ≡ Some told → HasFile told name.now }
     ensures told { (told : Files) → F.files folder.old ≡ Some told → IfOk result (λ bytes. bytes.items ≡ take file_limit (bytes_in told name.now)) }
+    ensures failure { (told : Files) → F.files folder.old ≡ Some told → Meets result (IsReadingOf name.now) (F.failures folder.old) (F.failures folder.new) }
     ensures stops { FolderStops result (F.faults folder.old) (F.faults folder.new) }
     ensures same_files { F.files folder.new ≡ F.files folder.old }
 {
@@ -38,6 +40,8 @@ fn read_open<F: Folder>(alloc: Global, folder: &mut F, limit: usize) -> Result<V
     requires { IsSome (F.opened folder.old) }
     ensures told { (told : Files) (here : Opened) → F.files folder.old ≡ Some told → F.opened folder.old ≡ Some here →
         IfOk result (λ bytes. bytes.items ≡ take limit (drop here.position (bytes_in told here.name))) }
+    ensures failure { (told : Files) (here : Opened) → F.files folder.old ≡ Some told → F.opened folder.old ≡ Some here →
+        Meets result (IsReadingOf here.name) (F.failures folder.old) (F.failures folder.new) }
     ensures stops { FolderStops result (F.faults folder.old) (F.faults folder.new) }
     ensures same_files { F.files folder.new ≡ F.files folder.old }
 {
@@ -70,12 +74,15 @@ fn read_some<F: Folder>(folder: &mut F, bytes: &mut Vec<u8>, part: &mut [u8]) ->
         IfOk result (λ count. bytes.new.items ≡ bytes.old.items ++ take count (drop here.position (bytes_in told here.name))) }
     ensures end { (told : Files) (here : Opened) → F.files folder.old ≡ Some told → F.opened folder.old ≡ Some here →
         IfOk result (λ count. (count ≡ 0) ↔ (length (bytes_in told here.name) ≤ here.position)) }
+    ensures failure { (told : Files) (here : Opened) → F.files folder.old ≡ Some told → F.opened folder.old ≡ Some here →
+        Meets result (IsReadingOf here.name) (F.failures folder.old) (F.failures folder.new) }
     ensures moved { (here : Opened) → F.opened folder.old ≡ Some here → IfOk result (λ count. F.opened folder.new ≡ Some (moved_on here count)) }
     ensures stops { FolderStops result (F.faults folder.old) (F.faults folder.new) }
     ensures same_files { F.files folder.new ≡ F.files folder.old }
 {
-    let Ok(count) = folder.read(part) else {
-        return Err(Stop::Folder);
+    let count = match folder.read(part) {
+        Ok(count) => count,
+        Err(Failed) => return Err(Stop::Folder),
     };
     bytes.extend_from_slice(&part[..count])?;
     Ok(count)

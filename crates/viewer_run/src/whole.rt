@@ -1,12 +1,13 @@
 //! A whole run.
-ghost use Rattle.std.specs.Prelude.{◌≡◌, ℕ, ◌<◌, ◌≤◌, ◌++◌, ◌⊎◌, ◌≢◌, List, Some, IfOk, take};
-ghost use Rattle.djvu_base.specs.Library.{Files, library_of, file_limit};
-ghost use Rattle.djvu_outside.specs.Faults.{Rises};
+ghost use Rattle.std.specs.Prelude.{◌≡◌, ℕ, ◌<◌, ◌≤◌, ◌++◌, ◌⊎◌, ◌≢◌, List, [], ◌∷◌, Some, IfOk, take};
+ghost use Rattle.djvu_base.specs.Library.{Files, names_of, library_of, file_limit};
+ghost use Rattle.djvu_outside.specs.Faults.{Failure, Rises};
 ghost use Rattle.djvu_outside.specs.Reading.{GrowsWithin, HasFile, bytes_in};
 ghost use Rattle.viewer_run.specs.Picture.{page_of};
 ghost use Rattle.viewer_run.specs.Lines.{raster_text, notice_line, fault_line};
 ghost use Rattle.viewer_run.specs.Offline.{offline, texts_of_page};
 ghost use Rattle.viewer_run.specs.Words.{command_of};
+ghost use Rattle.viewer_run.specs.Causes.{Meets, IsReadingOf, IsOfRun};
 ghost use Rattle.viewer_run.specs.Outcome.{OneRises, Gives, FolderEnds, SinkStops, SinksEnd, HasArea};
 
 use crate::command::Command;
@@ -40,8 +41,11 @@ pub fn run<F: Folder, S: Sink, E: Sink, M: Meter>(
         result.0 < 3 → E.given report.new ≡ Some (before ++ (offline (library_of told) words.now).report) }
     ensures status { (told : Files) → F.files folder.old ≡ Some told → result.0 < 3 → result.0 ≡ (offline (library_of told) words.now).status }
 
-    // 3 comes where the folder failed, and then neither sink was touched.
+    // 3 comes where the folder failed: at its listing or at the page. Then neither sink was touched.
     ensures folder_failed { result.0 ≡ 3 → Rises (F.faults folder.old) (F.faults folder.new) }
+    ensures failure { (told : Files) → F.files folder.old ≡ Some told → result.0 ≡ 3 →
+        (entry : Failure) × (F.failures folder.new ≡ F.failures folder.old ++ entry ∷ []) × IsOfRun (names_of told) words.now entry }
+    ensures failures_kept { (told : Files) → F.files folder.old ≡ Some told → result.0 < 3 → F.failures folder.new ≡ F.failures folder.old }
     ensures folder_kept { result.0 < 3 → F.faults folder.new ≡ F.faults folder.old }
     ensures untouched { result.0 ≡ 3 → (out.new ≡ out.old) × (report.new ≡ report.old) }
 
@@ -81,6 +85,7 @@ fn carry_out<F: Folder, S: Sink, E: Sink>(
 ) -> Result<Status, Stop>
     ensures out_text { (told : Files) → F.files folder.old ≡ Some told → Gives result (S.given out.old) (S.given out.new) (offline (library_of told) words.now).out }
     ensures report_text { (told : Files) → F.files folder.old ≡ Some told → Gives result (E.given report.old) (E.given report.new) (offline (library_of told) words.now).report }
+    ensures failure { (told : Files) → F.files folder.old ≡ Some told → Meets result (IsOfRun (names_of told) words.now) (F.failures folder.old) (F.failures folder.new) }
     ensures status { (told : Files) → F.files folder.old ≡ Some told → IfOk result (λ status. status.0 ≡ (offline (library_of told) words.now).status) }
     ensures early { IfOk result (λ status. status.0 < 3) }
     ensures folder_ends { FolderEnds result (F.faults folder.old) (F.faults folder.new) }
@@ -117,6 +122,7 @@ fn draw<F: Folder, S: Sink, E: Sink>(
     requires { (told : Files) → F.files folder.old ≡ Some told → HasFile told page.now }
     ensures out_text { (told : Files) → F.files folder.old ≡ Some told → Gives result (S.given out.old) (S.given out.new) (texts_of_page page.now (page_of (take file_limit (bytes_in told page.now)))).out }
     ensures report_text { (told : Files) → F.files folder.old ≡ Some told → Gives result (E.given report.old) (E.given report.new) (texts_of_page page.now (page_of (take file_limit (bytes_in told page.now)))).report }
+    ensures failure { (told : Files) → F.files folder.old ≡ Some told → Meets result (IsReadingOf page.now) (F.failures folder.old) (F.failures folder.new) }
     ensures status { (told : Files) → F.files folder.old ≡ Some told → IfOk result (λ status. status.0 ≡ (texts_of_page page.now (page_of (take file_limit (bytes_in told page.now)))).status) }
     ensures early { IfOk result (λ status. status.0 < 3) }
     ensures folder_ends { FolderEnds result (F.faults folder.old) (F.faults folder.new) }

@@ -30,6 +30,7 @@ loop-bytes-preserved g c =
           let content = bytes_in told here.name in
           let now = read_more content c.loop-bytes.bytes.items c.read_some.new.bytes.items here.position n count (inv.read told here files opened) (c.in_ok-count.ensures.told told (moved_on here n) (inv.files ∙ files) (inv.moved here opened)) in
           now ∙ ap (λ k. take k (drop here.position content)) (sym counted);
+      failures = λ told here files opened. c.in_ok-count.ensures.failure told (moved_on here n) (inv.files ∙ files) (inv.moved here opened) ∙ inv.failures told here files opened;
       files = c.in_ok-count.ensures.same_files ∙ inv.files;
       faults = c.in_ok-count.ensures.stops ∙ inv.faults;
     }

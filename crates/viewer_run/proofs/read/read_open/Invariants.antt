@@ -11,6 +11,7 @@ invariant-loop-bytes g l = record {
   is_open : IsSome (g.F.Folder.opened l.folder);
   moved : (here : Opened) → g.F.Folder.opened l.fn.folder ≡ Some here → g.F.Folder.opened l.folder ≡ Some (moved_on here (vec_len l.bytes));
   read : (told : Files) (here : Opened) → g.F.Folder.files l.fn.folder ≡ Some told → g.F.Folder.opened l.fn.folder ≡ Some here → l.bytes.items ≡ take (vec_len l.bytes) (drop here.position (bytes_in told here.name));
+  failures : (told : Files) (here : Opened) → g.F.Folder.files l.fn.folder ≡ Some told → g.F.Folder.opened l.fn.folder ≡ Some here → g.F.Folder.failures l.folder ≡ g.F.Folder.failures l.fn.folder;
   files : g.F.Folder.files l.folder ≡ g.F.Folder.files l.fn.folder;
   faults : g.F.Folder.faults l.folder ≡ g.F.Folder.faults l.fn.folder;
 }

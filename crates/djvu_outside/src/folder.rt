@@ -11,10 +11,10 @@ use std::alloc::Global;
 
 /// A folder of files, of which one at a time is open.
 pub trait Folder {
-    /// The files with their bytes, in ascending order of their names. Some folders tell them, and no call changes them.
+    /// The files with their bytes. Some folders tell them, and no call changes them.
     ghost files: { Self → Option Files };
 
-    /// How many calls failed. It never falls, and stands still at `u64::MAX`.
+    /// How many calls failed. It never falls.
     ghost faults: { Self → ℕ };
 
     /// What failed, in order. It is told where the files are.

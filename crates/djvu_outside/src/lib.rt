@@ -1,4 +1,8 @@
 //! What lies outside of the program: folders of files, which are read, and sinks, which bytes are put into.
+//!
+//! `specs/` has the definitions: `Faults` (counts of faults, and what failed), `Reading` (open files, reads and puts),
+//! `Calls` (numbered calls, of which some fail), `Folders` and `Sinks` (the folder and the sink in memory, and the state
+//! of the real ones) and `Readers` (open files of the file system).
 #![tactic(auto)]
 
 mod calls;

@@ -10,7 +10,7 @@ pub trait Sink {
     /// All bytes that were taken. Some sinks tell them.
     ghost given: { Self → Option (List ℕ) };
 
-    /// How many calls failed. It never falls, and stands still at `u64::MAX`.
+    /// How many calls failed. It never falls.
     ghost faults: { Self → ℕ };
 
     /// Takes the piece. A call that failed may have taken a front of it, and one without memory took nothing.

@@ -8,7 +8,7 @@ use Rattle.std.proofs.lemmas.Option.{cond_some}
 use Rattle.std.proofs.lemmas.Slice.Eq.{bytes_eq-Decides}
 use Rattle.iff_chunks.specs.Chunks.{Form, Chunk, Chunks, Tail, InHead, InHeader, InData, FormEnd, Broken, chunks_of}
 use Rattle.iff_chunks.specs.Events.{Event, Begun, Header, Data, ChunkEnd, data_events, form_events, chunk_events, tail_events, events_of, GoesOn}
-use Rattle.viewer_run.specs.Picture.{is_page_form, is_form_end, only_info, info_of}
+use Rattle.viewer_run.specs.Page.{is_page_form, is_form_end, only_info, info_of}
 use Rattle.viewer_run.specs.Walk.{Follows, Lacks, page_told, info_told, data_told}
 
 -- the events of such a page, whose INFO has these data

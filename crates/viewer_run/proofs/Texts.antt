@@ -6,7 +6,7 @@ use Rattle.djvu_base.specs.Library.{File, Files, Whole, names_of, contents_of, f
 use Rattle.djvu_outside.specs.Reading.{bytes_in}
 use Rattle.viewer_run.specs.declared.front.Front.{Front}
 use Rattle.viewer_run.specs.declared.front.Front.TheVariants as front
-use Rattle.viewer_run.specs.Picture.{page_of}
+use Rattle.viewer_run.specs.Page.{page_of}
 use Rattle.viewer_run.specs.Offline.{front_of, offline, texts_of_front, texts_of_page, bytes_of_file}
 
 names_of_library : (limit : ℕ) (files : Files) → map (λ (file : File). file.name) (library_within limit files) ≡ names_of files

@@ -1,6 +1,6 @@
 pub mod Words
 pub mod Walk
-pub mod Picture
+pub mod Page
 pub mod Lines
 pub mod Offline
 pub mod Outcome

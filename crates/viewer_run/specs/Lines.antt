@@ -3,7 +3,7 @@ use Rattle.std.specs.Prelude.{ℕ, ◌*◌, ◌++◌, List, [], ◌∷◌, codes
 use Rattle.djvu_base.specs.declared.faults.FaultKind.{FaultKind}
 use Rattle.djvu_base.specs.FaultKind.{word_of}
 use Rattle.viewer_run.specs.declared.page.Size.{Size}
-use Rattle.viewer_run.specs.Picture.{white_samples}
+use Rattle.viewer_run.specs.Page.{white_samples}
 
 abbrev pub newline : List ℕ
 newline = 10 ∷ []

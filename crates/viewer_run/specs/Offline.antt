@@ -9,7 +9,7 @@ use Rattle.viewer_run.specs.declared.front.Front.TheVariants as front
 use Rattle.viewer_run.specs.declared.page.Page.{Page}
 use Rattle.viewer_run.specs.declared.page.Page.TheVariants as page
 use Rattle.viewer_run.specs.Words.{command_of}
-use Rattle.viewer_run.specs.Picture.{page_of}
+use Rattle.viewer_run.specs.Page.{page_of}
 use Rattle.viewer_run.specs.Lines.{raster_text, notice_line, fault_line, words_line, folder_line}
 
 -- the most names that a folder may have

@@ -48,7 +48,7 @@ FolderEnds (Err stop.Memory) before after = after ≡ before
 -- one sink's count rose, and the other's didn't; first the counts of the one sink, and then those of the other
 abbrev pub OneRises : ℕ → ℕ → ℕ → ℕ → Type 0
 OneRises before after other_before other_after =
-  (Rises before after × (other_after ≡ other_before)) ⊎ ((after ≡ before) × Rises other_before other_after)
+    (Rises before after × (other_after ≡ other_before)) ⊎ ((after ≡ before) × Rises other_before other_after)
 
 -- a sink's count rose exactly where it stopped for a sink
 abbrev pub SinksEnd : {T : Type 0} → Result T Stop → ℕ → ℕ → ℕ → ℕ → Type 0

@@ -3,9 +3,9 @@
 //! So far `draw PAGE` draws one page that has an `INFO` of 10 bytes and nothing else: a white raster. `run` is the
 //! call; its contract says which bytes both sinks get, and which status comes when.
 //!
-//! `specs/` has the definitions: `Words` (what words say), `Picture` (which page bytes are), `Walk` (a walk over a
-//! page), `Lines` (what is written, as bytes), `Offline` (all of a run, where nothing outside fails), `Outcome` and
-//! `Status` (how a run stops).
+//! `specs/` has the definitions: `Words` (what words say), `Page` (which page bytes are), `Walk` (a walk over a
+//! page), `Lines` (what is written, as bytes), `Offline` (all of a run, where nothing outside fails), `Outcome`,
+//! `Status` and `Causes` (how a run stops, and why), and `Worked` (a file, byte by byte).
 #![tactic(auto)]
 
 mod command;
@@ -15,11 +15,12 @@ mod lines;
 mod page;
 mod put;
 mod read;
+mod slices;
 mod stop;
 #[cfg(test)]
 mod tests;
 mod walk;
 mod whole;
 
-pub use laws::{pages, white_sums, worked_values};
+pub use laws::{pages, white_sums, worked_values, worked_words};
 pub use whole::run;

@@ -13,7 +13,7 @@ pub fn raster_head(alloc: Global, size: Size) -> Result<Vec<u8>, AllocError>
     let width = size.width;
     let height = size.height;
     let head = format!(in alloc; "P6\n{width} {height}\n255\n")?;
-    Vec::from_slice(alloc, head.as_bytes())
+    Ok(head.into_bytes())
 }
 
 /// The line of a drawing: after how many chunks, and the sum of its samples.
@@ -52,7 +52,7 @@ pub fn words_line(alloc: Global, number: usize) -> Result<Vec<u8>, AllocError>
     ensures { IfOk result (λ line. line.items ≡ words_line number) }
 {
     let line = format!(in alloc; "words {number}\n")?;
-    Vec::from_slice(alloc, line.as_bytes())
+    Ok(line.into_bytes())
 }
 
 /// The line of a run that is refused for its folder.
@@ -60,5 +60,5 @@ pub fn folder_line(alloc: Global, count: usize) -> Result<Vec<u8>, AllocError>
     ensures { IfOk result (λ line. line.items ≡ folder_line count) }
 {
     let line = format!(in alloc; "folder {count}\n")?;
-    Vec::from_slice(alloc, line.as_bytes())
+    Ok(line.into_bytes())
 }

@@ -1,7 +1,7 @@
 //! Pages.
 ghost use Rattle.std.specs.Prelude.{◌≡◌, ◌<◌, ◌≤◌, true, length};
 ghost use Rattle.viewer_run.specs.Outcome.{HasArea};
-ghost use Rattle.viewer_run.specs.Picture.{page_of, size_in, is_drawable, drawn};
+ghost use Rattle.viewer_run.specs.Page.{page_of, size_in, is_drawable, drawn};
 
 use crate::walk::info;
 use byteorder::{BigEndian, ByteOrder};

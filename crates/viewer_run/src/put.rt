@@ -5,6 +5,7 @@ ghost use Rattle.viewer_run.specs.Outcome.{SinkStops, Delivers};
 
 use crate::lines::raster_head;
 use crate::page::Size;
+use crate::slices::first;
 use crate::stop::Stop;
 use djvu_outside::{Sink, SinkFault};
 use std::alloc::{AllocError, Global};
@@ -63,12 +64,4 @@ fn white(alloc: Global, count: usize) -> Result<Vec<u8>, AllocError>
     ensures { IfOk result (λ samples. samples.items ≡ replicate count 255) }
 {
     vec![in alloc; 255u8; count]
-}
-
-/// The first bytes.
-fn first(bytes: &[u8], count: usize) -> &[u8]
-    requires { count ≤ length bytes.now }
-    ensures { result.now ≡ take count bytes.now }
-{
-    &bytes[..count]
 }

@@ -2,9 +2,10 @@
 ghost use Rattle.std.specs.Prelude.{◌≡◌, ℕ, ◌≤◌, ◌↔◌, IsTrue, List, [], length, take, drop, true, false, IsNone, IfSome, MatchOption, Some, None};
 ghost use Rattle.iff_chunks.specs.Chunks.{chunks_of, FormEnd};
 ghost use Rattle.iff_chunks.specs.Events.{events_of};
-ghost use Rattle.viewer_run.specs.Picture.{info_of};
+ghost use Rattle.viewer_run.specs.Page.{info_of};
 ghost use Rattle.viewer_run.specs.Walk.{Follows, Lacks, page_told, info_told, data_told, is_page_begun, is_info_header};
 
+use crate::slices::{behind, first};
 use iff_chunks::{WalkStep, Walker};
 
 /// The data of the `INFO`, where the file is a page that has it alone.
@@ -103,42 +104,17 @@ fn is_info_header(step: WalkStep) -> bool
 fn is_data(step: WalkStep) -> bool
     ensures { IsTrue result ↔ (step ≡ WalkStep.Data) }
 {
-    match step {
-        WalkStep::Data => true,
-        _ => false,
-    }
+    matches!(step, WalkStep::Data)
 }
 
 fn is_chunk_end(step: WalkStep) -> bool
     ensures { IsTrue result ↔ (step ≡ WalkStep.ChunkEnd) }
 {
-    match step {
-        WalkStep::ChunkEnd => true,
-        _ => false,
-    }
+    matches!(step, WalkStep::ChunkEnd)
 }
 
 fn is_form_end(step: WalkStep) -> bool
     ensures { IsTrue result ↔ (step ≡ WalkStep.FormEnd) }
 {
-    match step {
-        WalkStep::FormEnd => true,
-        _ => false,
-    }
-}
-
-/// The first bytes.
-fn first(bytes: &[u8], count: usize) -> &[u8]
-    requires { count ≤ length bytes.now }
-    ensures { result.now ≡ take count bytes.now }
-{
-    &bytes[..count]
-}
-
-/// The bytes behind the first ones.
-fn behind(bytes: &[u8], count: usize) -> &[u8]
-    requires { count ≤ length bytes.now }
-    ensures { result.now ≡ drop count bytes.now }
-{
-    &bytes[count..]
+    matches!(step, WalkStep::FormEnd)
 }

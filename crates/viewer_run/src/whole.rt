@@ -3,7 +3,7 @@ ghost use Rattle.std.specs.Prelude.{◌≡◌, ℕ, ◌<◌, ◌≤◌, ◌++◌
 ghost use Rattle.djvu_base.specs.Library.{Files, names_of, library_of, file_limit};
 ghost use Rattle.djvu_outside.specs.Faults.{Failure, Rises};
 ghost use Rattle.djvu_outside.specs.Reading.{GrowsWithin, HasFile, bytes_in};
-ghost use Rattle.viewer_run.specs.Picture.{page_of};
+ghost use Rattle.viewer_run.specs.Page.{page_of};
 ghost use Rattle.viewer_run.specs.Lines.{raster_text, notice_line, fault_line};
 ghost use Rattle.viewer_run.specs.Offline.{offline, texts_of_page};
 ghost use Rattle.viewer_run.specs.Words.{command_of};

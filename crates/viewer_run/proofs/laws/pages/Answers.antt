@@ -1,6 +1,6 @@
 use Rattle.std.proofs.Common.{◌∷◌, ap}
 use Rattle.iff_chunks.specs.Chunks.{chunks_of}
-use Rattle.viewer_run.specs.Picture.{page_with}
+use Rattle.viewer_run.specs.Page.{page_with}
 use Rattle.viewer_run.proofs.Infos.{no_info_of}
 use Rattle.viewer_run.proofs.laws.pages.Goals as goal
 

@@ -1,7 +1,7 @@
 //! Putting texts and rasters into sinks.
 ghost use Rattle.std.specs.Prelude.{◌≡◌, ℕ, ◌*◌, ◌<◌, ◌≤◌, List, IfOk, Some, length, take, replicate};
 ghost use Rattle.viewer_run.specs.Lines.{raster_text};
-ghost use Rattle.viewer_run.specs.Outcome.{SinkStops, Delivers};
+ghost use Rattle.viewer_run.specs.Outcome.{SinkStops, Gives};
 
 use crate::lines::raster_head;
 use crate::page::Size;
@@ -15,7 +15,7 @@ const BLOCK: u32 = 65_536;
 
 /// Puts a text, at once.
 pub fn put_text<S: Sink>(sink: &mut S, text: &[u8]) -> Result<(), Stop>
-    ensures taken { (before : List ℕ) → S.given sink.old ≡ Some before → (after : List ℕ) × (S.given sink.new ≡ Some after) × Delivers result before text.now after }
+    ensures taken { Gives result (S.given sink.old) (S.given sink.new) text.now }
     ensures stops { SinkStops result (S.faults sink.old) (S.faults sink.new) }
 {
     if text.is_empty() {
@@ -32,7 +32,7 @@ pub fn put_text<S: Sink>(sink: &mut S, text: &[u8]) -> Result<(), Stop>
 pub fn put_raster<S: Sink>(alloc: Global, sink: &mut S, size: Size) -> Result<(), Stop>
     requires wide { 0 < size.width }
     requires high { 0 < size.height }
-    ensures taken { (before : List ℕ) → S.given sink.old ≡ Some before → (after : List ℕ) × (S.given sink.new ≡ Some after) × Delivers result before (raster_text size) after }
+    ensures taken { Gives result (S.given sink.old) (S.given sink.new) (raster_text size) }
     ensures stops { SinkStops result (S.faults sink.old) (S.faults sink.new) }
 {
     let head = raster_head(alloc, size)?;
@@ -45,7 +45,7 @@ pub fn put_raster<S: Sink>(alloc: Global, sink: &mut S, size: Size) -> Result<()
 fn put_rows<S: Sink>(alloc: Global, sink: &mut S, row: u32, rows: u32) -> Result<(), Stop>
     requires some { 0 < row }
     requires fits { row < 196_606 }
-    ensures taken { (before : List ℕ) → S.given sink.old ≡ Some before → (after : List ℕ) × (S.given sink.new ≡ Some after) × Delivers result before (replicate (row * rows) 255) after }
+    ensures taken { Gives result (S.given sink.old) (S.given sink.new) (replicate (row * rows) 255) }
     ensures stops { SinkStops result (S.faults sink.old) (S.faults sink.new) }
 {
     let at_once = (BLOCK / row).max(1);

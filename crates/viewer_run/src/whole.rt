@@ -21,6 +21,15 @@ use djvu_base::{FaultKind, Items, Meter, Name};
 use djvu_outside::{Folder, Sink, Status};
 use std::alloc::Global;
 
+/// The page was drawn.
+const DRAWN: Status = Status(0);
+
+/// The page was refused.
+const PAGE_REFUSED: Status = Status(1);
+
+/// The run was refused.
+const RUN_REFUSED: Status = Status(2);
+
 /// Does what the words say, each word the list of its bytes. Rasters go to `out`, and lines to `report`.
 ///
 /// Where nothing outside fails, both grow by what the definition `offline` says of the folder's files, and the status
@@ -108,7 +117,7 @@ fn refuse<E: Sink>(line: &[u8], report: &mut E) -> Result<Status, Stop>
     ensures stops { SinkStops result (E.faults report.old) (E.faults report.new) }
 {
     put_text(report, line)?;
-    Ok(Status(2))
+    Ok(RUN_REFUSED)
 }
 
 /// Draws a page that the folder has.
@@ -174,7 +183,7 @@ fn show_blank<S: Sink, E: Sink>(
     let line = notice_line(alloc, page, size)?;
     put_text(report, line.as_slice())?;
     put_raster(alloc, out, size)?;
-    Ok(Status(0))
+    Ok(DRAWN)
 }
 
 /// Puts the line of a refused page.
@@ -190,5 +199,5 @@ fn show_fault<E: Sink>(
 {
     let line = fault_line(alloc, page, kind)?;
     put_text(report, line.as_slice())?;
-    Ok(Status(1))
+    Ok(PAGE_REFUSED)
 }

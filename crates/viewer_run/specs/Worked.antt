@@ -1,8 +1,12 @@
--- A file whose values are worked out.
+-- A file whose values are worked out, and a library of one file.
 use Rattle.std.specs.Prelude.{ℕ, List, [], ◌∷◌}
+use Rattle.djvu_base.specs.Library.{Library, Whole}
 
 -- the 34 bytes of a blank page of one pixel
 abbrev pub blank_file : List ℕ
 blank_file =
     0x41 ∷ 0x54 ∷ 0x26 ∷ 0x54 ∷ 0x46 ∷ 0x4F ∷ 0x52 ∷ 0x4D ∷ 0x00 ∷ 0x00 ∷ 0x00 ∷ 0x16 ∷ 0x44 ∷ 0x4A ∷ 0x56 ∷ 0x55
     ∷ 0x49 ∷ 0x4E ∷ 0x46 ∷ 0x4F ∷ 0x00 ∷ 0x00 ∷ 0x00 ∷ 0x0A ∷ 0x00 ∷ 0x01 ∷ 0x00 ∷ 0x01 ∷ 0x18 ∷ 0x00 ∷ 0x2C ∷ 0x01 ∷ 0x16 ∷ 0x01 ∷ []
+
+abbrev pub library_with : List ℕ → List ℕ → Library
+library_with name bytes = record { name = name; bytes = bytes; mark = Whole } ∷ []

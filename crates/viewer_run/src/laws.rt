@@ -9,9 +9,9 @@ ghost use Rattle.viewer_run.specs.declared.page.Page.TheVariants.{Blank, Refused
 ghost use Rattle.viewer_run.specs.declared.page.Size.{Size};
 ghost use Rattle.viewer_run.specs.Lines.{words_line, fault_line, folder_line, raster_head, white_sum, notice_line};
 ghost use Rattle.viewer_run.specs.Words.{command_of};
-ghost use Rattle.viewer_run.specs.Offline.{front_of_names, is_listed};
+ghost use Rattle.viewer_run.specs.Offline.{front_of_names, is_listed, offline};
 ghost use Rattle.viewer_run.specs.Page.{page_of, size_in, is_drawable, drawn, white_samples};
-ghost use Rattle.viewer_run.specs.Worked.{blank_file};
+ghost use Rattle.viewer_run.specs.Worked.{blank_file, library_with};
 
 /// Which page a file is: of the first form, the blank page that its `INFO` tells, where that can be drawn; without
 /// bytes, truncated; and everywhere else unsupported.
@@ -56,4 +56,19 @@ pub fn worked_words()
     ensures fault { fault_line (codes "p") Truncated ≡ codes "p: truncated p 0" ++ 0x0A ∷ [] }
     ensures many { (names : List (List ℕ)) (page : List ℕ) → length names ≡ 1025 → front_of_names names page ≡ front.Refused (folder_line 1025) }
     ensures not_many { (names : List (List ℕ)) (page : List ℕ) → length names ≡ 1024 → is_listed names page ≡ true → front_of_names names page ≡ front.Draw page }
+{}
+
+/// All of a run over one file: a page of one pixel, a file without bytes, a file that is no page, a page that isn't
+/// listed, and a word that doesn't fit.
+pub fn worked_runs()
+    ensures drawn { offline (library_with (codes "p") blank_file) (codes "draw" ∷ codes "p" ∷ []) ≡
+        record { out = 0x50 ∷ 0x36 ∷ 0x0A ∷ 0x31 ∷ 0x20 ∷ 0x31 ∷ 0x0A ∷ 0x32 ∷ 0x35 ∷ 0x35 ∷ 0x0A ∷ 0xFF ∷ 0xFF ∷ 0xFF ∷ []; report = codes "p: chunk 1 sum 765" ++ 0x0A ∷ []; status = 0 } }
+    ensures truncated { offline (library_with (codes "p") []) (codes "draw" ∷ codes "p" ∷ []) ≡
+        record { out = []; report = codes "p: truncated p 0" ++ 0x0A ∷ []; status = 1 } }
+    ensures unsupported { offline (library_with (codes "p") (codes "AT&T")) (codes "draw" ∷ codes "p" ∷ []) ≡
+        record { out = []; report = codes "p: unsupported p 0" ++ 0x0A ∷ []; status = 1 } }
+    ensures not_listed { offline (library_with (codes "q") blank_file) (codes "draw" ∷ codes "p" ∷ []) ≡
+        record { out = []; report = codes "words 1" ++ 0x0A ∷ []; status = 2 } }
+    ensures other_word { offline (library_with (codes "p") blank_file) (codes "show" ∷ codes "p" ∷ []) ≡
+        record { out = []; report = codes "words 0" ++ 0x0A ∷ []; status = 2 } }
 {}

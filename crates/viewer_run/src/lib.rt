@@ -5,7 +5,7 @@
 //!
 //! `specs/` has the definitions: `Words` (what words say), `Page` (which page bytes are), `Walk` (a walk over a
 //! page), `Lines` (what is written, as bytes), `Offline` (all of a run, where nothing outside fails), `Outcome`,
-//! `Status` and `Causes` (how a run stops, and why), and `Worked` (a file, byte by byte).
+//! `Status` and `Causes` (how a run stops, and why), and `Worked` (a file, byte by byte, and a library of it).
 #![tactic(auto)]
 
 mod command;
@@ -22,5 +22,5 @@ mod tests;
 mod walk;
 mod whole;
 
-pub use laws::{pages, white_sums, worked_values, worked_words};
+pub use laws::{pages, white_sums, worked_runs, worked_values, worked_words};
 pub use whole::run;

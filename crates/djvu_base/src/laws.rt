@@ -1,6 +1,7 @@
-//! Worked values of the definitions, as clauses of a function that does nothing.
-ghost use Rattle.std.specs.Prelude.{◌≡◌, true, false, [], ◌∷◌, codes};
-ghost use Rattle.djvu_base.specs.Name.{is_name};
+//! Worked values of the definitions, as clauses of functions that do nothing.
+ghost use Rattle.std.specs.Prelude.{◌≡◌, true, false, [], ◌∷◌, codes, Some, None};
+ghost use Rattle.djvu_base.specs.Name.{is_name, is_before, is_ascending};
+ghost use Rattle.djvu_base.specs.Library.{Whole, library_within, contents_of, file_named};
 
 /// Bytes that are names, and bytes that aren't.
 pub fn worked_names()
@@ -13,4 +14,27 @@ pub fn worked_names()
     ensures slash { is_name (codes "a/b") ≡ false }
     ensures control { is_name (0x1F ∷ []) ≡ false }
     ensures no_utf8 { is_name (0xFF ∷ []) ≡ false }
+{}
+
+/// Which names stand before others, and which lists of names ascend.
+pub fn worked_orders()
+    ensures first_byte { is_before (codes "a") (codes "b") ≡ true }
+    ensures other_way { is_before (codes "b") (codes "a") ≡ false }
+    ensures front { is_before (codes "a") (codes "aa") ≡ true }
+    ensures capital { is_before (codes "B") (codes "a") ≡ true }
+    ensures digits { is_before (codes "10") (codes "9") ≡ true }
+    ensures same { is_before (codes "a") (codes "a") ≡ false }
+    ensures ascending { is_ascending (codes "B" ∷ codes "a" ∷ codes "aa" ∷ []) ≡ true }
+    ensures twice { is_ascending (codes "a" ∷ codes "a" ∷ []) ≡ false }
+    ensures late { is_ascending (codes "a" ∷ codes "c" ∷ codes "b" ∷ []) ≡ false }
+{}
+
+/// Files of a folder of two, and its library where a file is cut after three bytes.
+pub fn worked_files()
+    ensures found { contents_of (codes "b") ((codes "a", 1 ∷ []) ∷ (codes "b", 2 ∷ []) ∷ []) ≡ Some (2 ∷ []) }
+    ensures missing { contents_of (codes "c") ((codes "a", 1 ∷ []) ∷ (codes "b", 2 ∷ []) ∷ []) ≡ None }
+    ensures cut { library_within 3 ((codes "a", 1 ∷ 2 ∷ 3 ∷ 4 ∷ []) ∷ (codes "b", 5 ∷ []) ∷ []) ≡
+        record { name = codes "a"; bytes = 1 ∷ 2 ∷ 3 ∷ []; mark = Whole } ∷ record { name = codes "b"; bytes = 5 ∷ []; mark = Whole } ∷ [] }
+    ensures named { file_named (codes "b") (library_within 3 ((codes "a", 1 ∷ []) ∷ (codes "b", 5 ∷ []) ∷ [])) ≡
+        Some (record { name = codes "b"; bytes = 5 ∷ []; mark = Whole }) }
 {}

@@ -14,7 +14,7 @@ mod rasters;
 mod tests;
 
 pub use faults::{Fault, FaultKind, Place};
-pub use laws::worked_names;
+pub use laws::{worked_files, worked_names, worked_orders};
 pub use lists::Items;
 pub use meters::{CountMeter, Meter};
 pub use names::Name;

@@ -8,6 +8,7 @@
 mod calls;
 mod faults;
 mod folder;
+mod laws;
 mod listing;
 mod memory_bytes;
 mod memory_files;
@@ -21,6 +22,7 @@ mod tests;
 
 pub use faults::{Failed, FolderFault, SinkFault, Status};
 pub use folder::Folder;
+pub use laws::worked_calls;
 pub use memory_bytes::MemorySink;
 pub use memory_files::MemoryFolder;
 pub use real_folder::DirFolder;

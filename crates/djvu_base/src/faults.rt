@@ -9,6 +9,16 @@ pub enum FaultKind {
     Truncated,
     /// The file, or a part of it, is of a kind that isn't decoded.
     Unsupported,
+    /// The file doesn't begin with a FORM, or the FORM's length has no room for its kind.
+    NotForm,
+    /// The FORM would end behind byte 2,097,152 of the file.
+    TooLarge,
+    /// The FORM has too few bytes left for a chunk's header, and isn't at its end.
+    ShortHeader,
+    /// A chunk's identifier has a byte that is no printable ASCII.
+    BadId,
+    /// A chunk's data would go past the end of the FORM.
+    Overrun,
 }
 
 impl FaultKind {
@@ -19,6 +29,11 @@ impl FaultKind {
         match self {
             FaultKind::Truncated => "truncated",
             FaultKind::Unsupported => "unsupported",
+            FaultKind::NotForm => "not-form",
+            FaultKind::TooLarge => "too-large",
+            FaultKind::ShortHeader => "short-header",
+            FaultKind::BadId => "bad-id",
+            FaultKind::Overrun => "overrun",
         }
     }
 }

@@ -1,7 +1,12 @@
+pub mod Chunking
+pub mod Closing
 pub mod CommonFront
-pub mod Completing
-pub mod Feeding
-pub mod FirstForm
+pub mod Fuel
+pub mod Going
 pub mod Growing
-pub mod Staying
+pub mod Heading
+pub mod Laying
+pub mod Moving
+pub mod OneInfo
+pub mod Passing
 pub mod Telling

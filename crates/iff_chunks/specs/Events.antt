@@ -2,7 +2,7 @@
 use Rattle.std.specs.Prelude.{ℕ, ◌≡◌, ◌++◌, List, [], ◌∷◌, Option, Some, None, flat_map, ⊤}
 use Rattle.iff_chunks.specs.declared.walker.WalkStep.{WalkStep}
 use Rattle.iff_chunks.specs.declared.walker.WalkStep.TheVariants as step
-use Rattle.iff_chunks.specs.Chunks.{Form, Chunk, Chunks, Tail, InHead, InHeader, InData, FormEnd, Broken}
+use Rattle.iff_chunks.specs.Chunks.{Form, Chunk, Chunks, Tail, InHead, InHeader, InData, InPad, FormEnd, Broken}
 
 pub data Event : Type 0 where
   Begun : List ℕ → ℕ → Event
@@ -28,8 +28,9 @@ chunk_events chunk = open_events chunk ++ ChunkEnd ∷ []
 
 abbrev pub tail_events : Tail → List Event
 tail_events InHead = []
-tail_events InHeader = []
+tail_events (InHeader offset bytes) = []
 tail_events (InData chunk) = open_events chunk
+tail_events (InPad offset is_last) = []
 tail_events FormEnd = []
 tail_events (Broken kind offset) = []
 
@@ -62,8 +63,9 @@ GoesOn (event ∷ told) [] = ⊥
 -- the bytes end within the FORM
 abbrev pub IsOpen : Tail → Type 0
 IsOpen InHead = ⊤
-IsOpen InHeader = ⊤
+IsOpen (InHeader offset bytes) = ⊤
 IsOpen (InData chunk) = ⊤
+IsOpen (InPad offset is_last) = ⊤
 IsOpen FormEnd = ⊥
 IsOpen (Broken kind offset) = ⊥
 
@@ -76,3 +78,23 @@ Ends (step.Header id offset size) told chunks = ⊤
 Ends step.Data told chunks = ⊤
 Ends step.ChunkEnd told chunks = ⊤
 Ends step.NeedBytes told chunks = ⊤
+
+-- what is answered of a file whose bytes ended so
+abbrev pub Settles : WalkStep → Tail → Type 0
+Settles step.FormEnd tail = tail ≡ FormEnd
+Settles (step.Broken kind offset) tail = tail ≡ Broken kind offset
+Settles (step.Form kind size) tail = ⊥
+Settles (step.Header id offset size) tail = ⊥
+Settles step.Data tail = ⊥
+Settles step.ChunkEnd tail = ⊥
+Settles step.NeedBytes tail = ⊥
+
+-- nothing else is answered from then on
+abbrev pub IsLast : WalkStep → Type 0
+IsLast step.FormEnd = ⊤
+IsLast (step.Broken kind offset) = ⊤
+IsLast (step.Form kind size) = ⊥
+IsLast (step.Header id offset size) = ⊥
+IsLast step.Data = ⊥
+IsLast step.ChunkEnd = ⊥
+IsLast step.NeedBytes = ⊥

@@ -1,7 +1,9 @@
 pub mod Start
 pub mod Matching
+pub mod Gathering
 pub mod Chunks
 pub mod Events
 pub mod Told
 pub mod FirstForm
+pub mod Layout
 pub mod Worked

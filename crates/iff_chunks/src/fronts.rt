@@ -1,5 +1,5 @@
 //! How a piece of a file goes on with bytes that are wanted.
-ghost use Rattle.std.specs.Prelude.{◌≡◌, ◌<◌, ◌≤◌, length, drop};
+ghost use Rattle.std.specs.Prelude.{◌≡◌, ◌<◌, ◌≤◌, length, take, drop};
 ghost use Rattle.iff_chunks.specs.Start.{common_front};
 ghost use Rattle.iff_chunks.specs.Matching.{Matches};
 
@@ -38,6 +38,14 @@ pub fn rest_of(bytes: &[u8], passed: usize) -> &[u8]
     ensures { result.now ≡ drop passed bytes.now }
 {
     &bytes[passed..]
+}
+
+/// The first bytes.
+pub fn first(bytes: &[u8], count: usize) -> &[u8]
+    requires { count ≤ length bytes.now }
+    ensures { result.now ≡ take count bytes.now }
+{
+    &bytes[..count]
 }
 
 /// How many bytes the two have in common at their fronts.

@@ -1,48 +1,97 @@
 //! Laws of the definitions, apart from the walker: each is a clause of a function that does nothing.
-ghost use Rattle.std.specs.Prelude.{◌≡◌, ℕ, ◌+◌, ◌++◌, ◌↔◌, List, [], ◌∷◌, length, take, drop};
+ghost use Rattle.std.specs.Prelude.{◌≡◌, ℕ, ◌+◌, ◌≤◌, ◌↔◌, ◌++◌, List, [], ◌∷◌, Some, None, true, false, length, take, drop, codes};
 ghost use Rattle.djvu_base.specs.declared.faults.FaultKind.{FaultKind};
-ghost use Rattle.djvu_base.specs.declared.faults.FaultKind.TheVariants.{Unsupported};
-ghost use Rattle.iff_chunks.specs.Chunks.{Form, FormEnd, Broken, InHead, InHeader, chunks_of, info_chunk, page_form};
-ghost use Rattle.iff_chunks.specs.Events.{events_of, GoesOn, IsOpen};
-ghost use Rattle.iff_chunks.specs.FirstForm.{IsFront, IsFirstForm, IsBegun, first_form};
-ghost use Rattle.iff_chunks.specs.Worked.{file_of_length, info_bytes};
+ghost use Rattle.djvu_base.specs.declared.faults.FaultKind.TheVariants.{Truncated, NotForm, TooLarge, ShortHeader, BadId, Overrun};
+ghost use Rattle.iff_chunks.specs.Chunks.{Form, Chunk, FormEnd, Broken, InHead, InHeader, InData, InPad, chunks_of, chunks_in_all, chunks_from, rest_at, found_at, found_so, magic};
+ghost use Rattle.iff_chunks.specs.Events.{Begun, Header, Data, ChunkEnd, events_of, GoesOn};
+ghost use Rattle.iff_chunks.specs.FirstForm.{IsFront, IsFirstForm, IsOneInfo, first_form, page_form as one_info_form, info_chunk as one_info};
+ghost use Rattle.iff_chunks.specs.Layout.{IsLaidForm};
+ghost use Rattle.iff_chunks.specs.Worked.{page_with, page_form, info_chunk, info_bytes, mask_header, form_of_length};
 
-/// The FORM ends exactly where the file is of the first form: what may stand before a FORM, the head of a page of 22
-/// bytes, an `INFO` of ten bytes, and anything. Its one chunk is then the `INFO`, 12 bytes behind the FORM's place.
-pub fn first_form()
-    ensures ended { (bytes : List ℕ) → ((chunks_of bytes).tail ≡ FormEnd) ↔ IsFirstForm bytes }
-    ensures chunks { (front info after : List ℕ) → IsFront front → length info ≡ 10 →
-        chunks_of (first_form front info after) ≡ record { form = Some page_form; whole = info_chunk (length front + 12) info ∷ []; tail = FormEnd } }
+/// The chunks from a place on are what is found there, and the chunks from behind it on: the definition's count of how
+/// many there may be is never too small, and any larger count gives the same.
+pub fn recursion()
+    ensures found { (offset left : ℕ) (bytes : List ℕ) → rest_at offset left bytes ≡ found_so rest_at (found_at offset left bytes) }
+    ensures count { (most offset left : ℕ) (bytes : List ℕ) → left ≤ most → chunks_from most offset left bytes ≡ rest_at offset left bytes }
 {}
 
-/// A file is still open exactly where more bytes can bring it to the first form, and it hasn't come there.
-pub fn prefixes()
-    ensures { (bytes : List ℕ) → IsOpen (chunks_of bytes).tail ↔ IsBegun bytes }
-{}
-
-/// What the bytes so far settle stays, whatever follows: the chunks of a file that ended or broke, the FORM, and the
-/// events.
+/// What the bytes so far settle stays, whatever follows: the chunks of a file whose FORM ended or that broke, the FORM,
+/// the whole chunks, and the events.
 pub fn chunks_stay()
     ensures ended { (bytes more : List ℕ) → (chunks_of bytes).tail ≡ FormEnd → chunks_of (bytes ++ more) ≡ chunks_of bytes }
     ensures broken { (bytes more : List ℕ) (kind : FaultKind) (offset : ℕ) → (chunks_of bytes).tail ≡ Broken kind offset → chunks_of (bytes ++ more) ≡ chunks_of bytes }
     ensures form { (bytes more : List ℕ) (form : Form) → (chunks_of bytes).form ≡ Some form → (chunks_of (bytes ++ more)).form ≡ Some form }
+    ensures whole { (bytes more : List ℕ) → (later : List Chunk) × ((chunks_of (bytes ++ more)).whole ≡ (chunks_of bytes).whole ++ later) }
     ensures events { (bytes more : List ℕ) → GoesOn (events_of (chunks_of bytes)) (events_of (chunks_of (bytes ++ more))) }
 {}
 
-/// The chunks of a file of 34 bytes, and of files a little other than it.
-pub fn worked_values()
-    ensures whole { chunks_of (file_of_length 0x16) ≡
-        record { form = Some (record { kind = 0x44 ∷ 0x4A ∷ 0x56 ∷ 0x55 ∷ []; size = 22 }); whole = record { id = 0x49 ∷ 0x4E ∷ 0x46 ∷ 0x4F ∷ []; offset = 16; size = 10; bytes = info_bytes } ∷ []; tail = FormEnd } }
+/// Once a file's FORM is there, its bytes are what may stand before it, its head, and then the chunks and the tail one
+/// behind the other: every byte before the tail belongs to one header, to the data of one chunk, or is one pad byte.
+pub fn layout()
+    ensures { (bytes : List ℕ) (form : Form) → (chunks_of bytes).form ≡ Some form → IsLaidForm bytes form (chunks_of bytes).whole (chunks_of bytes).tail }
+{}
 
-    // Without the four bytes before the FORM.
-    ensures bare { chunks_of (drop 4 (file_of_length 0x16)) ≡
-        record { form = Some (record { kind = 0x44 ∷ 0x4A ∷ 0x56 ∷ 0x55 ∷ []; size = 22 }); whole = record { id = 0x49 ∷ 0x4E ∷ 0x46 ∷ 0x4F ∷ []; offset = 12; size = 10; bytes = info_bytes } ∷ []; tail = FormEnd } }
+/// A file has a FORM of kind `DJVU` and length 22 and in it one whole chunk, an `INFO` of 10 bytes, exactly where its
+/// bytes are of the first form: what may stand before a FORM, the head of such a page, the header of the `INFO`, ten
+/// bytes, and anything. The FORM then ends, and the `INFO` stands 12 bytes behind the FORM's place.
+pub fn first_form()
+    ensures only { (bytes : List ℕ) → IsOneInfo (chunks_of bytes) ↔ IsFirstForm bytes }
+    ensures chunks { (front info after : List ℕ) → IsFront front → length info ≡ 10 →
+        chunks_of (first_form front info after) ≡ record { form = Some one_info_form; whole = one_info (length front + 12) info ∷ []; tail = FormEnd } }
+{}
 
-    ensures empty { chunks_of [] ≡ record { form = None; whole = []; tail = InHead } }
+/// The chunks of a page of 46 bytes, of its fronts, and of files a little other than it.
+pub fn worked_chunks()
+    ensures whole { chunks_of (page_with 0x22 (mask_header 4 ++ 0xB7 ∷ 0x6D ∷ 0x86 ∷ 0x87 ∷ [])) ≡
+        record { form = Some (page_form 34); whole = info_chunk ∷ record { id = codes "Sjbz"; offset = 34; size = 4; bytes = 0xB7 ∷ 0x6D ∷ 0x86 ∷ 0x87 ∷ [] } ∷ []; tail = FormEnd } }
+    ensures byte_behind { (byte : ℕ) → chunks_of (page_with 0x16 (byte ∷ [])) ≡ record { form = Some (page_form 22); whole = info_chunk ∷ []; tail = FormEnd } }
 
-    // Within the chunk's header.
-    ensures cut { chunks_of (take 20 (file_of_length 0x16)) ≡ record { form = Some (record { kind = 0x44 ∷ 0x4A ∷ 0x56 ∷ 0x55 ∷ []; size = 22 }); whole = []; tail = InHeader } }
+    // A chunk of 100 bytes where the FORM has none left.
+    ensures overrun { chunks_of (page_with 0x1E (0x42 ∷ 0x47 ∷ 0x34 ∷ 0x34 ∷ 0 ∷ 0 ∷ 0 ∷ 100 ∷ [])) ≡ record { form = Some (page_form 30); whole = info_chunk ∷ []; tail = Broken Overrun 34 } }
+    ensures header_part { chunks_of (page_with 0x1E (0x42 ∷ 0x47 ∷ 0x34 ∷ 0x34 ∷ 0 ∷ 0 ∷ 0 ∷ [])) ≡ record { form = Some (page_form 30); whole = info_chunk ∷ []; tail = InHeader 34 (0x42 ∷ 0x47 ∷ 0x34 ∷ 0x34 ∷ 0 ∷ 0 ∷ 0 ∷ []) } }
 
-    ensures length_23 { chunks_of (file_of_length 0x17) ≡ record { form = None; whole = []; tail = Broken Unsupported 0 } }
-    ensures byte_behind { (byte : ℕ) → chunks_of (file_of_length 0x16 ++ byte ∷ []) ≡ chunks_of (file_of_length 0x16) }
+    // A byte of the identifier is 0, and the data would go past the FORM's end as well.
+    ensures bad_id { chunks_of (page_with 0x1E (0x42 ∷ 0x00 ∷ 0x34 ∷ 0x34 ∷ 0 ∷ 0 ∷ 0 ∷ 100 ∷ [])) ≡ record { form = Some (page_form 30); whole = info_chunk ∷ []; tail = Broken BadId 34 } }
+    ensures three_left { chunks_of (page_with 0x19 []) ≡ record { form = Some (page_form 25); whole = info_chunk ∷ []; tail = Broken ShortHeader 34 } }
+    ensures no_form { chunks_of (codes "AT&TFORN") ≡ record { form = None; whole = []; tail = Broken NotForm 0 } }
+    ensures half_magic { chunks_of (codes "AT&FORM") ≡ record { form = None; whole = []; tail = Broken NotForm 0 } }
+    ensures length_3 { chunks_of (form_of_length (0 ∷ 0 ∷ 0 ∷ 3 ∷ [])) ≡ record { form = None; whole = []; tail = Broken NotForm 0 } }
+    ensures length_4 { chunks_of (form_of_length (0 ∷ 0 ∷ 0 ∷ 4 ∷ codes "DJVU")) ≡ record { form = Some (page_form 4); whole = []; tail = FormEnd } }
+{}
+
+/// The longest FORM ends behind byte 2,097,152 of the file: its length is 2,097,144, and four less behind `AT&T`.
+pub fn worked_lengths()
+    ensures bare { chunks_of (form_of_length (0x00 ∷ 0x1F ∷ 0xFF ∷ 0xF8 ∷ [])) ≡ record { form = None; whole = []; tail = InHead } }
+    ensures bare_larger { chunks_of (form_of_length (0x00 ∷ 0x1F ∷ 0xFF ∷ 0xF9 ∷ [])) ≡ record { form = None; whole = []; tail = Broken TooLarge 0 } }
+    ensures longest { chunks_of (magic ++ form_of_length (0x00 ∷ 0x1F ∷ 0xFF ∷ 0xF4 ∷ codes "DJVU")) ≡ record { form = Some (page_form 2_097_140); whole = []; tail = InHeader 16 [] } }
+    ensures larger { chunks_of (magic ++ form_of_length (0x00 ∷ 0x1F ∷ 0xFF ∷ 0xF5 ∷ [])) ≡ record { form = None; whole = []; tail = Broken TooLarge 0 } }
+{}
+
+/// Where files end: in each part of the grammar, and before and behind a pad byte.
+pub fn worked_ends()
+    ensures empty { (chunks_in_all []).tail ≡ Broken Truncated 0 }
+    ensures no_chunk { (chunks_in_all (take 16 (page_with 0x22 []))).tail ≡ Broken Truncated 0 }
+    ensures first_byte { (chunks_in_all (take 17 (page_with 0x22 []))).tail ≡ Broken Truncated 16 }
+    ensures between { (chunks_in_all (page_with 0x22 [])).tail ≡ Broken Truncated 34 }
+    ensures in_header { (chunks_in_all (page_with 0x22 (take 3 (mask_header 4)))).tail ≡ Broken Truncated 34 }
+    ensures data_open { (chunks_of (page_with 0x22 (mask_header 4 ++ 0xB7 ∷ 0x6D ∷ []))).tail ≡ InData (record { id = codes "Sjbz"; offset = 34; size = 4; bytes = 0xB7 ∷ 0x6D ∷ [] }) }
+    ensures in_data { (chunks_in_all (page_with 0x22 (mask_header 4 ++ 0xB7 ∷ 0x6D ∷ []))).tail ≡ Broken Truncated 34 }
+    ensures before_pad { (chunks_in_all (page_with 0x28 (mask_header 1 ++ 0x0F ∷ []))).tail ≡ Broken Truncated 34 }
+    ensures behind_pad { (chunks_in_all (page_with 0x28 (mask_header 1 ++ 0x0F ∷ 0x00 ∷ []))).tail ≡ Broken Truncated 44 }
+
+    // The last pad byte may be missing, by the end of the file or by that of the FORM.
+    ensures pad_open { (chunks_of (page_with 0x20 (mask_header 1 ++ 0x0F ∷ []))).tail ≡ InPad 34 true }
+    ensures no_pad_in_file { (chunks_in_all (page_with 0x20 (mask_header 1 ++ 0x0F ∷ []))).tail ≡ FormEnd }
+    ensures no_pad_in_form { (chunks_of (page_with 0x1F (mask_header 1 ++ 0x0F ∷ []))).tail ≡ FormEnd }
+    ensures broken { (chunks_in_all (page_with 0x19 [])).tail ≡ Broken ShortHeader 34 }
+{}
+
+/// What is told of a page of 46 bytes, and where its last chunk has arrived in part.
+pub fn worked_events()
+    ensures whole { events_of (chunks_of (page_with 0x22 (mask_header 4 ++ 0xB7 ∷ 0x6D ∷ 0x86 ∷ 0x87 ∷ []))) ≡
+        Begun (codes "DJVU") 34 ∷ Header (codes "INFO") 16 10 ∷ Data info_bytes ∷ ChunkEnd ∷ Header (codes "Sjbz") 34 4 ∷ Data (0xB7 ∷ 0x6D ∷ 0x86 ∷ 0x87 ∷ []) ∷ ChunkEnd ∷ [] }
+    ensures part { events_of (chunks_of (page_with 0x22 (mask_header 4 ++ 0xB7 ∷ []))) ≡
+        Begun (codes "DJVU") 34 ∷ Header (codes "INFO") 16 10 ∷ Data info_bytes ∷ ChunkEnd ∷ Header (codes "Sjbz") 34 4 ∷ Data (0xB7 ∷ []) ∷ [] }
+    ensures no_data { events_of (chunks_of (page_with 0x1E (mask_header 0))) ≡
+        Begun (codes "DJVU") 30 ∷ Header (codes "INFO") 16 10 ∷ Data info_bytes ∷ ChunkEnd ∷ Header (codes "Sjbz") 34 0 ∷ ChunkEnd ∷ [] }
 {}

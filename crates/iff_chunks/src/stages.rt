@@ -1,19 +1,36 @@
-//! The places of the grammar at which a walker can stand, and how it goes on from each.
-ghost use Rattle.std.specs.Prelude.{◌≡◌, ◌≢◌, ◌+◌, ◌^◌, ◌<◌, ◌≤◌, length};
+//! The places of the grammar at which a walker can stand.
+ghost use Rattle.std.specs.Prelude.{◌≡◌, ◌+◌, ◌^◌, ◌<◌, length};
+ghost use Rattle.iff_chunks.specs.Chunks.{is_padded};
 ghost use Rattle.iff_chunks.specs.Told.{IsSound, Feeds};
 
-use crate::fronts::{Match, match_on, rest_of};
+use crate::answers::{breaks, ends};
+use crate::chunks::{chunk, data, data_end, pad};
+use crate::gathering::Gathered;
+use crate::heads::{kind, length, magic, start, word};
 use crate::walker::WalkStep;
 use djvu_base::FaultKind;
 
-/// What may stand before the FORM.
-const MAGIC: [u8; 4] = *b"AT&T";
+/// Where a chunk may begin.
+#[derive(Clone, Copy, Debug, PartialEq, Eq)]
+pub struct ChunkPlace {
+    /// In the file.
+    pub offset: u32,
+    /// How many bytes the FORM has from here on.
+    pub left: u32,
+    /// Whether no chunk stands before it.
+    pub is_first: bool,
+}
 
-/// `FORM`, its length and its kind.
-const PAGE_HEAD: [u8; 12] = *b"FORM\0\0\0\x16DJVU";
-
-/// The header of the one chunk.
-const INFO_HEADER: [u8; 8] = *b"INFO\0\0\0\x0A";
+/// A chunk whose header was told.
+#[derive(Clone, Copy, Debug, PartialEq, Eq)]
+pub struct OpenChunk {
+    /// Of its identifier in the file.
+    pub offset: u32,
+    /// Of its data.
+    pub length: u32,
+    /// How many bytes the FORM has behind the data.
+    pub behind: u32,
+}
 
 /// A place of the grammar.
 #[derive(Clone, Copy, Debug, PartialEq, Eq)]
@@ -22,18 +39,28 @@ pub enum Stage {
     Start,
     /// So many bytes of the magic arrived, at least one.
     Magic { matched: usize },
-    /// So many bytes of the FORM's head arrived. The FORM is at this offset.
-    Head { offset: u32, matched: usize },
-    /// So many bytes of the chunk's header arrived. The chunk is at this offset.
-    Header { offset: u32, matched: usize },
+    /// So many bytes of the FORM's word arrived. The FORM is at this offset.
+    Word { offset: u32, matched: usize },
+    /// The FORM's word arrived, and these bytes of its length.
+    Length { offset: u32, got: Gathered },
+    /// The FORM's length arrived, and these bytes of its kind.
+    Kind {
+        offset: u32,
+        length: u32,
+        got: Gathered,
+    },
+    /// These bytes of a chunk's header arrived.
+    Header { place: ChunkPlace, got: Gathered },
     /// So many bytes of the chunk's data are to come, at least one.
-    Data { left: usize },
+    Data { chunk: OpenChunk, left: usize },
     /// The data arrived, and the chunk's end is to be told.
-    DataEnd,
+    DataEnd { chunk: OpenChunk },
+    /// The chunk's end was told, and its pad byte is to come.
+    Pad { chunk: OpenChunk },
     /// The FORM's end was told, or is told next.
     Ended,
-    /// The file can't be read on.
-    Broken,
+    /// The file can't be read on: why, and where.
+    Broken { kind: FaultKind, offset: u32 },
 }
 
 /// How a walker goes on from a piece: the bytes that it used, where it stands then, and what it answers.
@@ -46,7 +73,7 @@ pub struct Fed {
 
 impl Fed {
     /// The same behind bytes that were used before.
-    fn behind(self, passed: usize) -> Fed
+    pub fn behind(self, passed: usize) -> Fed
         requires { self.used + passed < 2 ^ 64 }
         ensures { result ≡ record { used = passed + self.used; stage = self.stage; step = self.step } }
     {
@@ -55,6 +82,15 @@ impl Fed {
             stage: self.stage,
             step: self.step,
         }
+    }
+}
+
+impl OpenChunk {
+    /// Whether a pad byte comes behind the data.
+    pub fn is_padded(self) -> bool
+        ensures { result ≡ is_padded self.length self.behind }
+    {
+        self.length % 2 == 1 && 0 < self.behind
     }
 }
 
@@ -67,153 +103,19 @@ impl Stage {
         match self {
             Stage::Start => start(piece),
             Stage::Magic { matched } => magic(matched, piece),
-            Stage::Head { offset, matched } => head(offset, matched, piece),
-            Stage::Header { offset, matched } => header(offset, matched, piece),
-            Stage::Data { left } => data(left, piece),
-            Stage::DataEnd => data_end(piece),
-            Stage::Ended => ended(piece),
-            Stage::Broken => broken(piece),
-        }
-    }
-}
-
-fn start(piece: &[u8]) -> Fed
-    ensures { Feeds Stage.Start piece.now result }
-{
-    match piece.first() {
-        None => need_bytes(piece, Stage::Start),
-        Some(b'A') => magic(1, rest_of(piece, 1)).behind(1),
-        Some(b'F') => head(0, 1, rest_of(piece, 1)).behind(1),
-        Some(_) => breaks(1),
-    }
-}
-
-fn magic(matched: usize, piece: &[u8]) -> Fed
-    requires { matched < 4 }
-    ensures feeds { Feeds (Stage.Magic matched) piece.now result }
-    ensures no_data { result.step ≢ WalkStep.Data }
-{
-    match match_on(&MAGIC, matched, piece) {
-        Match::Whole { used } => head(4, 0, rest_of(piece, used)).behind(used),
-        Match::Part { matched } => need_bytes(piece, Stage::Magic { matched }),
-        Match::Differs { used } => breaks(used),
-    }
-}
-
-fn head(offset: u32, matched: usize, piece: &[u8]) -> Fed
-    requires early { offset ≤ 4 }
-    requires some { matched < 12 }
-    ensures feeds { Feeds (Stage.Head offset matched) piece.now result }
-    ensures no_data { result.step ≢ WalkStep.Data }
-{
-    match match_on(&PAGE_HEAD, matched, piece) {
-        Match::Whole { used } => Fed {
-            used,
-            stage: Stage::Header {
-                offset: offset + 12,
-                matched: 0,
-            },
-            step: WalkStep::Form {
-                kind: *b"DJVU",
-                length: 22,
-            },
-        },
-        Match::Part { matched } => need_bytes(piece, Stage::Head { offset, matched }),
-        Match::Differs { used } => breaks(used),
-    }
-}
-
-fn header(offset: u32, matched: usize, piece: &[u8]) -> Fed
-    requires early { offset ≤ 16 }
-    requires some { matched < 8 }
-    ensures { Feeds (Stage.Header offset matched) piece.now result }
-{
-    match match_on(&INFO_HEADER, matched, piece) {
-        Match::Whole { used } => Fed {
-            used,
-            stage: Stage::Data { left: 10 },
-            step: WalkStep::Header {
-                id: *b"INFO",
+            Stage::Word { offset, matched } => word(offset, matched, piece),
+            Stage::Length { offset, got } => length(offset, got, piece),
+            Stage::Kind {
                 offset,
-                length: 10,
-            },
-        },
-        Match::Part { matched } => need_bytes(piece, Stage::Header { offset, matched }),
-        Match::Differs { used } => breaks(used),
-    }
-}
-
-fn data(left: usize, piece: &[u8]) -> Fed
-    requires some { 0 < left }
-    requires early { left ≤ 10 }
-    ensures { Feeds (Stage.Data left) piece.now result }
-{
-    if piece.is_empty() {
-        need_bytes(piece, Stage::Data { left })
-    } else if piece.len() < left {
-        Fed {
-            used: piece.len(),
-            stage: Stage::Data {
-                left: left - piece.len(),
-            },
-            step: WalkStep::Data,
+                length,
+                got,
+            } => kind(offset, length, got, piece),
+            Stage::Header { place, got } => chunk(place, got, piece),
+            Stage::Data { chunk, left } => data(chunk, left, piece),
+            Stage::DataEnd { chunk } => data_end(chunk, piece),
+            Stage::Pad { chunk } => pad(chunk, piece),
+            Stage::Ended => ends(),
+            Stage::Broken { kind, offset } => breaks(0, kind, offset),
         }
-    } else {
-        Fed {
-            used: left,
-            stage: Stage::DataEnd,
-            step: WalkStep::Data,
-        }
-    }
-}
-
-fn data_end(piece: &[u8]) -> Fed
-    ensures { Feeds Stage.DataEnd piece.now result }
-{
-    Fed {
-        used: 0,
-        stage: Stage::Ended,
-        step: WalkStep::ChunkEnd,
-    }
-}
-
-fn ended(piece: &[u8]) -> Fed
-    ensures { Feeds Stage.Ended piece.now result }
-{
-    Fed {
-        used: 0,
-        stage: Stage::Ended,
-        step: WalkStep::FormEnd,
-    }
-}
-
-fn broken(piece: &[u8]) -> Fed
-    ensures { Feeds Stage.Broken piece.now result }
-{
-    breaks(0)
-}
-
-/// The piece is used up.
-fn need_bytes(piece: &[u8], stage: Stage) -> Fed
-    ensures { result ≡ record { used = length piece.now; stage = stage; step = WalkStep.NeedBytes } }
-{
-    Fed {
-        used: piece.len(),
-        stage,
-        step: WalkStep::NeedBytes,
-    }
-}
-
-/// The last of the used bytes breaks the file.
-fn breaks(used: usize) -> Fed
-    ensures { result ≡ record { used = used; stage = Stage.Broken; step = WalkStep.Broken FaultKind.Unsupported 0 } }
-{
-    Fed {
-        used,
-        stage: Stage::Broken,
-        step: WalkStep::Broken {
-            kind: FaultKind::Unsupported,
-            offset: 0,
-        },
     }
 }

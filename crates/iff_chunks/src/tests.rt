@@ -4,111 +4,179 @@ use std::alloc::{AllocError, Global};
 use std::process::Abort;
 use std::test::Fail;
 
-const FORM: WalkStep = WalkStep::Form {
-    kind: *b"DJVU",
-    length: 22,
-};
-
-const INFO_12: WalkStep = WalkStep::Header {
-    id: *b"INFO",
-    offset: 12,
-    length: 10,
-};
-
-const INFO_16: WalkStep = WalkStep::Header {
-    id: *b"INFO",
-    offset: 16,
-    length: 10,
-};
-
-const UNSUPPORTED: WalkStep = WalkStep::Broken {
-    kind: FaultKind::Unsupported,
-    offset: 0,
-};
-
-/// A file, and what is to be told of it: the events, all data as one of them, these data, and the answer after them.
+/// A file, and what is to be told of it: the events, all data in a row as one of them, these data, the last answer to
+/// its bytes, and the answer where no more come.
 struct File {
     bytes: &'static [u8],
     events: &'static [WalkStep],
     data: &'static [u8],
     last: WalkStep,
+    end: WalkStep,
 }
 
-const FILES: [File; 12] = [
+const ANTZ_12_OF_0: WalkStep = WalkStep::Header { id: *b"ANTz", offset: 12, length: 0 };
+const ANTZ_24_OF_0: WalkStep = WalkStep::Header { id: *b"ANTz", offset: 24, length: 0 };
+const BAD_ID: WalkStep = WalkStep::Broken { kind: FaultKind::BadId, offset: 12 };
+const CUT_0: WalkStep = WalkStep::Broken { kind: FaultKind::Truncated, offset: 0 };
+const CUT_12: WalkStep = WalkStep::Broken { kind: FaultKind::Truncated, offset: 12 };
+const CUT_16: WalkStep = WalkStep::Broken { kind: FaultKind::Truncated, offset: 16 };
+const CUT_22: WalkStep = WalkStep::Broken { kind: FaultKind::Truncated, offset: 22 };
+const DJBZ_32_OF_2: WalkStep = WalkStep::Header { id: *b"Djbz", offset: 32, length: 2 };
+const INCLUDED_34: WalkStep = WalkStep::Form { kind: *b"DJVI", length: 34 };
+const INFO_12_OF_10: WalkStep = WalkStep::Header { id: *b"INFO", offset: 12, length: 10 };
+const INFO_16_OF_10: WalkStep = WalkStep::Header { id: *b"INFO", offset: 16, length: 10 };
+const NOT_FORM: WalkStep = WalkStep::Broken { kind: FaultKind::NotForm, offset: 0 };
+const PAGE_13: WalkStep = WalkStep::Form { kind: *b"DJVU", length: 13 };
+const PAGE_14: WalkStep = WalkStep::Form { kind: *b"DJVU", length: 14 };
+const PAGE_15: WalkStep = WalkStep::Form { kind: *b"DJVU", length: 15 };
+const PAGE_22: WalkStep = WalkStep::Form { kind: *b"DJVU", length: 22 };
+const SHORT_HEADER: WalkStep = WalkStep::Broken { kind: FaultKind::ShortHeader, offset: 20 };
+const SJBZ_12_OF_1: WalkStep = WalkStep::Header { id: *b"Sjbz", offset: 12, length: 1 };
+const TOO_LARGE: WalkStep = WalkStep::Broken { kind: FaultKind::TooLarge, offset: 0 };
+const TXTZ_12_OF_3: WalkStep = WalkStep::Header { id: *b"TXTz", offset: 12, length: 3 };
+
+const FILES: [File; 18] = [
+    // A whole page, and one without the magic, with a pad byte, an empty chunk and bytes behind the FORM.
     File {
         bytes: b"AT&TFORM\0\0\0\x16DJVUINFO\0\0\0\x0A\0\x01\0\x01\x18\0\x2C\x01\x16\x01",
-        events: &[FORM, INFO_16, WalkStep::Data, WalkStep::ChunkEnd],
+        events: &[PAGE_22, INFO_16_OF_10, WalkStep::Data, WalkStep::ChunkEnd],
         data: b"\0\x01\0\x01\x18\0\x2C\x01\x16\x01",
         last: WalkStep::FormEnd,
+        end: WalkStep::FormEnd,
     },
     File {
-        bytes: b"FORM\0\0\0\x16DJVUINFO\0\0\0\x0Aten bytes!",
-        events: &[FORM, INFO_12, WalkStep::Data, WalkStep::ChunkEnd],
-        data: b"ten bytes!",
+        bytes: b"FORM\0\0\0\x22DJVITXTz\0\0\0\x03abc!ANTz\0\0\0\0Djbz\0\0\0\x02deFORM",
+        events: &[
+            INCLUDED_34,
+            TXTZ_12_OF_3,
+            WalkStep::Data,
+            WalkStep::ChunkEnd,
+            ANTZ_24_OF_0,
+            WalkStep::ChunkEnd,
+            DJBZ_32_OF_2,
+            WalkStep::Data,
+            WalkStep::ChunkEnd,
+        ],
+        data: b"abcde",
         last: WalkStep::FormEnd,
+        end: WalkStep::FormEnd,
     },
-    // A byte behind the FORM.
+    // The last pad byte is missing: the FORM ends before it, or the file does.
     File {
-        bytes: b"AT&TFORM\0\0\0\x16DJVUINFO\0\0\0\x0Aten bytes!F",
-        events: &[FORM, INFO_16, WalkStep::Data, WalkStep::ChunkEnd],
-        data: b"ten bytes!",
+        bytes: b"FORM\0\0\0\x0DDJVUSjbz\0\0\0\x01a",
+        events: &[PAGE_13, SJBZ_12_OF_1, WalkStep::Data, WalkStep::ChunkEnd],
+        data: b"a",
         last: WalkStep::FormEnd,
+        end: WalkStep::FormEnd,
     },
-    // Cut: before all bytes, in the magic, in the FORM's head, in the chunk's header, and in its data.
+    File {
+        bytes: b"FORM\0\0\0\x0EDJVUSjbz\0\0\0\x01a",
+        events: &[PAGE_14, SJBZ_12_OF_1, WalkStep::Data, WalkStep::ChunkEnd],
+        data: b"a",
+        last: WalkStep::NeedBytes,
+        end: WalkStep::FormEnd,
+    },
+    // Cut: before all bytes, in the magic, in the FORM's length and kind, before the first chunk, in a header, in data,
+    // before a pad byte, and behind it.
     File {
         bytes: b"",
         events: &[],
         data: b"",
         last: WalkStep::NeedBytes,
+        end: CUT_0,
     },
     File {
         bytes: b"AT&",
         events: &[],
         data: b"",
         last: WalkStep::NeedBytes,
+        end: CUT_0,
     },
     File {
         bytes: b"AT&TFORM\0\0",
         events: &[],
         data: b"",
         last: WalkStep::NeedBytes,
+        end: CUT_0,
+    },
+    File {
+        bytes: b"AT&TFORM\0\0\0\x16DJ",
+        events: &[],
+        data: b"",
+        last: WalkStep::NeedBytes,
+        end: CUT_0,
+    },
+    File {
+        bytes: b"AT&TFORM\0\0\0\x16DJVU",
+        events: &[PAGE_22],
+        data: b"",
+        last: WalkStep::NeedBytes,
+        end: CUT_0,
     },
     File {
         bytes: b"AT&TFORM\0\0\0\x16DJVUINFO\0",
-        events: &[FORM],
+        events: &[PAGE_22],
         data: b"",
         last: WalkStep::NeedBytes,
+        end: CUT_16,
     },
     File {
         bytes: b"FORM\0\0\0\x16DJVUINFO\0\0\0\x0Aten",
-        events: &[FORM, INFO_12, WalkStep::Data],
+        events: &[PAGE_22, INFO_12_OF_10, WalkStep::Data],
         data: b"ten",
         last: WalkStep::NeedBytes,
+        end: CUT_12,
     },
-    // A FORM of 23 bytes, another kind, an INFO of 11 bytes, and another identifier.
     File {
-        bytes: b"AT&TFORM\0\0\0\x17DJVUINFO\0\0\0\x0Aten bytes!",
+        bytes: b"FORM\0\0\0\x16DJVUSjbz\0\0\0\x01a",
+        events: &[PAGE_22, SJBZ_12_OF_1, WalkStep::Data, WalkStep::ChunkEnd],
+        data: b"a",
+        last: WalkStep::NeedBytes,
+        end: CUT_12,
+    },
+    File {
+        bytes: b"FORM\0\0\0\x16DJVUSjbz\0\0\0\x01a\xFF",
+        events: &[PAGE_22, SJBZ_12_OF_1, WalkStep::Data, WalkStep::ChunkEnd],
+        data: b"a",
+        last: WalkStep::NeedBytes,
+        end: CUT_22,
+    },
+    // Broken: no FORM, a length without room for the kind, one that is too large, a header that doesn't fit, an
+    // identifier with a byte that isn't printable, and data that don't fit.
+    File {
+        bytes: b"AT&TFARM\0\0\0\x16DJVU",
         events: &[],
         data: b"",
-        last: UNSUPPORTED,
+        last: NOT_FORM,
+        end: NOT_FORM,
     },
     File {
-        bytes: b"AT&TFORM\0\0\0\x16DJVIINFO\0\0\0\x0Aten bytes!",
+        bytes: b"FORM\0\0\0\x03DJV",
         events: &[],
         data: b"",
-        last: UNSUPPORTED,
+        last: NOT_FORM,
+        end: NOT_FORM,
     },
     File {
-        bytes: b"AT&TFORM\0\0\0\x16DJVUINFO\0\0\0\x0Bten bytes!",
-        events: &[FORM],
+        bytes: b"AT&TFORM\0\x1F\xFF\xF5",
+        events: &[],
         data: b"",
-        last: UNSUPPORTED,
+        last: TOO_LARGE,
+        end: TOO_LARGE,
     },
     File {
-        bytes: b"FORM\0\0\0\x16DJVUINCL\0\0\0\x0Aten bytes!",
-        events: &[FORM],
+        bytes: b"FORM\0\0\0\x0FDJVUANTz\0\0\0\0abc",
+        events: &[PAGE_15, ANTZ_12_OF_0, WalkStep::ChunkEnd],
         data: b"",
-        last: UNSUPPORTED,
+        last: SHORT_HEADER,
+        end: SHORT_HEADER,
+    },
+    File {
+        bytes: b"FORM\0\0\0\x0DDJVUB\x7F44\0\0\0\x02a",
+        events: &[PAGE_13],
+        data: b"",
+        last: BAD_ID,
+        end: BAD_ID,
     },
 ];
 
@@ -131,10 +199,10 @@ impl Walk {
         }
     }
 
-    /// Feeds a piece. After four events no other one comes.
+    /// Feeds a piece. After nine events no other one comes.
     fn feed(&mut self, piece: &[u8]) -> Result<(), AllocError> {
         let mut rest = piece;
-        for _ in 0..5 {
+        for _ in 0..10 {
             let (used, step) = self.walker.feed(rest);
             self.note(step, &rest[..used])?;
             rest = &rest[used..];
@@ -156,16 +224,13 @@ impl Walk {
         Ok(())
     }
 
-    /// Everything of the file was told, and nothing else; the last answer comes again, and uses nothing.
+    /// Everything of the file was told, and nothing else; so is its end, which is then answered again.
     fn check(&mut self, rt: &impl Abort, file: &File) {
         same_events(rt, self.events.as_slice(), file.events);
         same_data(rt, self.data.as_slice(), file.data);
         assert_eq!(rt; self.last, file.last);
-        if file.last == WalkStep::NeedBytes {
-            assert_eq!(rt; self.walker.feed(b""), (0, file.last));
-        } else {
-            assert_eq!(rt; self.walker.feed(b"FORM"), (0, file.last));
-        }
+        assert_eq!(rt; self.walker.end(), file.end);
+        assert_eq!(rt; self.walker.feed(b"FORM"), (0, file.end));
     }
 }
 

@@ -1,13 +1,15 @@
 -- The pages that have an INFO alone, by their events.
-use Rattle.std.proofs.Common.{◌≡◌, ℕ, Bool, true, false, ◌&&◌, cond, eqb, Some, None, Option, List, [], ◌∷◌, ◌++◌, length, refl, sym, ap, ◌∙◌, subst, arith, codes}
+use Rattle.std.proofs.Common.{◌≡◌, ℕ, ◌+◌, Bool, true, false, ◌&&◌, cond, eqb, Some, None, Option, List, [], ◌∷◌, ◌++◌, length, refl, sym, ap, ◌∙◌, subst, arith, codes}
 use Rattle.std.specs.Cmp.{first_so, second_so}
 use Rattle.std.specs.List.{flat_map}
 use Rattle.std.specs.Str.{bytes_eq}
 use Rattle.std.proofs.lemmas.Bool.{eqb-true, eq-eqb, true≢false}
 use Rattle.std.proofs.lemmas.Option.{cond_some}
 use Rattle.std.proofs.lemmas.Slice.Eq.{bytes_eq-Decides}
-use Rattle.iff_chunks.specs.Chunks.{Form, Chunk, Chunks, Tail, InHead, InHeader, InData, FormEnd, Broken, chunks_of}
+use Rattle.iff_chunks.specs.Chunks.{Form, Chunk, Chunks, Tail, InHead, InHeader, InData, InPad, FormEnd, Broken, chunks_of}
 use Rattle.iff_chunks.specs.Events.{Event, Begun, Header, Data, ChunkEnd, data_events, form_events, chunk_events, tail_events, events_of, GoesOn}
+use Rattle.iff_chunks.specs.FirstForm.{page_form, IsOneInfo}
+use Rattle.iff_chunks.specs.Layout.{Laid, IsLaidForm}
 use Rattle.viewer_run.specs.Page.{is_page_form, is_form_end, only_info, info_of}
 use Rattle.viewer_run.specs.Walk.{Follows, Lacks, page_told, info_told, data_told}
 
@@ -21,8 +23,9 @@ pub record HasInfo (chunks : Chunks) (info : List ℕ) : Type 0 where
 
 at_end : (tail : Tail) → is_form_end tail ≡ true → tail ≡ FormEnd
 at_end InHead e = absurd (true≢false (sym e))
-at_end InHeader e = absurd (true≢false (sym e))
+at_end (InHeader offset bytes) e = absurd (true≢false (sym e))
 at_end (InData chunk) e = absurd (true≢false (sym e))
+at_end (InPad offset is_last) e = absurd (true≢false (sym e))
 at_end FormEnd e = refl
 at_end (Broken kind offset) e = absurd (true≢false (sym e))
 
@@ -114,7 +117,7 @@ info_found chunks offset size info end all ten =
     let told = ap (λ t. form_events chunks.form ++ (flat_map chunk_events chunks.whole ++ tail_events t)) (sym end) ∙ all in
     ap (λ t. cond (is_page_form chunks.form && is_form_end t) (only_info chunks.whole) None) end ∙ form_told_back chunks.form chunks.whole offset size info told ten
 
-none_from : {A : Type 0} (o : Option A) → ((x : A) → o ≡ Some x → ⊥) → o ≡ None
+pub none_from : {A : Type 0} (o : Option A) → ((x : A) → o ≡ Some x → ⊥) → o ≡ None
 none_from None h = refl
 none_from (Some x) h = absurd (h x refl)
 
@@ -161,3 +164,33 @@ no_form_end_here file rest walker offset size bytes f lacks = no_info_of (chunks
 
 pub other_length : (file rest : List ℕ) (walker : _) (offset size : ℕ) (bytes : List ℕ) → Follows file (data_told offset size bytes) rest walker → (length bytes ≡ 10 → ⊥) → info_of (chunks_of file) ≡ None
 other_length file rest walker offset size bytes f other = no_info_of (chunks_of file) (λ info h. other (ap length (same_data offset size h.offset h.size bytes info (events_of (chunks_of file)) f.goes h.all) ∙ h.ten))
+
+-- its form and its chunks, where its data are laid out in the file
+pub one_info : (bytes info : List ℕ) → ((form : Form) → (chunks_of bytes).form ≡ Some form → IsLaidForm bytes form (chunks_of bytes).whole (chunks_of bytes).tail) → info_of (chunks_of bytes) ≡ Some info → IsOneInfo (chunks_of bytes)
+one_info bytes info laid e =
+    let chunks = chunks_of bytes in
+    let found = cond_option (is_page_form chunks.form && is_form_end chunks.tail) (only_info chunks.whole) info e in
+    let form = page_form_is chunks.form (first_so (is_page_form chunks.form) (is_form_end chunks.tail) found.0) in
+    let there = laid page_form form in
+    one_chunk_is bytes chunks.whole info (length there.front + 12) 18 chunks.tail there.after refl form found.1 there.body
+  where
+    page_form_is : (form : Option Form) → is_page_form form ≡ true → form ≡ Some page_form
+    page_form_is None e = absurd (true≢false (sym e))
+    page_form_is (Some form) e =
+        let kind : form.kind ≡ codes "DJVU" = (bytes_eq-Decides form.kind (codes "DJVU")).0 (first_so (bytes_eq form.kind (codes "DJVU")) (eqb form.size 22) e) in
+        let size : form.size ≡ 22 = eqb-true form.size 22 (second_so (bytes_eq form.kind (codes "DJVU")) (eqb form.size 22) e) in
+        ap (λ k. Some (record { kind = k; size = form.size })) kind ∙ ap (λ n. Some (record { kind = codes "DJVU"; size = n })) size
+    one_chunk_is : (bytes : List ℕ) (whole : List Chunk) (info : List ℕ) (offset left : ℕ) (tail : Tail) (after : List ℕ) → (chunks_of bytes).whole ≡ whole → (chunks_of bytes).form ≡ Some page_form → only_info whole ≡ Some info → Laid offset left whole tail after → IsOneInfo (chunks_of bytes)
+    one_chunk_is bytes [] info offset left tail after w form e l = cc
+    one_chunk_is bytes (chunk ∷ other ∷ more) info offset left tail after w form e l = cc
+    one_chunk_is bytes (chunk ∷ []) info offset left tail after w form e l =
+        let found = cond_some (bytes_eq chunk.id (codes "INFO") && eqb (length chunk.bytes) 10) chunk.bytes info e in
+        let id : chunk.id ≡ codes "INFO" = (bytes_eq-Decides chunk.id (codes "INFO")).0 (first_so (bytes_eq chunk.id (codes "INFO")) (eqb (length chunk.bytes) 10) found.0) in
+        let ten : length chunk.bytes ≡ 10 = eqb-true (length chunk.bytes) 10 (second_so (bytes_eq chunk.id (codes "INFO")) (eqb (length chunk.bytes) 10) found.0) in
+        let size : chunk.size ≡ 10 = sym l.3.data_size ∙ ten in
+        record {
+          offset = chunk.offset;
+          info = chunk.bytes;
+          form = form;
+          whole = w ∙ ap (λ i. record { id = i; offset = chunk.offset; size = chunk.size; bytes = chunk.bytes } ∷ []) id ∙ ap (λ n. record { id = codes "INFO"; offset = chunk.offset; size = n; bytes = chunk.bytes } ∷ []) size;
+        }

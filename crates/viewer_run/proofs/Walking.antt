@@ -16,11 +16,11 @@ use Rattle.viewer_run.specs.Walk.{Follows, page_told, info_told, data_told, is_p
 -- a walker was fed this piece
 pub record Feeds (before after : Stage) (rest : List ℕ) (used : ℕ) (answer : WalkStep) : Type 0 where
   pub told : (taken : List ℕ) (told : List Event) → Told taken told before → Told (taken ++ take used rest) (tell told answer (take used rest)) after
-  pub events : (taken more : List ℕ) (told : List Event) → Told taken told before → GoesOn (tell told answer (take used rest)) (events_of (chunks_of (taken ++ (rest ++ more))))
+  pub events : (taken more : List ℕ) (told : List Event) → Told taken told before → GoesOn (tell told answer (take used rest)) (events_of (chunks_of (taken ++ (take used rest ++ more))))
   pub ends : (taken more : List ℕ) (told : List Event) → Told taken told before → Ends answer told (chunks_of (taken ++ (take used rest ++ more)))
   pub needs : (taken : List ℕ) (told : List Event) → Told taken told before → answer ≡ step.NeedBytes → (used ≡ length rest) × (events_of (chunks_of (taken ++ rest)) ≡ told) × IsOpen (chunks_of (taken ++ rest)).tail
   pub some_data : answer ≡ step.Data → 0 < used
-  pub all_data : (taken more : List ℕ) (told : List Event) → Told taken told before → answer ≡ step.Data → (used ≡ length rest) ⊎ GoesOn (tell told answer (take used rest) ++ ChunkEnd ∷ []) (events_of (chunks_of (taken ++ (rest ++ more))))
+  pub all_data : (taken more : List ℕ) (told : List Event) → Told taken told before → answer ≡ step.Data → (used ≡ length rest) ⊎ GoesOn (tell told answer (take used rest) ++ ChunkEnd ∷ []) (events_of (chunks_of (taken ++ (take used rest ++ more))))
   pub within : used ≤ length rest
 
 -- what an answer says of a file that is fed whole
@@ -31,10 +31,10 @@ pub record Answers (told : List Event) (answer : WalkStep) (bytes : List ℕ) (c
 
 pub answers : (file rest : List ℕ) (told : List Event) (before after : Stage) (used : ℕ) (answer : WalkStep) → Follows file told rest before → Feeds before after rest used answer → Answers told answer (take used rest) (chunks_of file)
 answers file rest told before after used answer f g =
-    let whole : f.taken ++ (rest ++ []) ≡ file = ap (λ r. f.taken ++ r) (append-nil rest) ∙ sym f.parts in
+    let whole : f.taken ++ (take used rest ++ drop used rest) ≡ file = ap (λ r. f.taken ++ r) (take-append-drop used rest) ∙ sym f.parts in
     record {
-      events = subst (λ b. GoesOn (tell told answer (take used rest)) (events_of (chunks_of b))) whole (g.events f.taken [] told f.so_far);
-      ends = subst (λ b. Ends answer told (chunks_of b)) (ap (λ r. f.taken ++ r) (take-append-drop used rest) ∙ sym f.parts) (g.ends f.taken (drop used rest) told f.so_far);
+      events = subst (λ b. GoesOn (tell told answer (take used rest)) (events_of (chunks_of b))) whole (g.events f.taken (drop used rest) told f.so_far);
+      ends = subst (λ b. Ends answer told (chunks_of b)) whole (g.ends f.taken (drop used rest) told f.so_far);
       needs = λ e. subst (λ b. IsOpen (chunks_of b).tail) (sym f.parts) (g.needs f.taken told f.so_far e).2;
     }
 
@@ -193,10 +193,10 @@ no_more told used o s (a ∷ b ∷ e ∷ events) g h =
 pub data_once : (file rest next : List ℕ) (offset size : ℕ) (before mid after : Stage) (used now : ℕ) → Follows file (info_told offset size) rest before → Feeds before mid rest used step.Data → next ≡ drop used rest → Feeds mid after next now step.Data → ⊥
 data_once file rest next o s before mid after used now f g n h =
     let part = take used rest in
-    let whole : f.taken ++ (rest ++ []) ≡ file = ap (λ r. f.taken ++ r) (append-nil rest) ∙ sym f.parts in
+    let whole : f.taken ++ (take used rest ++ drop used rest) ≡ file = ap (λ r. f.taken ++ r) (take-append-drop used rest) ∙ sym f.parts in
     let there = goes_on file rest next (info_told o s) (info_told o s ++ Data part ∷ []) before mid used step.Data f g refl n in
     let again = (answers file next (info_told o s ++ Data part ∷ []) mid after now step.Data there h).events in
-    elim (g.all_data f.taken [] (info_told o s) f.so_far refl) [
+    elim (g.all_data f.taken (drop used rest) (info_told o s) f.so_far refl) [
       | inl e ↦
           let none : length next ≡ 0 = omega (arith, ap length n, length-drop used rest, e) in
           absurd (omega (arith, none, h.within, h.some_data refl))

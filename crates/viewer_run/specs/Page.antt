@@ -2,7 +2,7 @@
 use Rattle.std.specs.Prelude.{ℕ, Bool, true, false, ◌*◌, ◌&&◌, ◌==◌, List, [], ◌∷◌, length, drop, replicate, Option, Some, None, codes, bytes_eq, nat_lt, nat_le, if◌then◌else◌}
 use Rattle.byteorder.specs.Endian.{big_number}
 use Rattle.djvu_base.specs.declared.faults.FaultKind.TheVariants.{Truncated, Unsupported}
-use Rattle.iff_chunks.specs.Chunks.{Form, Chunk, Chunks, Tail, InHead, InHeader, InData, FormEnd, Broken, chunks_of}
+use Rattle.iff_chunks.specs.Chunks.{Form, Chunk, Chunks, Tail, InHead, InHeader, InData, InPad, FormEnd, Broken, chunks_of}
 use Rattle.viewer_run.specs.declared.page.Size.{Size}
 use Rattle.viewer_run.specs.declared.page.Page.{Page}
 use Rattle.viewer_run.specs.declared.page.Page.TheVariants.{Blank, Refused}
@@ -26,8 +26,9 @@ is_page_form (Some form) = bytes_eq form.kind (codes "DJVU") && form.size == 22
 
 abbrev pub is_form_end : Tail → Bool
 is_form_end InHead = false
-is_form_end InHeader = false
+is_form_end (InHeader offset bytes) = false
 is_form_end (InData chunk) = false
+is_form_end (InPad offset is_last) = false
 is_form_end FormEnd = true
 is_form_end (Broken kind offset) = false
 

@@ -21,6 +21,7 @@ pub fn pages()
     ensures other { (byte : ℕ) (bytes : List ℕ) → (IsFirstForm (byte ∷ bytes) → ⊥) → page_of (byte ∷ bytes) ≡ Refused Unsupported }
 {
     iff_chunks::first_form();
+    iff_chunks::layout();
 }
 
 /// The sum that the line of a blank page tells is that of its samples.

@@ -10,5 +10,8 @@ returns-clause-broken c bytes more kind offset e = (chunks_stay bytes more).brok
 pub returns-clause-form : goal.returns-clause-form
 returns-clause-form c bytes more form e = (chunks_stay bytes more).form form e
 
+pub returns-clause-whole : goal.returns-clause-whole
+returns-clause-whole c bytes more = ((chunks_stay bytes more).later, (chunks_stay bytes more).chunks)
+
 pub returns-clause-events : goal.returns-clause-events
 returns-clause-events c bytes more = (chunks_stay bytes more).events

@@ -1,87 +1,126 @@
-use Rattle.std.proofs.Common.{append_assoc, ◌≡◌, ℕ, List, [], ◌∷◌, ◌++◌, ◌⊎◌, length, take, drop, sym, ap, ◌∙◌, subst, inl, inr}
+use Rattle.std.proofs.Common.{append_assoc, refl, ◌+◌, ◌≡◌, ◌≢◌, ℕ, ◌<◌, List, [], ◌∷◌, ◌++◌, ◌⊎◌, length, take, drop, sym, ap, ◌∙◌, subst, inl, inr, arith}
+use Rattle.std.proofs.lemmas.List.{take-append-drop, length-take-le}
 use Rattle.std.proofs.Math.Seq.{take-length}
+use Rattle.iff_chunks.specs.declared.walker.WalkStep.{WalkStep}
 use Rattle.iff_chunks.specs.declared.walker.WalkStep.TheVariants as step
 use Rattle.iff_chunks.specs.declared.stages.Stage.{Stage}
 use Rattle.iff_chunks.specs.declared.stages.Stage.TheVariants as stage
 use Rattle.iff_chunks.specs.declared.stages.Fed.{Fed}
 use Rattle.iff_chunks.specs.Chunks.{chunks_of}
-use Rattle.iff_chunks.specs.Events.{Event, ChunkEnd, events_of, tell, GoesOn, Ends, IsOpen}
-use Rattle.iff_chunks.specs.Told.{Told, Stands, Feeds, Fits}
-use Rattle.iff_chunks.proofs.Telling.{stands_goes_on, answer_ends, within_told, there_ends, parted, AllTold}
-use Rattle.iff_chunks.proofs.Staying.{stays_ended, stays_broken}
+use Rattle.iff_chunks.specs.Events.{Event, ChunkEnd, events_of, tell, GoesOn, Ends, IsOpen, IsLast}
+use Rattle.iff_chunks.specs.Told.{Told, Over, Stands, Stays, Feeds, Fits, IsDataEnd, AllTold, quiet_until}
+use Rattle.iff_chunks.proofs.Telling.{stands_goes_on, answer_ends, data_ends, only_needs}
 use Rattle.iff_chunks.proofs.walker.Walker.feed.Goals as goal
-
--- where the walker stands after the piece
-stands : (from now : Stage) (piece : List ℕ) (fed : Fed) (taken : List ℕ) (told : List Event) → from ≡ now → Feeds from piece fed → Told taken told now → Stands fed.stage (taken ++ take fed.used piece) (tell told fed.step (take fed.used piece))
-unfolding Told
-stands from now piece fed taken told view f t = f.told taken told (subst (λ p. Stands p taken told) (sym view) t)
-
-pub returns-clause-told : goal.returns-clause-told
-unfolding Told
-returns-clause-told c taken told t = stands c.self.inside.stage c.args.self.now c.args.piece.now c.feed-fed.result taken told c.self.view_is c.feed-fed.ensures t
-
-pub returns-clause-events : goal.returns-clause-events
-returns-clause-events c taken after told t =
-    let fed = c.feed-fed.result in
-    let piece = c.args.piece.now in
-    let there = stands c.self.inside.stage c.args.self.now piece fed taken told c.self.view_is c.feed-fed.ensures t in
-    subst (λ bytes. GoesOn (tell told fed.step (take fed.used piece)) (events_of (chunks_of bytes))) (parted taken piece after fed.used) (stands_goes_on fed.stage _ _ (drop fed.used piece ++ after) there)
-
--- a last answer tells nothing
-ends_after : (answer : _) (place : Stage) (used size : ℕ) (taken bytes : List ℕ) (told : List Event) (more : List ℕ) → Fits answer place used size → Stands place taken (tell told answer bytes) → Ends answer told (chunks_of (taken ++ more))
-ends_after (step.Form kind length) place used size taken bytes told more f s = tt
-ends_after (step.Header id offset length) place used size taken bytes told more f s = tt
-ends_after step.Data place used size taken bytes told more f s = tt
-ends_after step.ChunkEnd place used size taken bytes told more f s = tt
-ends_after step.NeedBytes place used size taken bytes told more f s = tt
-ends_after step.FormEnd place used size taken bytes told more f s = answer_ends step.FormEnd place used size taken told more f s
-ends_after (step.Broken kind offset) place used size taken bytes told more f s = answer_ends (step.Broken kind offset) place used size taken told more f s
-
-pub returns-clause-ends : goal.returns-clause-ends
-returns-clause-ends c taken after told t =
-    let fed = c.feed-fed.result in
-    let piece = c.args.piece.now in
-    let there = stands c.self.inside.stage c.args.self.now piece fed taken told c.self.view_is c.feed-fed.ensures t in
-    subst (λ bytes. Ends fed.step told (chunks_of bytes)) (append_assoc taken (take fed.used piece) after) (ends_after fed.step fed.stage fed.used (length piece) _ _ told after c.feed-fed.ensures.fits there)
-
-needs_all : (fed : Fed) (taken piece : List ℕ) (told : List Event) → fed.step ≡ step.NeedBytes → Fits fed.step fed.stage fed.used (length piece) → Stands fed.stage (taken ++ take fed.used piece) (tell told fed.step (take fed.used piece)) → (fed.used ≡ length piece) × (events_of (chunks_of (taken ++ piece)) ≡ told) × IsOpen (chunks_of (taken ++ piece)).tail
-needs_all fed taken piece told e f s =
-    let fits : Fits step.NeedBytes fed.stage fed.used (length piece) = subst (λ a. Fits a fed.stage fed.used (length piece)) e f in
-    let there : Stands fed.stage (taken ++ take fed.used piece) told = subst (λ a. Stands fed.stage (taken ++ take fed.used piece) (tell told a (take fed.used piece))) e s in
-    let bytes : take fed.used piece ≡ piece = ap (λ n. take n piece) fits.0 ∙ take-length piece in
-    let all : AllTold (taken ++ piece) told = within_told fed.stage (taken ++ piece) told fits.1 (subst (λ b. Stands fed.stage (taken ++ b) told) bytes there) in
-    (fits.0, all.all, all.more)
-
-pub returns-clause-needs : goal.returns-clause-needs
-returns-clause-needs c taken told t e =
-    needs_all c.feed-fed.result taken c.args.piece.now told e c.feed-fed.ensures.fits (stands c.self.inside.stage c.args.self.now c.args.piece.now c.feed-fed.result taken told c.self.view_is c.feed-fed.ensures t)
-
-pub returns-clause-some_data : goal.returns-clause-some_data
-returns-clause-some_data c e = (subst (λ a. Fits a c.feed-fed.result.stage c.feed-fed.result.used (length c.args.piece.now)) e c.feed-fed.ensures.fits).0
-
-all_told : (fed : Fed) (taken piece after : List ℕ) (told : List Event) → (fed.used ≡ length piece) ⊎ (fed.stage ≡ stage.DataEnd) → Stands fed.stage (taken ++ take fed.used piece) (tell told fed.step (take fed.used piece)) → (fed.used ≡ length piece) ⊎ GoesOn (tell told fed.step (take fed.used piece) ++ ChunkEnd ∷ []) (events_of (chunks_of (taken ++ (piece ++ after))))
-all_told fed taken piece after told (inl e) s = inl e
-all_told fed taken piece after told (inr e) s =
-    let told_now = tell told fed.step (take fed.used piece) in
-    inr (subst (λ bytes. GoesOn (told_now ++ ChunkEnd ∷ []) (events_of (chunks_of bytes))) (parted taken piece after fed.used)
-    (there_ends (taken ++ take fed.used piece) told_now (drop fed.used piece ++ after) (subst (λ p. Stands p (taken ++ take fed.used piece) told_now) e s)))
-
-pub returns-clause-all_data : goal.returns-clause-all_data
-returns-clause-all_data c taken after told t e =
-    let fits = (subst (λ a. Fits a c.feed-fed.result.stage c.feed-fed.result.used (length c.args.piece.now)) e c.feed-fed.ensures.fits).1 in
-    all_told c.feed-fed.result taken c.args.piece.now after told fits (stands c.self.inside.stage c.args.self.now c.args.piece.now c.feed-fed.result taken told c.self.view_is c.feed-fed.ensures t)
 
 -- where the walker stood before the piece
 stood : (from now : Stage) (taken : List ℕ) (told : List Event) → from ≡ now → Told taken told now → Stands from taken told
 unfolding Told
 stood from now taken told view t = subst (λ p. Stands p taken told) (sym view) t
 
-pub returns-clause-stays_ended : goal.returns-clause-stays_ended
-returns-clause-stays_ended c taken told t all e =
-    let same = stays_ended c.self.inside.stage taken told c.feed-fed.result c.feed-fed.ensures.stays (stood c.self.inside.stage c.args.self.now taken told c.self.view_is t) all e in
-    ap (λ n. (n, c.feed-fed.result.step)) same.0 ∙ ap (λ s. (0, s)) same.1
+-- where the walker stands after the piece
+stands : (from now : Stage) (piece : List ℕ) (fed : Fed) (taken : List ℕ) (told : List Event) → from ≡ now → Feeds from piece fed → Told taken told now → Stands fed.stage (taken ++ take fed.used piece) (tell told fed.step (take fed.used piece))
+stands from now piece fed taken told view f t = f.told taken told (stood from now taken told view t)
 
-pub returns-clause-stays_broken : goal.returns-clause-stays_broken
-returns-clause-stays_broken c taken told kind offset t all e =
-    let same = stays_broken c.self.inside.stage taken told c.feed-fed.result kind offset c.feed-fed.ensures.stays (stood c.self.inside.stage c.args.self.now taken told c.self.view_is t) e in
-    ap (λ n. (n, c.feed-fed.result.step)) same.0 ∙ ap (λ s. (0, s)) same.1
+pub returns-clause-told : goal.returns-clause-told
+unfolding Told
+returns-clause-told c taken told t = stands c.self.inside.stage c.args.self.now c.args.piece.now c.feed-fed.result taken told c.self.view_is c.feed-fed.ensures t
+
+goes : (from now : Stage) (piece : List ℕ) (fed : Fed) (taken after : List ℕ) (told : List Event) → from ≡ now → Feeds from piece fed → Told taken told now → GoesOn (tell told fed.step (take fed.used piece)) (events_of (chunks_of (taken ++ (take fed.used piece ++ after))))
+goes from now piece fed taken after told view f t =
+    subst (λ bytes. GoesOn (tell told fed.step (take fed.used piece)) (events_of (chunks_of bytes))) (append_assoc taken (take fed.used piece) after)
+    (stands_goes_on fed.stage (taken ++ take fed.used piece) _ after (stands from now piece fed taken told view f t))
+
+pub returns-clause-events : goal.returns-clause-events
+returns-clause-events c taken after told t = goes c.self.inside.stage c.args.self.now c.args.piece.now c.feed-fed.result taken after told c.self.view_is c.feed-fed.ensures t
+
+last : (from now : Stage) (piece : List ℕ) (fed : Fed) (taken after : List ℕ) (told : List Event) → from ≡ now → Feeds from piece fed → Told taken told now → Ends fed.step told (chunks_of (taken ++ (take fed.used piece ++ after)))
+last from now piece fed taken after told view f t =
+    subst (λ bytes. Ends fed.step told (chunks_of bytes)) (append_assoc taken (take fed.used piece) after)
+    (answer_ends fed.step fed.stage fed.used (length piece) (taken ++ take fed.used piece) (take fed.used piece) told after f.fits (stands from now piece fed taken told view f t))
+
+pub returns-clause-ends : goal.returns-clause-ends
+returns-clause-ends c taken after told t = last c.self.inside.stage c.args.self.now c.args.piece.now c.feed-fed.result taken after told c.self.view_is c.feed-fed.ensures t
+
+needs_all : (from : Stage) (fed : Fed) (taken piece : List ℕ) (told : List Event) → fed.step ≡ step.NeedBytes → Feeds from piece fed → Stands from taken told → (fed.used ≡ length piece) × (events_of (chunks_of (taken ++ piece)) ≡ told) × IsOpen (chunks_of (taken ++ piece)).tail
+needs_all from fed taken piece told e f s =
+    let used : fed.used ≡ length piece = subst (λ a. Fits a fed.stage fed.used (length piece)) e f.fits in
+    let few : length piece < quiet_until fed.step fed.used = subst (λ a. length piece < quiet_until a fed.used) (sym e) (omega (arith, used)) in
+    let all : AllTold (taken ++ piece) told = subst (λ p. AllTold (taken ++ p) told) (take-length piece) (f.quiet taken told (length piece) s few) in
+    (used, all.all, all.more)
+
+pub returns-clause-needs : goal.returns-clause-needs
+returns-clause-needs c taken told t e = needs_all c.self.inside.stage c.feed-fed.result taken c.args.piece.now told e c.feed-fed.ensures (stood c.self.inside.stage c.args.self.now taken told c.self.view_is t)
+
+some_used : (fed : Fed) (piece : List ℕ) → Fits fed.step fed.stage fed.used (length piece) → fed.step ≡ step.Data → 0 < fed.used
+some_used fed piece f e = (subst (λ a. Fits a fed.stage fed.used (length piece)) e f).0
+
+pub returns-clause-only_then : goal.returns-clause-only_then
+returns-clause-only_then c taken told t all more =
+    let from = c.self.inside.stage in
+    let fed = c.feed-fed.result in
+    let piece = c.args.piece.now in
+    let f = c.feed-fed.ensures in
+    let whole = ap (λ p. taken ++ p) (take-append-drop fed.used piece) in
+    only_needs fed.step (take fed.used piece) told (taken ++ piece) (λ e. omega (arith, some_used fed piece f.fits e, length-take-le fed.used piece f.within))
+    (subst (λ b. GoesOn (tell told fed.step (take fed.used piece)) (events_of (chunks_of b))) whole (goes from c.args.self.now piece fed taken (drop fed.used piece) told c.self.view_is f t))
+    (subst (λ b. Ends fed.step told (chunks_of b)) whole (last from c.args.self.now piece fed taken (drop fed.used piece) told c.self.view_is f t))
+    all more
+
+pub returns-clause-some_data : goal.returns-clause-some_data
+returns-clause-some_data c e = some_used c.feed-fed.result c.args.piece.now c.feed-fed.ensures.fits e
+
+all_told : (fed : Fed) (taken piece after : List ℕ) (told : List Event) → (fed.used ≡ length piece) ⊎ IsDataEnd fed.stage → Stands fed.stage (taken ++ take fed.used piece) (tell told fed.step (take fed.used piece)) → (fed.used ≡ length piece) ⊎ GoesOn (tell told fed.step (take fed.used piece) ++ ChunkEnd ∷ []) (events_of (chunks_of (taken ++ (take fed.used piece ++ after))))
+all_told fed taken piece after told (inl e) s = inl e
+all_told fed taken piece after told (inr d) s =
+    inr (subst (λ bytes. GoesOn (tell told fed.step (take fed.used piece) ++ ChunkEnd ∷ []) (events_of (chunks_of bytes))) (append_assoc taken (take fed.used piece) after)
+    (data_ends fed.stage (taken ++ take fed.used piece) (tell told fed.step (take fed.used piece)) after d s))
+
+pub returns-clause-all_data : goal.returns-clause-all_data
+returns-clause-all_data c taken after told t e =
+    let fits = (subst (λ a. Fits a c.feed-fed.result.stage c.feed-fed.result.used (length c.args.piece.now)) e c.feed-fed.ensures.fits).1 in
+    all_told c.feed-fed.result taken c.args.piece.now after told fits (stands c.self.inside.stage c.args.self.now c.args.piece.now c.feed-fed.result taken told c.self.view_is c.feed-fed.ensures t)
+
+quiet_used : (answer : WalkStep) (used fewer : ℕ) → answer ≢ step.Data → fewer < used → fewer < quiet_until answer used
+quiet_used (step.Form kind length) used fewer d h = h
+quiet_used (step.Header id offset length) used fewer d h = h
+quiet_used step.Data used fewer d h = absurd (d refl)
+quiet_used step.ChunkEnd used fewer d h = h
+quiet_used step.NeedBytes used fewer d h = omega arith
+quiet_used step.FormEnd used fewer d h = h
+quiet_used (step.Broken kind offset) used fewer d h = h
+
+pub returns-clause-no_later : goal.returns-clause-no_later
+returns-clause-no_later c taken told fewer t no_data few =
+    let fed = c.feed-fed.result in
+    let all = c.feed-fed.ensures.quiet taken told fewer (stood c.self.inside.stage c.args.self.now taken told c.self.view_is t) (quiet_used fed.step fed.used fewer no_data few) in
+    (all.all, all.more)
+
+over_now : (answer : WalkStep) (place : Stage) (used size : ℕ) → Fits answer place used size → IsLast answer → Over answer place
+unfolding Over
+over_now step.FormEnd place used size f l = f
+over_now (step.Broken kind offset) place used size f l = f
+over_now (step.Form kind length) place used size f l = l
+over_now (step.Header id offset length) place used size f l = l
+over_now step.Data place used size f l = l
+over_now step.ChunkEnd place used size f l = l
+over_now step.NeedBytes place used size f l = l
+
+pub returns-clause-over : goal.returns-clause-over
+returns-clause-over c l = over_now c.feed-fed.result.step c.feed-fed.result.stage c.feed-fed.result.used (length c.args.piece.now) c.feed-fed.ensures.fits l
+
+stays_over : (answer : WalkStep) (from now : Stage) (fed : Fed) → from ≡ now → Stays from fed → Over answer now → ◌≡◌ {A = ℕ × WalkStep} (fed.used, fed.step) (0, answer) × Over answer fed.stage
+unfolding Over
+stays_over step.FormEnd from now fed view s o =
+    let same = subst (λ p. Stays p fed) (view ∙ o) s in
+    (ap (λ f. (f.used, f.step)) same, ap (λ f. f.stage) same)
+stays_over (step.Broken kind offset) from now fed view s o =
+    let same = subst (λ p. Stays p fed) (view ∙ o) s in
+    (ap (λ f. (f.used, f.step)) same, ap (λ f. f.stage) same)
+stays_over (step.Form kind length) from now fed view s o = absurd o
+stays_over (step.Header id offset length) from now fed view s o = absurd o
+stays_over step.Data from now fed view s o = absurd o
+stays_over step.ChunkEnd from now fed view s o = absurd o
+stays_over step.NeedBytes from now fed view s o = absurd o
+
+pub returns-clause-stays : goal.returns-clause-stays
+returns-clause-stays c answer o = stays_over answer c.self.inside.stage c.args.self.now c.feed-fed.result c.self.view_is c.feed-fed.ensures.stays o

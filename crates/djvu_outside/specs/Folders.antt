@@ -70,3 +70,16 @@ unopened path = record { path = path; opened = None; faults = 0 }
 abbrev pub with_slash : List ℕ → List ℕ
 with_slash [] = []
 with_slash (byte ∷ bytes) = (byte ∷ bytes) ++ codes "/"
+
+-- a folder in memory that never fails
+pub record SureFiles : Type 0 where
+  pub files : Files
+  pub opened : Option Opened
+
+abbrev pub new_sure : Files → SureFiles
+new_sure files = record { files = files; opened = None }
+
+-- what is true of it
+pub record IsSureFolder (files : Files) (opened : Option Place) : Type 0 where
+  pub ascending : IsAscending (names_of files)
+  pub open_file : IsOpen files opened

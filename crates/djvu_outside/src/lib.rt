@@ -17,6 +17,8 @@ mod orders;
 mod real_folder;
 mod real_sink;
 mod sink;
+mod sure_folder;
+mod sure_sink;
 #[cfg(test)]
 mod tests;
 
@@ -28,3 +30,5 @@ pub use memory_files::MemoryFolder;
 pub use real_folder::DirFolder;
 pub use real_sink::WriteSink;
 pub use sink::Sink;
+pub use sure_folder::SureFolder;
+pub use sure_sink::SureSink;

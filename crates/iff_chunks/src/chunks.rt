@@ -55,7 +55,7 @@ fn begun(place: ChunkPlace, header: &[u8], used: usize) -> Fed
         stage: with_data(chunk),
         step: WalkStep::Header {
             id: four(id),
-            offset: place.offset,
+            offset: chunk.offset,
             length,
         },
     }

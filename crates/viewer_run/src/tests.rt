@@ -1,6 +1,10 @@
+ghost use Rattle.std.specs.Prelude.{IfSome};
+ghost use Rattle.djvu_base.specs.Name.{IsAscending};
+ghost use Rattle.djvu_base.specs.Library.{names_of};
+
 use crate::run;
 use djvu_base::{CountMeter, Items, Name};
-use djvu_outside::{MemoryFolder, MemorySink};
+use djvu_outside::{MemoryFolder, MemorySink, SureFolder, SureSink};
 use std::alloc::Global;
 use std::process::Abort;
 
@@ -51,12 +55,18 @@ fn words_of(alloc: Global, words: &[&[u8]]) -> Option<Vec<Items<u8>>> {
     Some(list)
 }
 
-/// A folder that has this one file `p`.
-fn folder_of(alloc: Global, page: &[u8], failing: Option<u64>) -> Option<MemoryFolder> {
+/// This one file, `p`.
+fn files_of(alloc: Global, page: &[u8]) -> Option<Vec<(Name, Items<u8>)>>
+    ensures { IfSome result (λ files. IsAscending (names_of files.items)) }
+{
     let name = Name::read(alloc, b"p".as_slice()).ok()??;
     let bytes = Vec::from_slice(alloc, page).ok()?;
-    let file = (name, Items::of(bytes));
-    let files = Vec::from_array(alloc, [file]).ok()?;
+    Vec::from_array(alloc, [(name, Items::of(bytes))]).ok()
+}
+
+/// A folder that has this one file `p`.
+fn folder_of(alloc: Global, page: &[u8], failing: Option<u64>) -> Option<MemoryFolder> {
+    let files = files_of(alloc, page)?;
     MemoryFolder::new(alloc, files, list_of(alloc, failing)?).ok()
 }
 
@@ -240,4 +250,32 @@ fn failing_calls(rt: HostRuntime) {
         let outcome = outcome_of(rt.alloc(), BLANK, words, failing);
         expect_outcome(&rt, outcome, status, out, report, number);
     }
+}
+
+/// Runs `draw p` over a folder and sinks that never fail.
+fn sure_outcome(alloc: Global) -> Option<Outcome> {
+    let words = words_of(alloc, &[b"draw", b"p"])?;
+    let mut folder = SureFolder::new(alloc, files_of(alloc, BLANK)?);
+    let mut out = SureSink::new(alloc);
+    let mut report = SureSink::new(alloc);
+    let mut meter = CountMeter::new();
+    let status = run(
+        alloc,
+        words.as_slice(),
+        &mut folder,
+        &mut out,
+        &mut report,
+        &mut meter,
+    );
+    Some(Outcome {
+        status: status.0,
+        out: Vec::from_slice(alloc, out.bytes()).ok()?,
+        report: Vec::from_slice(alloc, report.bytes()).ok()?,
+        ticks: meter.count(),
+    })
+}
+
+#[test]
+fn a_page_is_drawn_where_nothing_can_fail(rt: HostRuntime) {
+    expect_outcome(&rt, sure_outcome(rt.alloc()), 0, RASTER, LINE, 0);
 }

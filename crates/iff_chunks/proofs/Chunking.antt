@@ -1,28 +1,24 @@
 -- How a walker goes on over the FORM's chunks.
-use Rattle.std.proofs.Common.{◌≡◌, ◌≢◌, ℕ, ◌+◌, ◌-◌, ◌*◌, ◌^◌, ◌<◌, ◌≤◌, Bool, true, false, cond, Option, Some, None, List, [], ◌∷◌, ◌++◌, eqb, ltb, length, take, drop, refl, sym, ap, ◌∙◌, subst, inl, inr, arith, append_assoc}
-use Rattle.std.specs.List.{flat_map, list_all}
-use Rattle.std.specs.Cmp.{first_so, second_so}
-use Rattle.std.proofs.lemmas.Bool.{lt-ltb, le-ltb, ltb-true, ltb-false, eqb-true, eqb-false, ne_eqb, true≢false}
-use Rattle.std.proofs.lemmas.List.{append-nil, length-append, length-drop, length-take, length-take-le, take-append-le, drop-append-le}
+use Rattle.std.proofs.Common.{◌≡◌, ◌≢◌, ℕ, ◌+◌, ◌-◌, ◌<◌, ◌≤◌, Bool, true, false, cond, Option, Some, None, List, [], ◌∷◌, ◌++◌, eqb, ltb, length, take, drop, refl, sym, ap, ◌∙◌, subst, arith}
+use Rattle.std.specs.List.{list_all}
+use Rattle.std.proofs.lemmas.Bool.{lt-ltb, le-ltb, ltb-false, eqb-true, eqb-false, ne_eqb}
+use Rattle.std.proofs.lemmas.List.{append-nil, length-append, length-drop, take-append-le, drop-append-le}
 use Rattle.std.proofs.Math.Seq.{take-length}
 use Rattle.byteorder.specs.Endian.{big_number}
 use Rattle.djvu_base.specs.declared.faults.FaultKind.{FaultKind}
 use Rattle.djvu_base.specs.declared.faults.FaultKind.TheVariants.{ShortHeader, BadId, Overrun}
-use Rattle.iff_chunks.specs.declared.walker.WalkStep.{WalkStep}
 use Rattle.iff_chunks.specs.declared.walker.WalkStep.TheVariants as step
-use Rattle.iff_chunks.specs.declared.stages.Fed.{Fed}
 use Rattle.iff_chunks.specs.declared.stages.ChunkPlace.{ChunkPlace}
 use Rattle.iff_chunks.specs.declared.stages.OpenChunk.{OpenChunk}
-use Rattle.iff_chunks.specs.declared.stages.Stage.{Stage}
 use Rattle.iff_chunks.specs.declared.stages.Stage.TheVariants as stage
 use Rattle.iff_chunks.specs.declared.gathering.Gathered.{Gathered}
 use Rattle.iff_chunks.specs.Gathering.{gathered}
-use Rattle.iff_chunks.specs.Chunks.{Chunk, Chunks, Rest, Tail, Found, Behind, Stops, Has, Waits, On, InHeader, InData, InPad, FormEnd, Broken, chunks_of, in_form, found_at, found_so, behind_so, whole_header, header_at, header_fault, data_at, behind_data, pad_at, is_padded, is_id_byte, rest_at}
-use Rattle.iff_chunks.specs.Events.{Event, Header, ChunkEnd, data_events, chunk_events, open_events, tail_events, events_of, with_data, tell}
-use Rattle.iff_chunks.specs.Told.{InForm, AtChunk, InChunk, BehindData, BeforePad, IsSettled, IsGathering, IsPlace, IsChunk, IsSound, AllTold, IsDataEnd, Stands, Feeds, Stays, told_of, behind_chunks, chunk_of, is_none_of, opened_by, data_stage, header_fed, begun}
+use Rattle.iff_chunks.specs.Chunks.{Chunk, Rest, Tail, Stops, Has, InHeader, InData, FormEnd, Broken, in_form, found_at, found_so, whole_header, header_at, header_fault, data_at, behind_data, is_id_byte, rest_at}
+use Rattle.iff_chunks.specs.Events.{Event, Header, open_events, tail_events}
+use Rattle.iff_chunks.specs.Told.{InForm, AtChunk, IsSettled, IsPlace, IsChunk, IsSound, AllTold, Stands, Feeds, told_of, behind_chunks, chunk_of, opened_by, header_fed, begun}
 use Rattle.iff_chunks.proofs.Fuel.{rest_found}
-use Rattle.iff_chunks.proofs.Going.{rest_events, in_form_events, with_more, told_more, told_whole}
-use Rattle.iff_chunks.proofs.Moving.{cond_true, cond_false, take_front, drop_front, gathers, in_form_moved, in_form_quiet, Leads, feeds_more}
+use Rattle.iff_chunks.proofs.Going.{rest_events, in_form_events, told_more}
+use Rattle.iff_chunks.proofs.Moving.{cond_true, cond_false, take_front, drop_front, gathers, in_form_moved, in_form_quiet, feeds_more}
 use Rattle.iff_chunks.proofs.Heading.{Filled, all_used, used_within, whole_length_of, still_short}
 
 -- the chunks go on as something else says the same
@@ -130,8 +126,8 @@ with_header : (place : ChunkPlace) (got now : Gathered) (piece : List ℕ) (used
 with_header place got now piece used taken told f enough room s =
     in_form_same (taken ++ take used piece) told s.whole [] _ _ (in_form_moved taken told s.whole [] (λ m. rest_at place.offset place.left (gathered got ++ m)) (take used piece) s.in_form)
     (λ more.
-        ap (rest_at place.offset place.left) (gathers (gathered got) (gathered now) (take used piece) more f.bytes)
-        ∙ found_header place.offset place.left (gathered now) more room (whole_length_of got now piece used 8 f enough))
+    ap (rest_at place.offset place.left) (gathers (gathered got) (gathered now) (take used piece) more f.bytes)
+    ∙ found_header place.offset place.left (gathered now) more room (whole_length_of got now piece used 8 f enough))
 
 -- a header without a fault fits into the FORM
 pub header_fits : (id : List ℕ) (size left : ℕ) → header_fault id size left ≡ None → size ≤ left

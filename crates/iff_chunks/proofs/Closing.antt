@@ -1,5 +1,5 @@
 -- What a file is whose bytes end where a walker stands.
-use Rattle.std.proofs.Common.{◌≡◌, ◌≢◌, ℕ, ◌+◌, ◌-◌, ◌<◌, ◌≤◌, zero, suc, Bool, true, false, cond, ◌&&◌, List, [], ◌∷◌, ◌++◌, ◌⊎◌, inl, inr, eqb, length, take, drop, refl, sym, ap, ◌∙◌, subst, arith}
+use Rattle.std.proofs.Common.{◌≡◌, ◌≢◌, ℕ, ◌+◌, ◌<◌, ◌≤◌, Bool, true, false, cond, ◌&&◌, List, [], ◌∷◌, ◌++◌, ◌⊎◌, inl, inr, eqb, length, drop, refl, sym, ap, ◌∙◌, subst, arith}
 use Rattle.std.proofs.lemmas.Bool.{ne_eqb, eq-eqb}
 use Rattle.std.proofs.lemmas.List.{append-nil, length-append, length-drop}
 use Rattle.djvu_base.specs.declared.faults.FaultKind.{FaultKind}
@@ -12,10 +12,10 @@ use Rattle.iff_chunks.specs.declared.stages.Stage.{Stage}
 use Rattle.iff_chunks.specs.declared.stages.Stage.TheVariants as stage
 use Rattle.iff_chunks.specs.declared.gathering.Gathered.{Gathered}
 use Rattle.iff_chunks.specs.Gathering.{gathered}
-use Rattle.iff_chunks.specs.Start.{Start, Arriving, start_of}
-use Rattle.iff_chunks.specs.Chunks.{Chunk, Chunks, Rest, Tail, InHead, InHeader, InData, InPad, FormEnd, Broken, magic, form_word, in_head, in_form, form_at, length_at, kind_at, found_so, behind_so, data_at, behind_data, pad_at, is_padded, rest_at, chunks_of, chunks_in_all, end_of}
+use Rattle.iff_chunks.specs.Start.{Arriving, start_of}
+use Rattle.iff_chunks.specs.Chunks.{Chunk, Chunks, Rest, Tail, InHeader, InData, InPad, FormEnd, Broken, magic, form_word, in_head, in_form, form_at, found_so, is_padded, rest_at, chunks_of, chunks_in_all, end_of}
 use Rattle.iff_chunks.specs.Events.{Event, ChunkEnd, open_events, Settles, IsLast}
-use Rattle.iff_chunks.specs.Told.{BeforeForm, InForm, AtChunk, InChunk, BehindData, BeforePad, IsSettled, IsGathering, IsSound, Stands, Closes, within_magic, behind_chunks, chunk_of, is_none_of, cut_before_pad}
+use Rattle.iff_chunks.specs.Told.{InForm, AtChunk, IsSettled, IsGathering, IsSound, Stands, Closes, within_magic, behind_chunks, chunk_of, is_none_of, cut_before_pad}
 use Rattle.iff_chunks.proofs.Moving.{cond_true, cond_false, length_gathered}
 use Rattle.iff_chunks.proofs.Heading.{short_length, short_kind}
 use Rattle.iff_chunks.proofs.Chunking.{found_short, found_part, data_some}

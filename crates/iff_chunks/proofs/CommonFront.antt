@@ -48,8 +48,7 @@ arriving_part (x ∷ w) (y ∷ b) (suc n) h k = grind (arith, common_steps, arri
 
 pub whole_match : (wanted : List ℕ) (matched : ℕ) (piece : List ℕ) (used : ℕ) → used ≡ common_front (drop matched wanted) piece → used ≡ length (drop matched wanted) → Matches wanted matched piece (matching.Whole used)
 whole_match wanted matched piece used e whole =
-    let w = drop matched wanted in
-    (
+    let w = drop matched wanted in (
       omega (arith, common_le_bytes w piece),
       λ more. ap (λ n. start_of w (take n piece ++ more)) e ∙ begins w piece more (sym e ∙ whole),
       λ n h. arriving_part w piece n (omega arith) (omega arith),
@@ -57,8 +56,7 @@ whole_match wanted matched piece used e whole =
 
 pub part_match : (wanted : List ℕ) (matched : ℕ) (piece : List ℕ) (used : ℕ) → used ≡ common_front (drop matched wanted) piece → used ≢ length (drop matched wanted) → used ≡ length piece → matched < length wanted → Matches wanted matched piece (matching.Part (matched + used))
 part_match wanted matched piece used e short whole inside =
-    let w = drop matched wanted in
-    (
+    let w = drop matched wanted in (
       omega (arith, common_le_wanted w piece, length-drop matched wanted),
       λ more. arriving w piece more (sym e ∙ whole) ∙ ap (λ l. start_of l more) (ap (λ n. drop n w) (sym whole) ∙ drop-drop used matched wanted),
       λ n h. arriving_part w piece n (omega arith) (omega (arith, common_le_wanted w piece)),
@@ -66,8 +64,7 @@ part_match wanted matched piece used e short whole inside =
 
 pub other_match : (wanted : List ℕ) (matched : ℕ) (piece : List ℕ) (used : ℕ) → used ≡ common_front (drop matched wanted) piece → used ≢ length (drop matched wanted) → used ≢ length piece → Matches wanted matched piece (matching.Differs (used + 1))
 other_match wanted matched piece used e short long =
-    let w = drop matched wanted in
-    (
+    let w = drop matched wanted in (
       omega (arith, common_le_bytes w piece),
       λ more. ap (λ n. start_of w (take (n + 1) piece ++ more)) e ∙ differs w piece more (omega (arith, common_le_wanted w piece)) (omega (arith, common_le_bytes w piece)),
       λ n h. arriving_part w piece n (omega arith) (omega (arith, common_le_wanted w piece)),

@@ -1,10 +1,10 @@
 -- The chunks from a place on, without a count of how many there may be.
 use Rattle.std.proofs.Common.{◌≡◌, ℕ, ◌+◌, ◌-◌, ◌<◌, ◌≤◌, zero, suc, Bool, true, false, cond, Option, Some, None, List, [], ◌∷◌, length, take, drop, eqb, ltb, refl, sym, ap, ◌∙◌, arith}
-use Rattle.std.proofs.lemmas.Bool.{eqb-true, eqb-false, ltb-true, ltb-false}
+use Rattle.std.proofs.lemmas.Bool.{ltb-false}
 use Rattle.byteorder.specs.Endian.{big_number}
 use Rattle.djvu_base.specs.declared.faults.FaultKind.{FaultKind}
 use Rattle.djvu_base.specs.declared.faults.FaultKind.TheVariants.{ShortHeader}
-use Rattle.iff_chunks.specs.Chunks.{Chunk, Rest, Tail, Found, Behind, Stops, Has, Waits, On, Broken, InHeader, InData, InPad, FormEnd, found_at, found_so, behind_so, whole_header, header_at, header_fault, data_at, behind_data, pad_at, is_padded, chunks_from, rest_at}
+use Rattle.iff_chunks.specs.Chunks.{Rest, Found, Behind, Stops, Has, Waits, On, Broken, InHeader, InData, FormEnd, found_at, found_so, behind_so, whole_header, header_at, header_fault, data_at, behind_data, pad_at, is_padded, chunks_from, rest_at}
 
 -- what is behind a chunk has fewer bytes of the FORM left
 abbrev pub BehindLess : ℕ → Behind → Type 0

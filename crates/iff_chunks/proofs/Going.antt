@@ -4,7 +4,7 @@ use Rattle.std.specs.List.{flat_map}
 use Rattle.std.proofs.lemmas.List.{append-nil}
 use Rattle.std.proofs.lemmas.List.Concat.{flat_map-append}
 use Rattle.std.proofs.Math.Seq.{take-append-add}
-use Rattle.iff_chunks.specs.Chunks.{Form, Chunk, Chunks, Rest, Tail, Stops, Has, InData, in_form, found_so, behind_so, data_at, behind_data, chunks_of}
+use Rattle.iff_chunks.specs.Chunks.{Form, Chunk, Rest, Stops, Has, InData, in_form, found_so, behind_so, data_at, behind_data, chunks_of}
 use Rattle.iff_chunks.specs.Events.{Event, Begun, Header, Data, ChunkEnd, data_events, form_events, chunk_events, open_events, tail_events, events_of, with_data, GoesOn}
 use Rattle.iff_chunks.specs.Told.{InForm, behind_chunks, told_of}
 
@@ -89,7 +89,7 @@ data_front next id offset size behind bytes more h false e =
     let there : take size (bytes ++ more) ≡ bytes ++ take (size - length bytes) more = ap (λ n. take n (bytes ++ more)) sum ∙ take-append-add bytes more (size - length bytes) in
     let after = (ChunkEnd ∷ flat_map chunk_events rest.whole) ++ tail_events rest.tail in
     let shape : (b : List ℕ) → Header id offset size ∷ (data_events b ++ after) ≡ ((Header id offset size ∷ (data_events b ++ ChunkEnd ∷ [])) ++ flat_map chunk_events rest.whole) ++ tail_events rest.tail =
-        λ b. ap (λ l. Header id offset size ∷ l) (sym (append_assoc (data_events b) (ChunkEnd ∷ flat_map chunk_events rest.whole) (tail_events rest.tail)) ∙ ap (λ l. l ++ tail_events rest.tail) (sym (append_assoc (data_events b) (ChunkEnd ∷ []) (flat_map chunk_events rest.whole)))) in
+    λ b. ap (λ l. Header id offset size ∷ l) (sym (append_assoc (data_events b) (ChunkEnd ∷ flat_map chunk_events rest.whole) (tail_events rest.tail)) ∙ ap (λ l. l ++ tail_events rest.tail) (sym (append_assoc (data_events b) (ChunkEnd ∷ []) (flat_map chunk_events rest.whole)))) in
     subst (λ l. GoesOn (Header id offset size ∷ data_events bytes) l) (ap (λ b. Header id offset size ∷ (data_events b ++ after)) (sym there) ∙ shape (take size (bytes ++ more)))
     (open_goes_on id offset size bytes (take (size - length bytes) more) after)
 

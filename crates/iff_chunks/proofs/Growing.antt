@@ -7,8 +7,8 @@ use Rattle.byteorder.specs.Endian.{big_number}
 use Rattle.djvu_base.specs.declared.faults.FaultKind.{FaultKind}
 use Rattle.djvu_base.specs.declared.faults.FaultKind.TheVariants.{ShortHeader}
 use Rattle.iff_chunks.specs.Start.{Start, Begins, Arriving, Differs, start_of}
-use Rattle.iff_chunks.specs.Chunks.{Form, Chunk, Chunks, Rest, Tail, Found, Behind, Stops, Has, Waits, On, InHead, InHeader, InData, InPad, FormEnd, Broken, found_at, found_so, behind_so, whole_header, header_at, header_fault, data_at, behind_data, pad_at, is_padded, chunks_from, rest_at, in_head, no_form, in_form, kind_at, length_fault, size_at, whole_length, length_at, magic, form_word, form_at, after_magic, chunks_of}
-use Rattle.iff_chunks.specs.Events.{Event, Begun, Header, ChunkEnd, data_events, chunk_events, open_events, tail_events, events_of, GoesOn}
+use Rattle.iff_chunks.specs.Chunks.{Form, Chunk, Chunks, Rest, Tail, Stops, Has, On, InHeader, InData, InPad, FormEnd, Broken, found_so, behind_so, whole_header, header_at, header_fault, data_at, behind_data, pad_at, is_padded, chunks_from, rest_at, in_head, no_form, in_form, kind_at, length_fault, size_at, whole_length, length_at, magic, form_word, form_at, after_magic, chunks_of}
+use Rattle.iff_chunks.specs.Events.{Begun, chunk_events, tail_events, events_of, GoesOn}
 use Rattle.iff_chunks.proofs.Going.{same_goes_on, pre_goes_on, data_goes_on, rest_events}
 use Rattle.iff_chunks.proofs.Moving.{cond_false}
 
@@ -73,7 +73,7 @@ pad_stays next stays offset after left (p ∷ bytes) more = stays after (left - 
 
 behind_stays : (next : ℕ → ℕ → List ℕ → Rest) → Stays next → (offset size left : ℕ) (bytes more : List ℕ) → RestStays (behind_so next (behind_data offset size left bytes)) (behind_so next (behind_data offset size left (bytes ++ more)))
 behind_stays next stays offset size left bytes more = elim (is_padded size left) as (λ t. RestStays (behind_so next (cond t (pad_at offset (offset + 9 + size) left bytes) (On (offset + 8 + size) left bytes))) (behind_so next (cond t (pad_at offset (offset + 9 + size) left (bytes ++ more)) (On (offset + 8 + size) left (bytes ++ more))))) [
-  true ↦ pad_stays next stays offset (offset + 9 + size) left bytes more
+  | true ↦ pad_stays next stays offset (offset + 9 + size) left bytes more
   | false ↦ stays (offset + 8 + size) left bytes more
 ]
 
@@ -180,9 +180,9 @@ kind_stays offset size bytes more false e =
     let before = rest_at (offset + 12) (size - 4) (drop 4 bytes) in
     let after = rest_at (offset + 12) (size - 4) (drop 4 bytes ++ more) in
     let same : kind_at offset size (bytes ++ more) ≡ in_form form after =
-        cond_false (ltb (length (bytes ++ more)) 4) _ _ (le-ltb _ _ (omega (arith, length-append bytes more)))
-        ∙ ap (λ k. in_form (record { kind = k; size = size }) (rest_at (offset + 12) (size - 4) (drop 4 (bytes ++ more)))) (take-append-le 4 bytes more enough)
-        ∙ ap (λ b. in_form form (rest_at (offset + 12) (size - 4) b)) (drop-append-le 4 bytes more enough) in
+    cond_false (ltb (length (bytes ++ more)) 4) _ _ (le-ltb _ _ (omega (arith, length-append bytes more)))
+    ∙ ap (λ k. in_form (record { kind = k; size = size }) (rest_at (offset + 12) (size - 4) (drop 4 (bytes ++ more)))) (take-append-le 4 bytes more enough)
+    ∙ ap (λ b. in_form form (rest_at (offset + 12) (size - 4) b)) (drop-append-le 4 bytes more enough) in
     subst (λ c. Stay (in_form form before) c) (sym same) (form_stays form before after (from_stays (size - 4) (offset + 12) (size - 4) (drop 4 bytes) more))
 
 size_stays : (fault : Option FaultKind) (offset size : ℕ) (bytes more : List ℕ) → Stay (size_at fault offset size bytes) (size_at fault offset size (bytes ++ more))
@@ -195,9 +195,9 @@ length_stays offset bytes more false e =
     let enough : 4 ≤ length bytes = ltb-false _ _ e in
     let size = big_number 4 (take 4 bytes) in
     let same : length_at offset (bytes ++ more) ≡ whole_length offset size (drop 4 bytes ++ more) =
-        cond_false (ltb (length (bytes ++ more)) 4) _ _ (le-ltb _ _ (omega (arith, length-append bytes more)))
-        ∙ ap (λ f. whole_length offset (big_number 4 f) (drop 4 (bytes ++ more))) (take-append-le 4 bytes more enough)
-        ∙ ap (λ b. whole_length offset size b) (drop-append-le 4 bytes more enough) in
+    cond_false (ltb (length (bytes ++ more)) 4) _ _ (le-ltb _ _ (omega (arith, length-append bytes more)))
+    ∙ ap (λ f. whole_length offset (big_number 4 f) (drop 4 (bytes ++ more))) (take-append-le 4 bytes more enough)
+    ∙ ap (λ b. whole_length offset size b) (drop-append-le 4 bytes more enough) in
     subst (λ c. Stay (whole_length offset size (drop 4 bytes)) c) (sym same) (size_stays (length_fault offset size) offset size (drop 4 bytes) more)
 
 word_stays : (offset : ℕ) (start : Start) (more : List ℕ) (grown : Start) → Grows start more grown → Stay (form_at offset start) (form_at offset grown)

@@ -1,23 +1,20 @@
 -- How a walker goes on before the FORM's chunks.
-use Rattle.std.proofs.Common.{◌≡◌, ◌≢◌, ℕ, ◌+◌, ◌-◌, ◌<◌, ◌≤◌, true, false, cond, min, Option, Some, None, slice_get, List, [], ◌∷◌, ◌++◌, ltb, length, take, drop, refl, sym, ap, ◌∙◌, subst, arith, codes, append_assoc}
+use Rattle.std.proofs.Common.{◌≡◌, ℕ, ◌+◌, ◌-◌, ◌<◌, ◌≤◌, true, false, min, Some, None, slice_get, List, [], ◌∷◌, ◌++◌, ltb, length, take, drop, refl, sym, ap, ◌∙◌, arith}
 use Rattle.std.proofs.lemmas.Bool.{lt-ltb, le-ltb, ltb-true, ltb-false}
-use Rattle.std.proofs.lemmas.List.{append-nil, length-append, length-drop, length-take, length-take-le}
+use Rattle.std.proofs.lemmas.List.{append-nil, length-append, length-drop, length-take}
 use Rattle.std.proofs.Math.Seq.{take-length}
 use Rattle.byteorder.specs.Endian.{big_number}
 use Rattle.djvu_base.specs.declared.faults.FaultKind.{FaultKind}
-use Rattle.djvu_base.specs.declared.faults.FaultKind.TheVariants.{NotForm}
-use Rattle.iff_chunks.specs.declared.walker.WalkStep.{WalkStep}
 use Rattle.iff_chunks.specs.declared.walker.WalkStep.TheVariants as step
-use Rattle.iff_chunks.specs.declared.stages.Fed.{Fed}
 use Rattle.iff_chunks.specs.declared.stages.Stage.{Stage}
 use Rattle.iff_chunks.specs.declared.stages.Stage.TheVariants as stage
 use Rattle.iff_chunks.specs.declared.gathering.Gathered.{Gathered}
 use Rattle.iff_chunks.specs.Gathering.{gathered}
 use Rattle.iff_chunks.specs.Start.{Start, Begins, Arriving, Differs, start_of}
 use Rattle.iff_chunks.specs.Matching.{IsUnsettled}
-use Rattle.iff_chunks.specs.Chunks.{Chunks, chunks_of, magic, form_word, after_magic, in_head, no_form, in_form, form_at, length_at, whole_length, size_at, length_fault, kind_at, rest_at, Broken}
+use Rattle.iff_chunks.specs.Chunks.{Chunks, chunks_of, magic, form_word, after_magic, in_head, no_form, in_form, form_at, length_at, whole_length, size_at, length_fault, kind_at, rest_at}
 use Rattle.iff_chunks.specs.Events.{Event, Begun, events_of}
-use Rattle.iff_chunks.specs.Told.{Becomes, BeforeForm, within_magic, IsGathering, IsForm, IsSound, AllTold, Stands, Feeds, Stays}
+use Rattle.iff_chunks.specs.Told.{BeforeForm, within_magic, IsGathering, IsForm, IsSound, AllTold, Stands, Feeds, Stays}
 use Rattle.iff_chunks.proofs.Moving.{cond_true, cond_false, take_front, drop_front, length_gathered, moved, gathers, open_told, Leads, feeds_more}
 
 -- the FORM's head isn't there yet
@@ -59,8 +56,8 @@ pub word_part : (from to : Stage) (wanted : List ℕ) (become : Start → Chunks
 word_part from to wanted become matched now piece sound stands back arriving inside part unsettled stays =
     feeds_more from to piece sound
     (λ taken told s.
-        let there = stands taken told s in
-        back (taken ++ piece) told ((λ more. moved taken (λ m. become (start_of (drop matched wanted) m)) piece there.0 more ∙ ap become (part more)), there.1))
+    let there = stands taken told s in
+    back (taken ++ piece) told ((λ more. moved taken (λ m. become (start_of (drop matched wanted) m)) piece there.0 more ∙ ap become (part more)), there.1))
     (λ taken told fewer s few. head_quiet taken told (λ m. become (start_of (drop matched wanted) m)) (take fewer piece) (stands taken told s) (ap become (unsettled_all fewer few) ∙ arriving))
     stays
   where
@@ -70,6 +67,7 @@ word_part from to wanted become matched now piece sound stands back arriving ins
         wants : (w : List ℕ) → 0 < length w → start_of w [] ≡ Arriving
         wants [] h = absurd (omega arith)
         wants (x ∷ w) h = refl
+
         by_case : (t : _) → ltb fewer (length piece) ≡ t → start_of (drop matched wanted) (take fewer piece) ≡ Arriving
         by_case true e = unsettled fewer (ltb-true _ _ e)
         by_case false e =
@@ -172,8 +170,8 @@ gather_part from to become got now piece used wanted f short sound stands back n
     let bytes : gathered now ≡ gathered got ++ piece = f.bytes ∙ ap (λ p. gathered got ++ p) (ap (λ n. take n piece) all ∙ take-length piece) in
     feeds_more from to piece sound
     (λ taken told s.
-        let there = stands taken told s in
-        back (taken ++ piece) told ((λ more. moved taken (λ m. become (gathered got ++ m)) piece there.0 more ∙ ap become (gathers (gathered got) (gathered now) piece more bytes)), there.1))
+    let there = stands taken told s in
+    back (taken ++ piece) told ((λ more. moved taken (λ m. become (gathered got ++ m)) piece there.0 more ∙ ap become (gathers (gathered got) (gathered now) piece more bytes)), there.1))
     (λ taken told fewer s few. head_quiet taken told (λ m. become (gathered got ++ m)) (take fewer piece) (stands taken told s) (none (gathered got ++ take fewer piece) (still_short got now piece used wanted fewer f (omega (arith, f.count, all)))))
     stays
 

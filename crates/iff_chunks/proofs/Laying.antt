@@ -1,16 +1,16 @@
 -- A file's bytes are its FORM's head, its chunks and its tail, one behind the other.
-use Rattle.std.proofs.Common.{◌≡◌, ◌≢◌, ℕ, ◌+◌, ◌-◌, ◌%◌, ◌<◌, ◌≤◌, zero, suc, Bool, true, false, cond, Option, Some, None, List, [], ◌∷◌, ◌++◌, ◌⊎◌, inl, inr, length, take, drop, eqb, ltb, refl, sym, ap, ◌∙◌, subst, arith, append_assoc}
+use Rattle.std.proofs.Common.{◌≡◌, ◌≢◌, ℕ, ◌+◌, ◌-◌, ◌%◌, ◌<◌, ◌≤◌, zero, suc, Bool, true, false, cond, Option, Some, None, List, [], ◌∷◌, ◌++◌, inl, inr, length, take, drop, eqb, ltb, refl, sym, ap, ◌∙◌, subst, arith, append_assoc}
 use Rattle.std.specs.Cmp.{second_so}
 use Rattle.std.proofs.lemmas.Bool.{eqb-true, eqb-false, ltb-true, ltb-false}
-use Rattle.std.proofs.lemmas.List.{append-nil, length-append, length-drop, length-take-le, drop-drop, take-append-drop}
+use Rattle.std.proofs.lemmas.List.{length-drop, length-take-le, drop-drop, take-append-drop}
 use Rattle.byteorder.specs.Endian.{big_number}
 use Rattle.djvu_base.specs.declared.faults.FaultKind.{FaultKind}
 use Rattle.djvu_base.specs.declared.faults.FaultKind.TheVariants.{NotForm, TooLarge, ShortHeader}
 use Rattle.djvu_base.specs.Library.{file_limit}
 use Rattle.iff_chunks.specs.Start.{Start, Begins, Arriving, Differs, start_of}
-use Rattle.iff_chunks.specs.Chunks.{Form, Chunk, Chunks, Rest, Tail, Found, Behind, Stops, Has, Waits, On, InHead, InHeader, InData, InPad, FormEnd, Broken, found_at, found_so, behind_so, whole_header, header_at, header_fault, data_at, behind_data, pad_at, is_padded, chunks_from, rest_at, in_head, no_form, in_form, kind_at, length_fault, size_at, whole_length, length_at, magic, form_word, form_at, after_magic, chunks_of}
+use Rattle.iff_chunks.specs.Chunks.{Form, Chunk, Chunks, Rest, Tail, Stops, Has, On, InHeader, InData, FormEnd, Broken, found_so, whole_header, header_at, header_fault, behind_data, pad_at, is_padded, chunks_from, rest_at, in_head, in_form, kind_at, length_fault, size_at, whole_length, length_at, magic, form_word, form_at, after_magic, chunks_of}
 use Rattle.iff_chunks.specs.FirstForm.{IsFront}
-use Rattle.iff_chunks.specs.Layout.{IsNumber, IsHeader, IsPad, IsLaid, IsLaidOpen, LaidTail, Laid, IsLaidForm}
+use Rattle.iff_chunks.specs.Layout.{IsNumber, IsHeader, IsPad, Laid, IsLaidForm}
 use Rattle.iff_chunks.proofs.Chunking.{header_fits}
 
 abbrev LaidRest : ℕ → ℕ → Rest → List ℕ → Type 0
@@ -29,7 +29,9 @@ has_laid : (most : ℕ) (next : ℕ → ℕ → List ℕ → Rest) → LaysUpTo 
     → (t : Bool) → is_padded size (left - 8 - size) ≡ t
     → LaidRest offset left (found_so next (Has (record { id = id; offset = offset; size = size; bytes = bytes }) (cond t (pad_at offset (offset + 9 + size) (left - 8 - size) after) (On (offset + 8 + size) (left - 8 - size) after)))) all
 has_laid most next lays id number header offset size left bytes after all is_header sized fits room few same false e = (
-  header, [], after,
+  header,
+  [],
+  after,
   record {
     place = refl;
     is_header = is_header;
@@ -39,11 +41,13 @@ has_laid most next lays id number header offset size left bytes after all is_hea
     same = same;
   },
   subst (λ o. LaidRest o (left - (8 + size + 0)) (next (offset + 8 + size) (left - 8 - size) after) after) (omega arith)
-  (subst (λ l. LaidRest (offset + 8 + size) l (next (offset + 8 + size) (left - 8 - size) after) after) (omega arith) (lays (offset + 8 + size) (left - 8 - size) after (omega arith))),
+      (subst (λ l. LaidRest (offset + 8 + size) l (next (offset + 8 + size) (left - 8 - size) after) after) (omega arith) (lays (offset + 8 + size) (left - 8 - size) after (omega arith))),
 )
 has_laid most next lays id number header offset size left bytes [] all is_header sized fits room few same true e =
     let some = pad_found size (left - 8 - size) true e refl in (
-      header, [], [],
+      header,
+      [],
+      [],
       record {
         place = refl;
         is_header = is_header;
@@ -56,7 +60,9 @@ has_laid most next lays id number header offset size left bytes [] all is_header
     )
 has_laid most next lays id number header offset size left bytes (p ∷ after) all is_header sized fits room few same true e =
     let some = pad_found size (left - 8 - size) true e refl in (
-      header, p ∷ [], after,
+      header,
+      p ∷ [],
+      after,
       record {
         place = refl;
         is_header = is_header;
@@ -66,7 +72,7 @@ has_laid most next lays id number header offset size left bytes (p ∷ after) al
         same = same;
       },
       subst (λ o. LaidRest o (left - (8 + size + 1)) (next (offset + 9 + size) (left - 8 - size - 1) after) after) (omega arith)
-      (subst (λ l. LaidRest (offset + 9 + size) l (next (offset + 9 + size) (left - 8 - size - 1) after) after) (omega arith) (lays (offset + 9 + size) (left - 8 - size - 1) after (omega arith))),
+          (subst (λ l. LaidRest (offset + 9 + size) l (next (offset + 9 + size) (left - 8 - size - 1) after) after) (omega arith) (lays (offset + 9 + size) (left - 8 - size - 1) after (omega arith))),
     )
 
 data_laid : (most : ℕ) (next : ℕ → ℕ → List ℕ → Rest) → LaysUpTo most next → (id number header : List ℕ) (offset size left : ℕ) (bytes all : List ℕ)

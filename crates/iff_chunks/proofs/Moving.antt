@@ -1,7 +1,7 @@
 -- What is so of the file behind some bytes is so behind more of them.
-use Rattle.std.proofs.Common.{◌≡◌, ◌≢◌, ℕ, ◌+◌, ◌-◌, ◌<◌, ◌≤◌, Bool, true, false, cond, ltb, List, [], ◌∷◌, ◌++◌, length, take, drop, refl, sym, ap, ◌∙◌, subst, inl, inr, arith, append_assoc}
-use Rattle.std.proofs.lemmas.Bool.{lt-ltb, le-ltb, ltb-true, ltb-false}
-use Rattle.std.proofs.lemmas.List.{append-nil, length-drop, length-append, length-take-le, take_all, drop_all, take-append-le, drop-append-le}
+use Rattle.std.proofs.Common.{◌≡◌, ◌≢◌, ℕ, ◌+◌, ◌-◌, ◌<◌, ◌≤◌, Bool, true, false, cond, ltb, List, [], ◌++◌, length, take, drop, refl, sym, ap, ◌∙◌, subst, arith, append_assoc}
+use Rattle.std.proofs.lemmas.Bool.{ltb-true, ltb-false}
+use Rattle.std.proofs.lemmas.List.{length-drop, length-take-le, take_all, drop_all, take-append-le, drop-append-le}
 use Rattle.std.proofs.Math.Seq.{take-add, take-length}
 use Rattle.iff_chunks.specs.declared.walker.WalkStep.{WalkStep}
 use Rattle.iff_chunks.specs.declared.walker.WalkStep.TheVariants as step

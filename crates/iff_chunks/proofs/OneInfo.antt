@@ -1,13 +1,12 @@
 -- The first form of files, by its chunks.
-use Rattle.std.proofs.Common.{◌≡◌, ◌≢◌, ℕ, ◌+◌, ◌-◌, ◌*◌, ◌<◌, ◌≤◌, Bool, true, false, cond, Some, None, List, [], ◌∷◌, ◌++◌, inl, inr, length, take, drop, ltb, codes, refl, sym, ap, ◌∙◌, subst, arith, append_assoc}
+use Rattle.std.proofs.Common.{◌≡◌, ℕ, ◌+◌, ◌*◌, ◌<◌, ◌≤◌, false, Some, None, List, [], ◌∷◌, ◌++◌, inl, inr, length, ltb, codes, refl, sym, ap, ◌∙◌, subst, arith}
 use Rattle.std.proofs.lemmas.Bool.{le-ltb}
 use Rattle.djvu_base.specs.declared.faults.FaultKind.TheVariants.{TooLarge}
 use Rattle.byteorder.specs.Endian.{big_number}
 use Rattle.djvu_base.specs.Library.{file_limit}
-use Rattle.iff_chunks.specs.Start.{start_of, Begins}
-use Rattle.iff_chunks.specs.Chunks.{Form, Chunk, Chunks, Rest, Tail, Has, On, FormEnd, found_so, behind_so, whole_header, data_at, rest_at, in_form, length_at, whole_length, size_at, kind_at, form_at, form_word, magic, chunks_of}
+use Rattle.iff_chunks.specs.Chunks.{FormEnd, found_so, rest_at, in_form, length_at, size_at, form_word, chunks_of}
 use Rattle.iff_chunks.specs.FirstForm.{page_form, page_head, info_header, info_chunk, IsFront, first_form, IsFirstForm, IsOneInfo}
-use Rattle.iff_chunks.specs.Layout.{IsNumber, IsHeader, IsPad, IsLaid, Laid, IsLaidForm}
+use Rattle.iff_chunks.specs.Layout.{Laid}
 use Rattle.iff_chunks.proofs.Moving.{cond_false}
 use Rattle.iff_chunks.proofs.Heading.{length_there, kind_there}
 use Rattle.iff_chunks.proofs.Chunking.{found_header, data_whole_at}

@@ -1,21 +1,15 @@
 -- How a walker goes on over a chunk's data, its end and its pad byte.
-use Rattle.std.proofs.Common.{◌≡◌, ◌≢◌, ℕ, ◌+◌, ◌-◌, ◌%◌, ◌<◌, ◌≤◌, Bool, true, false, cond, ◌&&◌, List, [], ◌∷◌, ◌++◌, eqb, ltb, length, take, drop, refl, sym, ap, ◌∙◌, subst, inl, inr, arith, append_assoc}
-use Rattle.std.specs.Cmp.{first_so, second_so}
-use Rattle.std.proofs.lemmas.Bool.{lt-ltb, ltb-true}
+use Rattle.std.proofs.Common.{◌≡◌, ℕ, ◌+◌, ◌-◌, ◌<◌, ◌≤◌, true, false, List, [], ◌∷◌, ◌++◌, eqb, length, take, refl, sym, ap, ◌∙◌, subst, inl, inr, arith, append_assoc}
 use Rattle.std.proofs.lemmas.List.{append-nil, length-append, length-take-le}
 use Rattle.std.proofs.Math.Seq.{take-length}
-use Rattle.iff_chunks.specs.declared.walker.WalkStep.{WalkStep}
 use Rattle.iff_chunks.specs.declared.walker.WalkStep.TheVariants as step
-use Rattle.iff_chunks.specs.declared.stages.Fed.{Fed}
-use Rattle.iff_chunks.specs.declared.stages.ChunkPlace.{ChunkPlace}
 use Rattle.iff_chunks.specs.declared.stages.OpenChunk.{OpenChunk}
-use Rattle.iff_chunks.specs.declared.stages.Stage.{Stage}
 use Rattle.iff_chunks.specs.declared.stages.Stage.TheVariants as stage
 use Rattle.iff_chunks.specs.declared.gathering.Gathered.{Gathered}
 use Rattle.iff_chunks.specs.Gathering.{gathered}
-use Rattle.iff_chunks.specs.Chunks.{Chunk, Chunks, Rest, Tail, Found, Behind, Stops, Has, Waits, On, InData, InPad, chunks_of, in_form, found_so, behind_so, data_at, behind_data, pad_at, is_padded, rest_at}
-use Rattle.iff_chunks.specs.Events.{Event, Header, ChunkEnd, data_events, open_events, tail_events, with_data}
-use Rattle.iff_chunks.specs.Told.{InForm, AtChunk, InChunk, BehindData, BeforePad, IsGathering, IsPlace, IsChunk, IsSound, AllTold, Stands, Feeds, told_of, behind_chunks, chunk_of, is_none_of}
+use Rattle.iff_chunks.specs.Chunks.{Chunk, Rest, On, InData, InPad, in_form, found_so, behind_so, data_at, behind_data, pad_at, is_padded, rest_at}
+use Rattle.iff_chunks.specs.Events.{Event, ChunkEnd, open_events, with_data}
+use Rattle.iff_chunks.specs.Told.{InForm, AtChunk, InChunk, BehindData, BeforePad, IsGathering, IsChunk, AllTold, Feeds, behind_chunks, chunk_of, is_none_of}
 use Rattle.iff_chunks.proofs.Going.{with_more, told_whole}
 use Rattle.iff_chunks.proofs.Moving.{cond_true, cond_false, in_form_moved, in_form_quiet, Leads, feeds_more}
 use Rattle.iff_chunks.proofs.Chunking.{in_form_same, data_some, data_whole_at}

@@ -1,17 +1,15 @@
 -- What follows of a walker's place for the events of the file, however it goes on.
-use Rattle.std.proofs.Common.{◌≡◌, ℕ, ◌+◌, ◌<◌, ◌≤◌, Bool, true, false, cond, Some, List, [], ◌∷◌, ◌++◌, length, take, drop, ltb, refl, sym, ap, ◌∙◌, subst, arith, append_assoc}
+use Rattle.std.proofs.Common.{◌≡◌, ℕ, ◌<◌, Some, List, [], ◌∷◌, ◌++◌, length, refl, sym, ap, ◌∙◌, subst, arith, append_assoc}
 use Rattle.std.specs.List.{flat_map}
-use Rattle.std.proofs.lemmas.Bool.{ltb-true, ltb-false}
-use Rattle.std.proofs.lemmas.List.{append-nil, length-append}
-use Rattle.std.proofs.Math.Seq.{take-append-add}
+use Rattle.std.proofs.lemmas.List.{length-append}
 use Rattle.iff_chunks.specs.declared.walker.WalkStep.{WalkStep}
 use Rattle.iff_chunks.specs.declared.walker.WalkStep.TheVariants as step
 use Rattle.iff_chunks.specs.declared.stages.OpenChunk.{OpenChunk}
 use Rattle.iff_chunks.specs.declared.stages.Stage.{Stage}
 use Rattle.iff_chunks.specs.declared.stages.Stage.TheVariants as stage
-use Rattle.iff_chunks.specs.Chunks.{Chunk, Rest, Stops, Has, InData, chunks_of, found_so, behind_so, data_at, behind_data, rest_at}
-use Rattle.iff_chunks.specs.Events.{Event, Begun, Header, Data, ChunkEnd, form_events, data_events, open_events, chunk_events, tail_events, events_of, tell, with_data, GoesOn, IsOpen, Ends}
-use Rattle.iff_chunks.specs.Told.{InForm, InChunk, BehindData, IsSettled, Stands, Fits, IsDataEnd, chunk_of, told_of}
+use Rattle.iff_chunks.specs.Chunks.{Chunk, Rest, Has, chunks_of, found_so, behind_so, behind_data, rest_at}
+use Rattle.iff_chunks.specs.Events.{Event, Begun, Header, Data, ChunkEnd, form_events, open_events, chunk_events, tail_events, events_of, tell, with_data, GoesOn, IsOpen, Ends}
+use Rattle.iff_chunks.specs.Told.{BehindData, Stands, Fits, IsDataEnd, chunk_of, told_of}
 use Rattle.iff_chunks.proofs.Going.{same_goes_on, front_goes_on, data_goes_on, rest_events, in_form_events, in_form_goes_on, told_more, pre_goes_on}
 
 -- a chunk whose data arrived has an end

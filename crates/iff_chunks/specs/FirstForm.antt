@@ -1,6 +1,6 @@
 -- The first form of files, as what their bytes are: a page of which only the size is told.
 use Rattle.std.specs.Prelude.{ℕ, ◌≡◌, ◌++◌, ◌⊎◌, List, [], ◌∷◌, Some, length, codes}
-use Rattle.iff_chunks.specs.Chunks.{Form, Chunk, Chunks, FormEnd, magic}
+use Rattle.iff_chunks.specs.Chunks.{Form, Chunk, Chunks, magic}
 
 -- a FORM of 22 bytes, and its kind: a page
 abbrev pub page_form : Form

@@ -14,5 +14,8 @@ mod stages;
 mod tests;
 mod walker;
 
-pub use laws::{chunks_stay, first_form, layout, recursion, worked_chunks, worked_ends, worked_events, worked_lengths};
+pub use laws::{
+    chunks_stay, first_form, layout, recursion, worked_chunks, worked_ends, worked_events,
+    worked_lengths,
+};
 pub use walker::{WalkStep, Walker};

@@ -38,11 +38,19 @@ pub enum Stage {
     /// No byte arrived.
     Start,
     /// So many bytes of the magic arrived, at least one.
-    Magic { matched: usize },
+    Magic {
+        matched: usize,
+    },
     /// So many bytes of the FORM's word arrived. The FORM is at this offset.
-    Word { offset: u32, matched: usize },
+    Word {
+        offset: u32,
+        matched: usize,
+    },
     /// The FORM's word arrived, and these bytes of its length.
-    Length { offset: u32, got: Gathered },
+    Length {
+        offset: u32,
+        got: Gathered,
+    },
     /// The FORM's length arrived, and these bytes of its kind.
     Kind {
         offset: u32,
@@ -50,17 +58,30 @@ pub enum Stage {
         got: Gathered,
     },
     /// These bytes of a chunk's header arrived.
-    Header { place: ChunkPlace, got: Gathered },
+    Header {
+        place: ChunkPlace,
+        got: Gathered,
+    },
     /// So many bytes of the chunk's data are to come, at least one.
-    Data { chunk: OpenChunk, left: usize },
+    Data {
+        chunk: OpenChunk,
+        left: usize,
+    },
     /// The data arrived, and the chunk's end is to be told.
-    DataEnd { chunk: OpenChunk },
+    DataEnd {
+        chunk: OpenChunk,
+    },
     /// The chunk's end was told, and its pad byte is to come.
-    Pad { chunk: OpenChunk },
+    Pad {
+        chunk: OpenChunk,
+    },
     /// The FORM's end was told, or is told next.
     Ended,
     /// The file can't be read on: why, and where.
-    Broken { kind: FaultKind, offset: u32 },
+    Broken {
+        kind: FaultKind,
+        offset: u32,
+    },
 }
 
 /// How a walker goes on from a piece: the bytes that it used, where it stands then, and what it answers.

@@ -14,26 +14,112 @@ struct File {
     end: WalkStep,
 }
 
-const ANTZ_12_OF_0: WalkStep = WalkStep::Header { id: *b"ANTz", offset: 12, length: 0 };
-const ANTZ_24_OF_0: WalkStep = WalkStep::Header { id: *b"ANTz", offset: 24, length: 0 };
-const BAD_ID: WalkStep = WalkStep::Broken { kind: FaultKind::BadId, offset: 12 };
-const CUT_0: WalkStep = WalkStep::Broken { kind: FaultKind::Truncated, offset: 0 };
-const CUT_12: WalkStep = WalkStep::Broken { kind: FaultKind::Truncated, offset: 12 };
-const CUT_16: WalkStep = WalkStep::Broken { kind: FaultKind::Truncated, offset: 16 };
-const CUT_22: WalkStep = WalkStep::Broken { kind: FaultKind::Truncated, offset: 22 };
-const DJBZ_32_OF_2: WalkStep = WalkStep::Header { id: *b"Djbz", offset: 32, length: 2 };
-const INCLUDED_34: WalkStep = WalkStep::Form { kind: *b"DJVI", length: 34 };
-const INFO_12_OF_10: WalkStep = WalkStep::Header { id: *b"INFO", offset: 12, length: 10 };
-const INFO_16_OF_10: WalkStep = WalkStep::Header { id: *b"INFO", offset: 16, length: 10 };
-const NOT_FORM: WalkStep = WalkStep::Broken { kind: FaultKind::NotForm, offset: 0 };
-const PAGE_13: WalkStep = WalkStep::Form { kind: *b"DJVU", length: 13 };
-const PAGE_14: WalkStep = WalkStep::Form { kind: *b"DJVU", length: 14 };
-const PAGE_15: WalkStep = WalkStep::Form { kind: *b"DJVU", length: 15 };
-const PAGE_22: WalkStep = WalkStep::Form { kind: *b"DJVU", length: 22 };
-const SHORT_HEADER: WalkStep = WalkStep::Broken { kind: FaultKind::ShortHeader, offset: 20 };
-const SJBZ_12_OF_1: WalkStep = WalkStep::Header { id: *b"Sjbz", offset: 12, length: 1 };
-const TOO_LARGE: WalkStep = WalkStep::Broken { kind: FaultKind::TooLarge, offset: 0 };
-const TXTZ_12_OF_3: WalkStep = WalkStep::Header { id: *b"TXTz", offset: 12, length: 3 };
+const ANTZ_12_OF_0: WalkStep = WalkStep::Header {
+    id: *b"ANTz",
+    offset: 12,
+    length: 0,
+};
+
+const ANTZ_24_OF_0: WalkStep = WalkStep::Header {
+    id: *b"ANTz",
+    offset: 24,
+    length: 0,
+};
+
+const BAD_ID: WalkStep = WalkStep::Broken {
+    kind: FaultKind::BadId,
+    offset: 12,
+};
+
+const CUT_0: WalkStep = WalkStep::Broken {
+    kind: FaultKind::Truncated,
+    offset: 0,
+};
+
+const CUT_12: WalkStep = WalkStep::Broken {
+    kind: FaultKind::Truncated,
+    offset: 12,
+};
+
+const CUT_16: WalkStep = WalkStep::Broken {
+    kind: FaultKind::Truncated,
+    offset: 16,
+};
+
+const CUT_22: WalkStep = WalkStep::Broken {
+    kind: FaultKind::Truncated,
+    offset: 22,
+};
+
+const DJBZ_32_OF_2: WalkStep = WalkStep::Header {
+    id: *b"Djbz",
+    offset: 32,
+    length: 2,
+};
+
+const INCLUDED_34: WalkStep = WalkStep::Form {
+    kind: *b"DJVI",
+    length: 34,
+};
+
+const INFO_12_OF_10: WalkStep = WalkStep::Header {
+    id: *b"INFO",
+    offset: 12,
+    length: 10,
+};
+
+const INFO_16_OF_10: WalkStep = WalkStep::Header {
+    id: *b"INFO",
+    offset: 16,
+    length: 10,
+};
+
+const NOT_FORM: WalkStep = WalkStep::Broken {
+    kind: FaultKind::NotForm,
+    offset: 0,
+};
+
+const PAGE_13: WalkStep = WalkStep::Form {
+    kind: *b"DJVU",
+    length: 13,
+};
+
+const PAGE_14: WalkStep = WalkStep::Form {
+    kind: *b"DJVU",
+    length: 14,
+};
+
+const PAGE_15: WalkStep = WalkStep::Form {
+    kind: *b"DJVU",
+    length: 15,
+};
+
+const PAGE_22: WalkStep = WalkStep::Form {
+    kind: *b"DJVU",
+    length: 22,
+};
+
+const SHORT_HEADER: WalkStep = WalkStep::Broken {
+    kind: FaultKind::ShortHeader,
+    offset: 20,
+};
+
+const SJBZ_12_OF_1: WalkStep = WalkStep::Header {
+    id: *b"Sjbz",
+    offset: 12,
+    length: 1,
+};
+
+const TOO_LARGE: WalkStep = WalkStep::Broken {
+    kind: FaultKind::TooLarge,
+    offset: 0,
+};
+
+const TXTZ_12_OF_3: WalkStep = WalkStep::Header {
+    id: *b"TXTz",
+    offset: 12,
+    length: 3,
+};
 
 const FILES: [File; 18] = [
     // A whole page, and one without the magic, with a pad byte, an empty chunk and bytes behind the FORM.

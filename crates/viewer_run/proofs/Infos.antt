@@ -180,6 +180,7 @@ one_info bytes info laid e =
         let kind : form.kind ≡ codes "DJVU" = (bytes_eq-Decides form.kind (codes "DJVU")).0 (first_so (bytes_eq form.kind (codes "DJVU")) (eqb form.size 22) e) in
         let size : form.size ≡ 22 = eqb-true form.size 22 (second_so (bytes_eq form.kind (codes "DJVU")) (eqb form.size 22) e) in
         ap (λ k. Some (record { kind = k; size = form.size })) kind ∙ ap (λ n. Some (record { kind = codes "DJVU"; size = n })) size
+
     one_chunk_is : (bytes : List ℕ) (whole : List Chunk) (info : List ℕ) (offset left : ℕ) (tail : Tail) (after : List ℕ) → (chunks_of bytes).whole ≡ whole → (chunks_of bytes).form ≡ Some page_form → only_info whole ≡ Some info → Laid offset left whole tail after → IsOneInfo (chunks_of bytes)
     one_chunk_is bytes [] info offset left tail after w form e l = cc
     one_chunk_is bytes (chunk ∷ other ∷ more) info offset left tail after w form e l = cc

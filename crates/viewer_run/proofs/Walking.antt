@@ -1,7 +1,7 @@
 -- What a walker's answer says of the file, where the file is or isn't the wanted one.
 use Rattle.std.proofs.Common.{◌≡◌, ◌≢◌, ℕ, ◌<◌, ◌≤◌, true, false, List, [], ◌∷◌, ◌++◌, ◌⊎◌, ◌&&◌, eqb, length, take, drop, refl, sym, ap, ◌∙◌, subst, inl, inr, arith, codes, append_assoc}
 use Rattle.std.specs.Str.{bytes_eq}
-use Rattle.std.proofs.lemmas.List.{append-nil, take-append-drop, length-drop, length-append, length-take-le}
+use Rattle.std.proofs.lemmas.List.{take-append-drop, length-drop, length-append, length-take-le}
 use Rattle.std.specs.Cmp.{first_so, second_so}
 use Rattle.std.proofs.lemmas.Bool.{eqb-true, true≢false}
 use Rattle.std.proofs.lemmas.Slice.Eq.{bytes_eq-Decides}

@@ -1,5 +1,4 @@
-use Rattle.std.proofs.Common.{◌≡◌, sym, ap, ◌∙◌, arith}
-use Rattle.iff_chunks.specs.Told.{begun}
+use Rattle.std.proofs.Common.{arith}
 use Rattle.iff_chunks.proofs.Heading.{Filled}
 use Rattle.iff_chunks.proofs.Chunking.{chunk_begins, chunk_part, chunk_ends, chunk_short}
 use Rattle.iff_chunks.proofs.chunks.chunk.Goals as goal

@@ -1,6 +1,6 @@
 use Rattle.std.proofs.Common.{◌<◌, length, arith}
 use Rattle.std.proofs.lemmas.Bool.Decides.{nat_tests}
-use Rattle.iff_chunks.proofs.Passing.{data_waits, data_part, data_all, end_unpadded, end_padded, pad_waits, pad_leads}
+use Rattle.iff_chunks.proofs.Passing.{data_part, data_all}
 use Rattle.iff_chunks.proofs.chunks.data.Goals as goal
 
 pub returns-then-piece-left : goal.returns-then-piece-left

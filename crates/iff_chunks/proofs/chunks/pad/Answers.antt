@@ -4,7 +4,7 @@ use Rattle.iff_chunks.specs.declared.stages.ChunkPlace.{ChunkPlace}
 use Rattle.iff_chunks.specs.declared.stages.Stage.TheVariants as stage
 use Rattle.iff_chunks.specs.Told.{Feeds}
 use Rattle.iff_chunks.proofs.Moving.{feeds_behind}
-use Rattle.iff_chunks.proofs.Passing.{pad_waits, pad_leads}
+use Rattle.iff_chunks.proofs.Passing.{pad_leads}
 use Rattle.iff_chunks.proofs.chunks.pad.Goals as goal
 
 pub returns : goal.returns

@@ -1,4 +1,4 @@
-use Rattle.std.proofs.Common.{ap, sym, ◌∙◌}
+use Rattle.std.proofs.Common.{sym, ◌∙◌}
 use Rattle.iff_chunks.proofs.Closing.{header_ended, header_short, header_cut_first, header_cut_later, first_none, not_first, some_there}
 use Rattle.iff_chunks.proofs.ends.cut_at.Goals.{else-place-via-then-place+else-count-eq0, else-place-via-else-place}
 use Rattle.iff_chunks.proofs.ends.cut_at.Goals as goal
@@ -14,6 +14,6 @@ returns-then-count-eq0 c = rw c.truncated.ensures (header_cut_first c.args.place
 
 pub returns-else-place : goal.returns-else-place
 returns-else-place c = rw c.truncated-else-place.ensures (header_cut_later c.args.place c.args.got c.if-place-lt8.false c.requires.1 (elim c.else-place.branch [
-  else-place-via-then-place+else-count-eq0 w ↦ some_there c.args.place.is_first c.args.got.count (λ e. w.if-count-eq0.false (w.count.ensures ∙ e))
+  | else-place-via-then-place+else-count-eq0 w ↦ some_there c.args.place.is_first c.args.got.count (λ e. w.if-count-eq0.false (w.count.ensures ∙ e))
   | else-place-via-else-place w ↦ not_first c.args.place.is_first c.args.got.count w.if-place.false
 ]))

@@ -1,4 +1,4 @@
-use Rattle.std.proofs.Common.{◌≡◌, sym, ◌∙◌, subst, ◌+◌, false}
+use Rattle.std.proofs.Common.{sym, ◌∙◌, subst}
 use Rattle.iff_chunks.specs.declared.stages.Stage.TheVariants as stage
 use Rattle.iff_chunks.specs.Told.{Closes}
 use Rattle.iff_chunks.proofs.Closing.{data_end_padded, data_end_unpadded}

@@ -1,8 +1,6 @@
-use Rattle.std.proofs.Common.{◌≡◌, ◌+◌, ◌-◌, true, sym, ap, subst, ◌∙◌, arith}
+use Rattle.std.proofs.Common.{◌+◌, ◌-◌, true, sym, subst, ◌∙◌, arith}
 use Rattle.iff_chunks.specs.declared.stages.Stage.TheVariants as stage
 use Rattle.iff_chunks.specs.declared.walker.WalkStep.TheVariants as step
-use Rattle.iff_chunks.specs.declared.gathering.Gathered.{Gathered}
-use Rattle.iff_chunks.specs.Gathering.{gathered}
 use Rattle.iff_chunks.specs.Told.{Feeds}
 use Rattle.iff_chunks.proofs.Heading.{Filled, kind_part, kind_whole}
 use Rattle.iff_chunks.proofs.heads.kind.Goals as goal

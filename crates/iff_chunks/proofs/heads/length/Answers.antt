@@ -1,8 +1,7 @@
-use Rattle.std.proofs.Common.{◌≡◌, ◌+◌, ◌-◌, sym, ap, subst, ◌∙◌, arith}
+use Rattle.std.proofs.Common.{sym, ap, subst, ◌∙◌, arith}
 use Rattle.byteorder.specs.Endian.{big_number}
 use Rattle.iff_chunks.specs.declared.stages.Stage.TheVariants as stage
 use Rattle.iff_chunks.specs.Chunks.{length_fault}
-use Rattle.iff_chunks.specs.Gathering.{gathered}
 use Rattle.iff_chunks.specs.Told.{Feeds}
 use Rattle.iff_chunks.proofs.Moving.{feeds_behind, Leads}
 use Rattle.iff_chunks.proofs.Heading.{Filled, length_part, length_breaks, length_lead}

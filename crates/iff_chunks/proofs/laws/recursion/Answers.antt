@@ -1,5 +1,4 @@
 use Rattle.iff_chunks.proofs.Fuel.{rest_found, enough_found}
-use Rattle.iff_chunks.proofs.Going.{same_goes_on}
 use Rattle.iff_chunks.proofs.laws.recursion.Goals as goal
 
 pub returns-clause-found : goal.returns-clause-found

@@ -1,6 +1,5 @@
-use Rattle.std.proofs.Common.{◌≡◌, sym, subst}
+use Rattle.std.proofs.Common.{sym, subst}
 use Rattle.iff_chunks.specs.declared.stages.Stage.{Stage}
-use Rattle.iff_chunks.specs.declared.stages.Stage.TheVariants as stage
 use Rattle.iff_chunks.specs.Told.{Closes}
 use Rattle.iff_chunks.proofs.Closing.{data_closes, ended_closes, broken_closes, pad_closes, head_closes}
 use Rattle.iff_chunks.proofs.stages.Stage.end.Goals as goal

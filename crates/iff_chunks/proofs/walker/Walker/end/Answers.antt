@@ -1,11 +1,9 @@
-use Rattle.std.proofs.Common.{◌≡◌, ◌≢◌, ℕ, List, refl, sym, ap, ◌∙◌, subst}
+use Rattle.std.proofs.Common.{◌≡◌, ℕ, List, sym, ◌∙◌, subst}
 use Rattle.iff_chunks.specs.declared.walker.WalkStep.{WalkStep}
 use Rattle.iff_chunks.specs.declared.walker.WalkStep.TheVariants as step
 use Rattle.iff_chunks.specs.declared.stages.Stage.{Stage}
-use Rattle.iff_chunks.specs.declared.stages.Stage.TheVariants as stage
-use Rattle.iff_chunks.specs.Chunks.{chunks_in_all}
-use Rattle.iff_chunks.specs.Events.{Event, Settles}
-use Rattle.iff_chunks.specs.Told.{Told, Over, Stands, Closes, StaysClosed}
+use Rattle.iff_chunks.specs.Events.{Event}
+use Rattle.iff_chunks.specs.Told.{Told, Over, Stands, StaysClosed}
 use Rattle.iff_chunks.proofs.walker.Walker.end.Goals as goal
 
 stood : (from now : Stage) (taken : List ℕ) (told : List Event) → from ≡ now → Told taken told now → Stands from taken told

@@ -1,10 +1,9 @@
-use Rattle.std.proofs.Common.{append_assoc, refl, ◌+◌, ◌≡◌, ◌≢◌, ℕ, ◌<◌, List, [], ◌∷◌, ◌++◌, ◌⊎◌, length, take, drop, sym, ap, ◌∙◌, subst, inl, inr, arith}
+use Rattle.std.proofs.Common.{append_assoc, refl, ◌≡◌, ◌≢◌, ℕ, ◌<◌, List, [], ◌∷◌, ◌++◌, ◌⊎◌, length, take, drop, sym, ap, ◌∙◌, subst, inl, inr, arith}
 use Rattle.std.proofs.lemmas.List.{take-append-drop, length-take-le}
 use Rattle.std.proofs.Math.Seq.{take-length}
 use Rattle.iff_chunks.specs.declared.walker.WalkStep.{WalkStep}
 use Rattle.iff_chunks.specs.declared.walker.WalkStep.TheVariants as step
 use Rattle.iff_chunks.specs.declared.stages.Stage.{Stage}
-use Rattle.iff_chunks.specs.declared.stages.Stage.TheVariants as stage
 use Rattle.iff_chunks.specs.declared.stages.Fed.{Fed}
 use Rattle.iff_chunks.specs.Chunks.{chunks_of}
 use Rattle.iff_chunks.specs.Events.{Event, ChunkEnd, events_of, tell, GoesOn, Ends, IsOpen, IsLast}

@@ -1,13 +1,39 @@
--- The words of faults.
+-- The words of faults, in the order in which faults at one place are tried.
 use Rattle.std.specs.Prelude.{ℕ, List, codes}
 use Rattle.djvu_base.specs.declared.faults.FaultKind.{FaultKind}
-use Rattle.djvu_base.specs.declared.faults.FaultKind.TheVariants.{Truncated, Unsupported, NotForm, TooLarge, ShortHeader, BadId, Overrun}
+use Rattle.djvu_base.specs.declared.faults.FaultKind.TheVariants.{NotForm, TooLarge, Unsupported, WrongForm, NotIncludedForm, ShortHeader, BadId, Overrun, NoInfo, SecondInfo, Misplaced, SecondDictionary, SecondMask, SecondFront, BadInfo, BadIncludeName, MissingInclude, CyclicInclude, ZpExhausted, Jb2NoStart, Jb2SecondStart, Jb2Record, Jb2NoMatch, Jb2Dictionary, Jb2ShapeSize, Jb2Limit, MaskSize, IwHeader, IwSerial, IwVersion, LayerSize, Truncated, Read}
 
 abbrev pub word_of : FaultKind → List ℕ
-word_of Truncated = codes "truncated"
-word_of Unsupported = codes "unsupported"
 word_of NotForm = codes "not-form"
 word_of TooLarge = codes "too-large"
+word_of Unsupported = codes "unsupported"
+word_of WrongForm = codes "wrong-form"
+word_of NotIncludedForm = codes "not-included-form"
 word_of ShortHeader = codes "short-header"
 word_of BadId = codes "bad-id"
 word_of Overrun = codes "overrun"
+word_of NoInfo = codes "no-info"
+word_of SecondInfo = codes "second-info"
+word_of Misplaced = codes "misplaced"
+word_of SecondDictionary = codes "second-dictionary"
+word_of SecondMask = codes "second-mask"
+word_of SecondFront = codes "second-front"
+word_of BadInfo = codes "bad-info"
+word_of BadIncludeName = codes "bad-include-name"
+word_of MissingInclude = codes "missing-include"
+word_of CyclicInclude = codes "cyclic-include"
+word_of ZpExhausted = codes "zp-exhausted"
+word_of Jb2NoStart = codes "jb2-no-start"
+word_of Jb2SecondStart = codes "jb2-second-start"
+word_of Jb2Record = codes "jb2-record"
+word_of Jb2NoMatch = codes "jb2-no-match"
+word_of Jb2Dictionary = codes "jb2-dictionary"
+word_of Jb2ShapeSize = codes "jb2-shape-size"
+word_of Jb2Limit = codes "jb2-limit"
+word_of MaskSize = codes "mask-size"
+word_of IwHeader = codes "iw-header"
+word_of IwSerial = codes "iw-serial"
+word_of IwVersion = codes "iw-version"
+word_of LayerSize = codes "layer-size"
+word_of Truncated = codes "truncated"
+word_of Read = codes "read"

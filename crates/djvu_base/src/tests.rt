@@ -74,14 +74,3 @@ fn a_raster_keeps_its_sizes_and_samples(rt: HostRuntime) -> Result<(), Fail> {
     assert_eq!(rt; raster.samples(), [1u8, 2, 3, 4, 5, 6].as_slice());
     Ok(())
 }
-
-#[test]
-fn faults_have_words(rt: HostRuntime) {
-    assert_eq!(rt; FaultKind::Truncated.word(), "truncated");
-    assert_eq!(rt; FaultKind::Unsupported.word(), "unsupported");
-    assert_eq!(rt; FaultKind::NotForm.word(), "not-form");
-    assert_eq!(rt; FaultKind::TooLarge.word(), "too-large");
-    assert_eq!(rt; FaultKind::ShortHeader.word(), "short-header");
-    assert_eq!(rt; FaultKind::BadId.word(), "bad-id");
-    assert_eq!(rt; FaultKind::Overrun.word(), "overrun");
-}

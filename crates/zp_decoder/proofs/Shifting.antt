@@ -2,8 +2,7 @@
 use Rattle.std.proofs.Common.{◌≡◌, ◌≤◌, ◌<◌, ◌+◌, ◌-◌, ◌*◌, ◌^◌, ℕ, zero, suc, List, refl, sym, ap, ◌∙◌, arith}
 use Rattle.std.proofs.Math.Nat.{pow-suc, mul_assoc}
 use Rattle.std.proofs.lemmas.Grind.{common_steps}
-use Rattle.zp_decoder.specs.declared.interval.Interval.{Interval}
-use Rattle.zp_decoder.specs.Decision.{cut, shift, shifted, most_bits, after}
+use Rattle.zp_decoder.specs.Decision.{Interval, cut, shift, shifted, most_bits, after}
 
 pub shifted-step : (payload : List ℕ) (k m : ℕ) (at : Interval) → k ≡ suc m → 0x8000 ≤ at.a → shifted payload k at ≡ shifted payload m (shift payload at)
 shifted-step payload k m at e high = rw e (grind (arith, common_steps))

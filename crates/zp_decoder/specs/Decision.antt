@@ -2,9 +2,6 @@
 use Rattle.std.specs.Prelude.{ℕ, zero, suc, ◌+◌, ◌-◌, ◌*◌, ◌/◌, ◌%◌, ◌==◌, Bool, true, false, not, ◌&&◌, ◌||◌, min, List, [], ◌∷◌, length, Option, Some, None, nat_lt, nat_le, if◌then◌else◌}
 use Rattle.zp_table.specs.declared.rows.Row.{Row}
 use Rattle.zp_table.specs.Rows.{row_at}
-use Rattle.zp_decoder.specs.declared.interval.Interval.{Interval}
-use Rattle.zp_decoder.specs.declared.steps.Step.{Step}
-use Rattle.zp_decoder.specs.declared.steps.Step.TheVariants as step
 use Rattle.zp_decoder.specs.declared.decoder.Decision.{Decision}
 use Rattle.zp_decoder.specs.declared.decoder.Decision.TheVariants as decision
 use Rattle.zp_decoder.specs.Bits.{bit_at, bits_from}
@@ -16,6 +13,11 @@ pub data Form : Type 0 where
   Iw : Form
 
 -- a and code, and how many bits were shifted in since the start
+pub record Interval : Type 0 where
+  pub a : ℕ
+  pub code : ℕ
+  pub n : ℕ
+
 abbrev pub interval : ℕ → ℕ → ℕ → Interval
 interval a code n = record { a = a; code = code; n = n }
 
@@ -75,12 +77,6 @@ is_determined payload ended at = ended || nat_le (at.n + 32) (8 * length payload
 abbrev pub is_exhausted : List ℕ → Bool → Interval → Bool
 is_exhausted payload ended at = ended && nat_lt (8 * length payload + 192) (16 + at.n)
 
-abbrev pub step_of : List ℕ → Bool → ℕ → Interval → Step
-step_of payload ended z at =
-    if is_determined payload ended at
-    then if is_exhausted payload ended (after payload z at) then step.Exhausted else step.Made (after payload z at)
-    else step.NeedBytes
-
 -- the more probable bit: the lowest bit of a context's state, and 0 without a context
 abbrev pub probable_of : Form → Bool
 probable_of (Adaptive state) = state % 2 == 1
@@ -114,17 +110,27 @@ pub record Outcome : Type 0 where
   pub place : Option Interval
   pub state : ℕ
 
-abbrev pub outcome_by : List Row → Form → ℕ → Interval → Option Interval → Step → Outcome
-outcome_by rows form z at place (step.Made next) = record { answer = decision.Bit (bit_of form z at); place = Some next; state = state_after rows form z at }
-outcome_by rows form z at place step.NeedBytes = record { answer = decision.NeedBytes; place = place; state = state_of form }
-outcome_by rows form z at place step.Exhausted = record { answer = decision.Exhausted; place = place; state = state_of form }
+-- without a bit nothing changes
+abbrev pub unmoved : Decision → Form → Option Interval → Outcome
+unmoved answer form place = record { answer = answer; place = place; state = state_of form }
 
-abbrev pub outcome_at : List Row → Form → List ℕ → Bool → Option Interval → Interval → Outcome
-outcome_at rows form payload ended place at = outcome_by rows form (split_of rows form at.a) at place (step_of payload ended (split_of rows form at.a) at)
+abbrev pub moved : List Row → Form → ℕ → Interval → Interval → Outcome
+moved rows form z at next = record { answer = decision.Bit (bit_of form z at); place = Some next; state = state_after rows form z at }
+
+abbrev pub outcome_at : List Row → Form → List ℕ → Bool → Option Interval → ℕ → Interval → Outcome
+outcome_at rows form payload ended place z at =
+    if is_determined payload ended at
+    then if is_exhausted payload ended (after payload z at)
+         then unmoved decision.Exhausted form place
+         else moved rows form z at (after payload z at)
+    else unmoved decision.NeedBytes form place
+
+abbrev pub outcome_from : List Row → Form → List ℕ → Bool → Option Interval → Interval → Outcome
+outcome_from rows form payload ended place at = outcome_at rows form payload ended place (split_of rows form at.a) at
 
 -- a decision of this form, with a state table, after these bytes of the chunk, which are all of it or not
 abbrev pub outcome_of : List Row → Form → List ℕ → Bool → Option Interval → Outcome
-outcome_of rows form payload ended place = outcome_at rows form payload ended place (interval_at payload place)
+outcome_of rows form payload ended place = outcome_from rows form payload ended place (interval_at payload place)
 
 -- a bit that was decided is counted, up to 2 ^ 64 - 1
 abbrev pub counted : Decision → ℕ → ℕ

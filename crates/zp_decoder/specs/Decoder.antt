@@ -1,7 +1,7 @@
 -- How a decoder stands to the bytes that it was fed.
 use Rattle.std.specs.Prelude.{◌≡◌, ℕ, ◌+◌, ◌*◌, Bool, true, ◌&&◌, List, Option, Some, None, nat_lt, nat_le, IsTrue}
 use Rattle.zp_table.specs.declared.rows.Row.{Row}
-use Rattle.zp_decoder.specs.declared.interval.Interval.{Interval}
+use Rattle.zp_decoder.specs.Decision.{Interval}
 
 -- what only the decoder itself reads
 pub record Kept : Type 0 where

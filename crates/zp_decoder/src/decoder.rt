@@ -2,8 +2,7 @@
 ghost use Rattle.std.specs.Prelude.{◌≡◌, ◌+◌, ◌<◌, ℕ, List, [], ◌++◌, length, Bool, true, false, Option, Some, None, OnOk, OnErr};
 ghost use Rattle.std.specs.Arc.{arc_value};
 ghost use Rattle.zp_table.specs.Rows.{row_at};
-ghost use Rattle.zp_decoder.specs.declared.interval.Interval.{Interval};
-ghost use Rattle.zp_decoder.specs.Decision.{Adaptive, Pass, Iw, outcome_of, counted, next_state};
+ghost use Rattle.zp_decoder.specs.Decision.{Interval, Adaptive, Pass, Iw, outcome_of, counted, next_state};
 ghost use Rattle.zp_decoder.specs.Decoder.{Fed};
 
 use crate::interval::{Interval, adaptive_split, interval_at, iw_split, pass_split};

@@ -4,12 +4,24 @@ ghost use Rattle.zp_decoder.specs.Bits.{bit_at};
 ghost use Rattle.zp_decoder.specs.Decision.{adaptive_split, pass_split, iw_split, interval_at, cut, shift, start, after};
 ghost use Rattle.zp_decoder.specs.Decoder.{is_between, IsStanding};
 
+use std::marker::Model;
+
 /// The start of the interval, the code in it, and how many bits were shifted in since the start of the chunk.
 #[derive(Clone, Copy, Debug)]
 pub(crate) struct Interval {
     pub(crate) a: u32,
     pub(crate) code: u32,
     pub(crate) n: u128,
+}
+
+impl Model for Interval {
+    ghost use Rattle.zp_decoder.specs.Decision.{Interval as Place};
+
+    ghost Value = { Place };
+
+    ghost view = { λ at. record { a = at.a; code = at.code; n = at.n } };
+
+    ghost inverse = { λ at. record { a = at.a; code = at.code; n = at.n } };
 }
 
 /// One bit of the input, by its number from 0: each byte from its highest bit, and past the end ones.

@@ -3,6 +3,8 @@
 
 mod decoder;
 mod interval;
+mod laws;
 mod steps;
 
 pub use decoder::{Decision, ZpDecoder};
+pub use laws::worked_decisions;

@@ -17,7 +17,8 @@ pub loop-at-preserved : goal.loop-at-preserved
 loop-at-preserved c =
     let first : ℕ = c.cut-at.result.n in
     let now : ℕ = c.loop-at.at.n in
-    let some : 0 < first + 16 - now = enough_some _ _ c.loop-at.invariant.shifts.enough c.loop-at-test.true in
+    let high : 0x8000 ≤ c.loop-at.at.a = grind (arith, common_steps) in
+    let some : 0 < first + 16 - now = enough_some _ _ c.loop-at.invariant.shifts.enough high in
     let next : c.shift-at.result.n ≡ now + 1 = grind (arith, common_steps) in
     record {
       within = c.shift-at.ensures.within;
@@ -25,8 +26,10 @@ loop-at-preserved c =
       from = c.loop-at.invariant.from;
       least = omega arith;
       most = omega arith;
-      shifts = shifts_on c.args.bytes.now c.cut-at.result c.loop-at.at c.shift-at.result _ _ c.loop-at.invariant.shifts c.loop-at-test.true (omega arith) c.shift-at.ensures.shift;
+      shifts = shifts_on c.args.bytes.now c.cut-at.result c.loop-at.at c.shift-at.result _ _ c.loop-at.invariant.shifts high (omega arith) c.shift-at.ensures.shift;
     }
 
 pub returns-clause-after : goal.returns-clause-after
-returns-clause-after c = shifts_last c.args.bytes.now c.args.z c.args.at c.cut-at.result c.loop-at.at _ c.loop-at.invariant.shifts c.loop-at-test.false c.cut-at.ensures.cut
+returns-clause-after c =
+    let low : c.loop-at.at.a < 0x8000 = grind (arith, common_steps) in
+    shifts_last c.args.bytes.now c.args.z c.args.at c.cut-at.result c.loop-at.at _ c.loop-at.invariant.shifts low c.cut-at.ensures.cut

@@ -1,1 +1,3 @@
 pub mod Shifting
+pub mod Within
+pub mod Growing

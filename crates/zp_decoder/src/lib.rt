@@ -7,4 +7,7 @@ mod laws;
 mod steps;
 
 pub use decoder::{Decision, ZpDecoder};
-pub use laws::worked_decisions;
+pub use laws::{
+    decisions_end, decisions_stay_within, flat_inverts_bits, more_bytes_change_nothing,
+    worked_decisions,
+};

@@ -1,3 +1,4 @@
 pub mod Shifting
 pub mod Within
 pub mod Growing
+pub mod FlatLemmas

@@ -3,6 +3,7 @@ use Rattle.std.proofs.Common.{◌≡◌, ◌≤◌, ◌<◌, ◌+◌, ◌-◌, �
 use Rattle.std.specs.Prelude.{◌⊎◌, Option, Some, None, nat_lt, nat_le, slice_get, IsTrue, if◌then◌else◌}
 use Rattle.std.specs.List.{list_all}
 use Rattle.std.proofs.lemmas.Grind.{common_steps}
+use Rattle.std.proofs.lemmas.List.Sums.{sum_by-cons}
 use Rattle.std.proofs.Math.Nat.{pow-suc}
 use Rattle.zp_table.specs.declared.rows.Row.{Row}
 use Rattle.zp_table.specs.Rows.{row_at, is_row, is_table, IsTable}
@@ -11,7 +12,7 @@ use Rattle.zp_decoder.specs.declared.decoder.Decision.TheVariants as decision
 use Rattle.zp_decoder.specs.Bits.{bit_in, bit_at, bits_from}
 use Rattle.zp_decoder.specs.Decision.{Form, Adaptive, Pass, Iw, Interval, interval, start, interval_at, split_of, adaptive_split, cut, shift, shifted, most_bits, after, is_determined, is_exhausted, next_state, Outcome, outcome_of, outcome_from, outcome_at, moved, unmoved}
 use Rattle.zp_decoder.specs.Decoder.{is_between, is_standing, IsStanding}
-use Rattle.zp_decoder.specs.Runs.{IsFormOf, AreFormsOf, room, room_at, is_bit, bits_made}
+use Rattle.zp_decoder.specs.Runs.{IsFormOf, AreFormsOf, room, room_at, is_bit, answers, bits_made}
 use Rattle.zp_decoder.proofs.Shifting.{shifted-step, shifted-stop, IsEnough, enough_at_first, enough_some, enough_later}
 
 -- bits
@@ -147,7 +148,7 @@ shift_off : (payload : List ℕ) (k : ℕ) (at : Interval) → at.a ≤ at.code 
 shift_off payload k at within below low =
     rw (shifted-stop payload k at low) (record { low = low; within = within; below = below; least = omega arith; most = omega arith; some = λ high. absurd (omega arith); none = λ _. refl })
 
-high_or_low : (a : ℕ) → (0x8000 ≤ a) ⊎ (a < 0x8000)
+pub high_or_low : (a : ℕ) → (0x8000 ≤ a) ⊎ (a < 0x8000)
 high_or_low a = search arith
 
 pub shifted_facts : (payload : List ℕ) (k : ℕ) (at : Interval) → at.a ≤ at.code → at.code < 0x10000 → IsEnough k at.a → ShiftedFacts k at (shifted payload k at)
@@ -211,7 +212,7 @@ comes rows form payload ended place z at = comes_by rows form payload ended plac
 le_from_lt_false : (a b : ℕ) → nat_lt a b ≡ false → b ≤ a
 le_from_lt_false a b e = grind (arith, common_steps)
 
-le_from_le_true : (a b : ℕ) → nat_le a b ≡ true → a ≤ b
+pub le_from_le_true : (a b : ℕ) → nat_le a b ≡ true → a ≤ b
 le_from_le_true a b e = grind (arith, common_steps)
 
 -- the number of bits after a decision that isn't refused
@@ -342,4 +343,6 @@ at_most rows payload ended place (form ∷ forms) t below stands =
     let first = room_falls rows form payload ended place t below.0 stands in
     let next : Option Interval = (outcome_of rows form payload ended place).place in
     let later = at_most rows payload ended next forms t below.1 (standing rows form payload ended place t below.0 stands) in
-    omega (arith, first, later)
+    let one : bits_made rows payload ended place (form ∷ forms) ≡ cond (is_bit (outcome_of rows form payload ended place).answer) 1 0 + bits_made rows payload ended next forms =
+      sum_by-cons (λ (answer : Decision). cond (is_bit answer) 1 0) (outcome_of rows form payload ended place).answer (answers rows payload ended next forms) in
+    omega (arith, first, later, one)

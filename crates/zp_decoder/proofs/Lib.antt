@@ -2,3 +2,4 @@ pub mod Shifting
 pub mod Within
 pub mod Growing
 pub mod FlatLemmas
+pub mod Deciding

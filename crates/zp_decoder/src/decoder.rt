@@ -1,8 +1,8 @@
 //! The decoder.
-ghost use Rattle.std.specs.Prelude.{◌≡◌, ◌+◌, ◌<◌, ℕ, List, [], ◌++◌, length, Bool, true, false, Option, Some, None, OnOk, OnErr};
+ghost use Rattle.std.specs.Prelude.{◌≡◌, ◌+◌, ◌<◌, ◌≤◌, ℕ, List, [], ◌++◌, length, Bool, true, false, Option, Some, None, OnOk, OnErr};
 ghost use Rattle.std.specs.Arc.{arc_value};
 ghost use Rattle.zp_table.specs.Rows.{row_at};
-ghost use Rattle.zp_decoder.specs.Decision.{Interval, Adaptive, Pass, Iw, outcome_of, counted, next_state};
+ghost use Rattle.zp_decoder.specs.Decision.{Interval, Adaptive, Pass, Iw, outcome_of, outcome_at, interval_at, counted, next_state};
 ghost use Rattle.zp_decoder.specs.Decoder.{Fed};
 
 use crate::interval::{Interval, adaptive_split, interval_at, iw_split, pass_split};
@@ -102,7 +102,7 @@ impl ZpDecoder {
 
     /// Decides a bit in a context, whose state moves by the table. A bit ticks the meter once; the other two answers
     /// change nothing.
-    #[tactic(auto, unfolding(crate::specs::Decoder::Fed))]
+    #[tactic(auto, using(crate::proofs::Deciding::place_same), unfolding(crate::specs::Decoder::Fed))]
     pub fn decode<M: Meter>(&mut self, ctx: &mut u8, meter: &mut M) -> Decision
         requires { ctx.old < length self.old.table }
         ensures answer { (payload : List ℕ) (place : Option Interval) → Fed payload place self.old →
@@ -121,17 +121,14 @@ impl ZpDecoder {
         let row = self.rows.row(*ctx);
         let from = interval_at(self.bytes.as_slice(), self.place);
         let z = adaptive_split(row.p, from.a);
-        match make_step(self.bytes.as_slice(), self.is_whole, z, from) {
-            Step::Made(next) => {
-                let is_more = *ctx % 2 == 1;
-                let bit = if from.code < z { !is_more } else { is_more };
+        match self.decide(z, meter) {
+            Decision::Bit(is_less) => {
+                let is_odd = *ctx % 2 == 1;
                 *ctx = next_state(row, *ctx, z, from);
-                self.place = Some(next);
-                meter.tick();
-                Decision::Bit(bit)
+                Decision::Bit(if is_less { !is_odd } else { is_odd })
             }
-            Step::NeedBytes => Decision::NeedBytes,
-            Step::Exhausted => Decision::Exhausted,
+            Decision::NeedBytes => Decision::NeedBytes,
+            Decision::Exhausted => Decision::Exhausted,
         }
     }
 
@@ -149,16 +146,7 @@ impl ZpDecoder {
         ensures exhausted { result ≡ Decision.Exhausted → (self.new ≡ self.old) × (meter.new ≡ meter.old) }
     {
         let from = interval_at(self.bytes.as_slice(), self.place);
-        let z = pass_split(from.a);
-        match make_step(self.bytes.as_slice(), self.is_whole, z, from) {
-            Step::Made(next) => {
-                self.place = Some(next);
-                meter.tick();
-                Decision::Bit(from.code < z)
-            }
-            Step::NeedBytes => Decision::NeedBytes,
-            Step::Exhausted => Decision::Exhausted,
-        }
+        self.decide(pass_split(from.a), meter)
     }
 
     /// Decides a bit without a context, in the form of IW44's coefficients.
@@ -175,7 +163,24 @@ impl ZpDecoder {
         ensures exhausted { result ≡ Decision.Exhausted → (self.new ≡ self.old) × (meter.new ≡ meter.old) }
     {
         let from = interval_at(self.bytes.as_slice(), self.place);
-        let z = iw_split(from.a);
+        self.decide(iw_split(from.a), meter)
+    }
+
+    /// Decides a bit with this z: whether it is the less probable one.
+    #[tactic(auto, unfolding(crate::specs::Decoder::Fed))]
+    fn decide<M: Meter>(&mut self, z: u32, meter: &mut M) -> Decision
+        requires { z ≤ 0x10000 }
+        ensures answer { (payload : List ℕ) (place : Option Interval) → Fed payload place self.old →
+            result ≡ (outcome_at self.old.table Pass payload self.old.ended place z (interval_at payload place)).answer }
+        ensures fed { (payload : List ℕ) (place : Option Interval) → Fed payload place self.old →
+            Fed payload (outcome_at self.old.table Pass payload self.old.ended place z (interval_at payload place)).place self.new }
+        ensures table { self.new.table ≡ self.old.table }
+        ensures ended { self.new.ended ≡ self.old.ended }
+        ensures ticks { M.count meter.new ≡ counted result (M.count meter.old) }
+        ensures needs { result ≡ Decision.NeedBytes → (self.new ≡ self.old) × (meter.new ≡ meter.old) }
+        ensures exhausted { result ≡ Decision.Exhausted → (self.new ≡ self.old) × (meter.new ≡ meter.old) }
+    {
+        let from = interval_at(self.bytes.as_slice(), self.place);
         match make_step(self.bytes.as_slice(), self.is_whole, z, from) {
             Step::Made(next) => {
                 self.place = Some(next);

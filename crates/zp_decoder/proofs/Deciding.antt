@@ -1,11 +1,10 @@
 -- A decision in a context, beside one without a context and with the same z.
-use Rattle.std.proofs.Common.{◌≡◌, ℕ, Bool, true, false, List, refl, sym, ap, ◌∙◌}
-use Rattle.std.specs.Prelude.{Option, if◌then◌else◌}
+use Rattle.std.proofs.Common.{◌≡◌, ℕ, Bool, List, refl, sym, ap, ◌∙◌}
+use Rattle.std.specs.Prelude.{Option}
 use Rattle.zp_table.specs.declared.rows.Row.{Row}
 use Rattle.zp_table.specs.Rows.{row_at}
-use Rattle.zp_decoder.specs.declared.decoder.Decision.{Decision}
 use Rattle.zp_decoder.specs.declared.decoder.Decision.TheVariants as decision
-use Rattle.zp_decoder.specs.Decision.{Adaptive, Pass, Interval, Outcome, is_determined, is_exhausted, after, adaptive_split, interval_at, next_state, outcome_of, outcome_at}
+use Rattle.zp_decoder.specs.Decision.{Adaptive, Pass, Interval, Outcome, adaptive_split, interval_at, next_state, outcome_of, outcome_at}
 use Rattle.zp_decoder.proofs.Within.{Comes, needs, exhausts, moves, comes}
 
 place_by : (rows : List Row) (state : ℕ) (payload : List ℕ) (ended : Bool) (place : Option Interval) (z : ℕ) (at : Interval) → Comes rows Pass payload ended place z at →

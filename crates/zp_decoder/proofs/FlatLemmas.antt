@@ -1,13 +1,12 @@
 -- Decisions with the table of one row.
-use Rattle.std.proofs.Common.{◌≡◌, ◌≤◌, ◌<◌, ◌+◌, ◌-◌, ◌*◌, ◌^◌, ◌==◌, ℕ, zero, suc, Bool, true, false, not, List, length, refl, sym, ap, subst, ◌∙◌, inl, inr, arith}
-use Rattle.std.specs.Prelude.{◌⊎◌, Option, Some, None, nat_lt, nat_le, if◌then◌else◌}
+use Rattle.std.proofs.Common.{◌≡◌, ◌≤◌, ◌<◌, ◌+◌, ◌-◌, ◌*◌, ◌^◌, ◌==◌, ℕ, zero, suc, Bool, true, false, List, refl, sym, ap, subst, ◌∙◌, inl, inr, arith}
+use Rattle.std.specs.Prelude.{◌⊎◌, Option, nat_lt}
 use Rattle.std.proofs.lemmas.Grind.{common_steps}
 use Rattle.std.proofs.Math.Nat.{pow-suc, mul_assoc}
 use Rattle.zp_table.specs.Listing.{flat_rows}
-use Rattle.zp_decoder.specs.declared.decoder.Decision.{Decision}
 use Rattle.zp_decoder.specs.declared.decoder.Decision.TheVariants as decision
 use Rattle.zp_decoder.specs.Bits.{bit_at, bits_from}
-use Rattle.zp_decoder.specs.Decision.{Form, Adaptive, Pass, Iw, Interval, Outcome, interval, interval_at, split_of, cut, shift, shifted, most_bits, after, probable_of, bit_of, outcome_of, outcome_from, outcome_at, moved, unmoved}
+use Rattle.zp_decoder.specs.Decision.{Form, Adaptive, Pass, Iw, Interval, Outcome, interval, split_of, cut, shifted, most_bits, after, probable_of, bit_of, outcome_of, outcome_from, outcome_at}
 use Rattle.zp_decoder.specs.Runs.{IsFormOf, IsAligned}
 use Rattle.zp_decoder.proofs.Shifting.{shifted-step, shifted-stop}
 use Rattle.zp_decoder.proofs.Within.{bit_at-lt, bits_from-lt, Comes, needs, exhausts, moves, comes}
@@ -60,7 +59,7 @@ codes_of payload number count e =
 shifted_once : (payload : List ℕ) (code number : ℕ) → shifted payload 16 (interval 0x8000 code number) ≡ interval 0 (2 * code - 0x10000 + bit_at payload (16 + number)) (number + 1)
 shifted_once payload code number =
     shifted-step payload 16 15 (interval 0x8000 code number) refl (omega arith)
-      ∙ shifted-stop payload 15 (interval 0 (2 * code - 0x10000 + bit_at payload (16 + number)) (number + 1)) (omega arith)
+    ∙ shifted-stop payload 15 (interval 0 (2 * code - 0x10000 + bit_at payload (16 + number)) (number + 1)) (omega arith)
 
 -- what the next bit, and code, say of the first half of the interval
 halves : (bit code low : ℕ) → bit < 2 → low < 0x8000 → code ≡ bit * 0x8000 + low → ((bit ≡ 0) × (code ≡ low)) ⊎ ((bit ≡ 1) × (code ≡ 0x8000 + low))
@@ -79,15 +78,15 @@ shifted_flat payload number code next codes =
     let small : codes.low < 0x8000 = codes.small in
     let last : next ≡ 2 * codes.low + bit_at payload (16 + number) = codes.last in
     elim (halves (bit_at payload number) code codes.low (bit_at-lt payload number) codes.small codes.first) [
-      inl zeroes ↦
-        let same : code ≡ codes.low = zeroes.1 in
-        let result : 2 * (code + 0x8000) - 0x10000 + bit_at payload (16 + number) ≡ next = omega (arith, same, last, small) in
-        ap (shifted payload 16) (cut_low code number (omega (arith, same, small)))
+      | inl zeroes ↦
+          let same : code ≡ codes.low = zeroes.1 in
+          let result : 2 * (code + 0x8000) - 0x10000 + bit_at payload (16 + number) ≡ next = omega (arith, same, last, small) in
+          ap (shifted payload 16) (cut_low code number (omega (arith, same, small)))
           ∙ (shifted_once payload (code + 0x8000) number ∙ ap (λ (c : ℕ). interval 0 c (number + 1)) result)
-    | inr ones ↦
-        let same : code ≡ 0x8000 + codes.low = ones.1 in
-        let result : 2 * code - 0x10000 + bit_at payload (16 + number) ≡ next = omega (arith, same, last, small) in
-        ap (shifted payload 16) (cut_high code number (omega (arith, same)))
+      | inr ones ↦
+          let same : code ≡ 0x8000 + codes.low = ones.1 in
+          let result : 2 * code - 0x10000 + bit_at payload (16 + number) ≡ next = omega (arith, same, last, small) in
+          ap (shifted payload 16) (cut_high code number (omega (arith, same)))
           ∙ (shifted_once payload code number ∙ ap (λ (c : ℕ). interval 0 c (number + 1)) result)
     ]
 
@@ -103,14 +102,14 @@ flat_bit : (payload : List ℕ) (form : Form) (number code next : ℕ) → Codes
 flat_bit payload form number code next codes zero_more =
     let small : codes.low < 0x8000 = codes.small in
     elim (halves (bit_at payload number) code codes.low (bit_at-lt payload number) codes.small codes.first) [
-      inl zeroes ↦
-        let same : code ≡ codes.low = zeroes.1 in
-        let e : nat_lt code 0x8000 ≡ true = grind (arith, common_steps, same, small) in
-        bit_by form number code true e zero_more ∙ sym (rw zeroes.0 refl)
-    | inr ones ↦
-        let same : code ≡ 0x8000 + codes.low = ones.1 in
-        let e : nat_lt code 0x8000 ≡ false = grind (arith, common_steps, same) in
-        bit_by form number code false e zero_more ∙ sym (rw ones.0 refl)
+      | inl zeroes ↦
+          let same : code ≡ codes.low = zeroes.1 in
+          let e : nat_lt code 0x8000 ≡ true = grind (arith, common_steps, same, small) in
+          bit_by form number code true e zero_more ∙ sym (rw zeroes.0 refl)
+      | inr ones ↦
+          let same : code ≡ 0x8000 + codes.low = ones.1 in
+          let e : nat_lt code 0x8000 ≡ false = grind (arith, common_steps, same) in
+          bit_by form number code false e zero_more ∙ sym (rw ones.0 refl)
     ]
 
 inverts_by : (form : Form) (payload : List ℕ) (ended : Bool) (place : Option Interval) (number code next z : ℕ) (bit : Bool) → Codes payload number code next → next ≡ bits_from payload (number + 1) 16 →
@@ -137,8 +136,8 @@ pub inverts : (form : Form) (payload : List ℕ) (ended : Bool) (place : Option 
     (bit ≡ (bit_at payload number == 0)) × IsAligned payload (number + 1) (outcome_of flat_rows form payload ended place).place
 inverts form payload ended place number bit below aligned =
     subst (λ (at : Interval). (outcome_from flat_rows form payload ended place at).answer ≡ decision.Bit bit →
-        (bit ≡ (bit_at payload number == 0)) × IsAligned payload (number + 1) (outcome_from flat_rows form payload ended place at).place)
-      (sym aligned)
-      (inverts_by form payload ended place number (bits_from payload number 16) (bits_from payload (number + 1) 16) (split_of flat_rows form 0) bit
-        (codes_of payload number 15 refl) refl (split_flat form below) (probable_flat form below)
-        (comes flat_rows form payload ended place (split_of flat_rows form 0) (interval 0 (bits_from payload number 16) number)))
+    (bit ≡ (bit_at payload number == 0)) × IsAligned payload (number + 1) (outcome_from flat_rows form payload ended place at).place)
+    (sym aligned)
+    (inverts_by form payload ended place number (bits_from payload number 16) (bits_from payload (number + 1) 16) (split_of flat_rows form 0) bit
+    (codes_of payload number 15 refl) refl (split_flat form below) (probable_flat form below)
+    (comes flat_rows form payload ended place (split_of flat_rows form 0) (interval 0 (bits_from payload number 16) number)))

@@ -1,16 +1,15 @@
 -- More bytes behind a payload.
-use Rattle.std.proofs.Common.{◌≡◌, ◌≤◌, ◌<◌, ◌+◌, ◌-◌, ◌*◌, ◌/◌, ◌%◌, ◌^◌, ℕ, zero, suc, Bool, true, false, List, [], ◌∷◌, ◌++◌, length, refl, sym, ap, ◌∙◌, inl, inr, arith, length-append}
-use Rattle.std.specs.Prelude.{◌⊎◌, Option, Some, None, nat_lt, nat_le, slice_get, if◌then◌else◌}
+use Rattle.std.proofs.Common.{◌≡◌, ◌≤◌, ◌<◌, ◌+◌, ◌-◌, ◌*◌, ◌/◌, ◌%◌, ℕ, zero, suc, Bool, true, false, List, [], ◌∷◌, ◌++◌, length, refl, sym, ap, ◌∙◌, inl, inr, arith, length-append}
+use Rattle.std.specs.Prelude.{Option, Some, None, nat_lt, nat_le, slice_get}
 use Rattle.std.proofs.lemmas.Grind.{common_steps}
 use Rattle.zp_table.specs.declared.rows.Row.{Row}
 use Rattle.zp_table.specs.Rows.{IsTable}
-use Rattle.zp_decoder.specs.declared.decoder.Decision.TheVariants as decision
 use Rattle.zp_decoder.specs.Bits.{bit_in, bit_at, bits_from}
-use Rattle.zp_decoder.specs.Decision.{Form, Interval, interval, start, interval_at, split_of, cut, shift, shifted, most_bits, after, is_determined, is_exhausted, outcome_of, outcome_from, outcome_at}
+use Rattle.zp_decoder.specs.Decision.{Form, Interval, interval, interval_at, split_of, cut, shift, shifted, most_bits, after, is_determined, is_exhausted, outcome_of, outcome_from}
 use Rattle.zp_decoder.specs.Decoder.{IsStanding}
 use Rattle.zp_decoder.specs.Runs.{IsFormOf}
 use Rattle.zp_decoder.proofs.Shifting.{shifted-step, shifted-stop}
-use Rattle.zp_decoder.proofs.Within.{high_or_low, BetweenFacts, facts_of_place, split_facts, AfterFacts, after_facts, le_from_le_true}
+use Rattle.zp_decoder.proofs.Within.{high_or_low, BetweenFacts, facts_of_place, split_facts, after_facts, le_from_le_true}
 
 slice_get-append : (payload more : List ℕ) (i : ℕ) → i < length payload → slice_get (payload ++ more) i ≡ slice_get payload i
 slice_get-append [] more i below = absurd (omega arith)
@@ -36,12 +35,12 @@ shifted-append : (payload more : List ℕ) (k : ℕ) (at : Interval) → 16 + at
 shifted-append payload more zero at below = refl
 shifted-append payload more (suc k) at below =
     elim (high_or_low at.a) [
-      inl high ↦
-        let one : shift (payload ++ more) at ≡ shift payload at = shift-append payload more at (omega arith) in
-        let later = shifted-append payload more k (shift payload at) (omega arith) in
-        shifted-step (payload ++ more) (suc k) k at refl high
+      | inl high ↦
+          let one : shift (payload ++ more) at ≡ shift payload at = shift-append payload more at (omega arith) in
+          let later = shifted-append payload more k (shift payload at) (omega arith) in
+          shifted-step (payload ++ more) (suc k) k at refl high
           ∙ (ap (shifted (payload ++ more) k) one ∙ (later ∙ sym (shifted-step payload (suc k) k at refl high)))
-    | inr low ↦ shifted-stop (payload ++ more) (suc k) at low ∙ sym (shifted-stop payload (suc k) at low)
+      | inr low ↦ shifted-stop (payload ++ more) (suc k) at low ∙ sym (shifted-stop payload (suc k) at low)
     ]
 
 true_from_le : (a b : ℕ) → a ≤ b → nat_le a b ≡ true
@@ -91,4 +90,4 @@ grown rows form payload more ended place t below stands d =
     let there : (interval_at payload place).n + 32 ≤ 8 * length payload = le_from_le_true _ _ d in
     let at : interval_at (payload ++ more) place ≡ interval_at payload place = interval_at-append payload more place there in
     ap (outcome_from rows form (payload ++ more) ended place) at
-      ∙ grown_from rows form payload more ended place (interval_at payload place) t below (facts_of_place payload place stands) there
+    ∙ grown_from rows form payload more ended place (interval_at payload place) t below (facts_of_place payload place stands) there

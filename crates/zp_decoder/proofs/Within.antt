@@ -1,19 +1,19 @@
 -- Bounds of decisions.
-use Rattle.std.proofs.Common.{◌≡◌, ◌≤◌, ◌<◌, ◌+◌, ◌-◌, ◌*◌, ◌/◌, ◌%◌, ◌^◌, ℕ, zero, suc, Bool, true, false, List, [], ◌∷◌, length, refl, sym, ap, ◌∙◌, inl, inr, cond, arith, min}
-use Rattle.std.specs.Prelude.{◌⊎◌, Option, Some, None, nat_lt, nat_le, slice_get, IsTrue, if◌then◌else◌}
+use Rattle.std.proofs.Common.{◌≡◌, ◌≤◌, ◌<◌, ◌+◌, ◌-◌, ◌*◌, ◌/◌, ◌%◌, ◌^◌, ℕ, zero, suc, Bool, true, false, List, [], ◌∷◌, length, refl, sym, ap, ◌∙◌, inl, inr, cond, arith}
+use Rattle.std.specs.Prelude.{◌⊎◌, Option, Some, None, nat_lt, nat_le, slice_get}
 use Rattle.std.specs.List.{list_all}
 use Rattle.std.proofs.lemmas.Grind.{common_steps}
 use Rattle.std.proofs.lemmas.List.Sums.{sum_by-cons}
 use Rattle.std.proofs.Math.Nat.{pow-suc}
 use Rattle.zp_table.specs.declared.rows.Row.{Row}
-use Rattle.zp_table.specs.Rows.{row_at, is_row, is_table, IsTable}
+use Rattle.zp_table.specs.Rows.{row_at, is_row, IsTable}
 use Rattle.zp_decoder.specs.declared.decoder.Decision.{Decision}
 use Rattle.zp_decoder.specs.declared.decoder.Decision.TheVariants as decision
 use Rattle.zp_decoder.specs.Bits.{bit_in, bit_at, bits_from}
-use Rattle.zp_decoder.specs.Decision.{Form, Adaptive, Pass, Iw, Interval, interval, start, interval_at, split_of, adaptive_split, cut, shift, shifted, most_bits, after, is_determined, is_exhausted, next_state, Outcome, outcome_of, outcome_from, outcome_at, moved, unmoved}
-use Rattle.zp_decoder.specs.Decoder.{is_between, is_standing, IsStanding}
+use Rattle.zp_decoder.specs.Decision.{Form, Adaptive, Pass, Iw, Interval, interval, interval_at, split_of, adaptive_split, cut, shift, shifted, most_bits, after, is_determined, is_exhausted, next_state, Outcome, outcome_of, outcome_from, outcome_at, moved, unmoved}
+use Rattle.zp_decoder.specs.Decoder.{is_between, IsStanding}
 use Rattle.zp_decoder.specs.Runs.{IsFormOf, AreFormsOf, room, room_at, is_bit, answers, bits_made}
-use Rattle.zp_decoder.proofs.Shifting.{shifted-step, shifted-stop, IsEnough, enough_at_first, enough_some, enough_later}
+use Rattle.zp_decoder.proofs.Shifting.{shifted-step, shifted-stop, IsEnough, enough_at_first, enough_later}
 
 -- bits
 
@@ -41,11 +41,11 @@ pub record RowFacts (count : ℕ) (r : Row) : Type 0 where
 
 row_facts : (count : ℕ) (r : Row) → is_row count r ≡ true → RowFacts count r
 row_facts count r e = record {
-    some = grind (arith, common_steps);
-    most = grind (arith, common_steps);
-    up = grind (arith, common_steps);
-    dn = grind (arith, common_steps);
-  }
+  some = grind (arith, common_steps);
+  most = grind (arith, common_steps);
+  up = grind (arith, common_steps);
+  dn = grind (arith, common_steps);
+}
 
 row_within : (count : ℕ) (rows : List Row) (state : ℕ) → list_all (is_row count) rows ≡ true → state < length rows → is_row count (row_at rows state) ≡ true
 row_within count [] state all below = absurd (omega arith)
@@ -82,11 +82,11 @@ pub record BetweenFacts (size : ℕ) (at : Interval) : Type 0 where
 
 pub between_facts : (size : ℕ) (at : Interval) → is_between size at ≡ true → BetweenFacts size at
 between_facts size at e = record {
-    low = grind (arith, common_steps);
-    within = grind (arith, common_steps);
-    below = grind (arith, common_steps);
-    bits = grind (arith, common_steps);
-  }
+  low = grind (arith, common_steps);
+  within = grind (arith, common_steps);
+  below = grind (arith, common_steps);
+  bits = grind (arith, common_steps);
+}
 
 pub between-from_facts : (size : ℕ) (at : Interval) → BetweenFacts size at → is_between size at ≡ true
 between-from_facts size at facts = grind (arith, common_steps)
@@ -135,14 +135,14 @@ shift_on : (payload : List ℕ) (k : ℕ) (at : Interval) → at.a ≤ at.code �
     ShiftedFacts k (shift payload at) (shifted payload k (shift payload at)) → ShiftedFacts (suc k) at (shifted payload (suc k) at)
 shift_on payload k at within below high later =
     rw (shifted-step payload (suc k) k at refl high) (record {
-        low = later.low;
-        within = later.within;
-        below = later.below;
-        least = omega (arith, later.least);
-        most = omega (arith, later.most);
-        some = λ _. omega (arith, later.least);
-        none = λ low. absurd (omega arith);
-      })
+      low = later.low;
+      within = later.within;
+      below = later.below;
+      least = omega (arith, later.least);
+      most = omega (arith, later.most);
+      some = λ _. omega (arith, later.least);
+      none = λ low. absurd (omega arith);
+    })
 
 shift_off : (payload : List ℕ) (k : ℕ) (at : Interval) → at.a ≤ at.code → at.code < 0x10000 → at.a < 0x8000 → ShiftedFacts k at (shifted payload k at)
 shift_off payload k at within below low =
@@ -156,9 +156,9 @@ shifted_facts payload zero at within below enough = shift_off payload zero at wi
 shifted_facts payload (suc k) at within below enough =
     let bit = bit_at-lt payload (16 + at.n) in
     elim (high_or_low at.a) [
-      inl high ↦ shift_on payload k at within below high
-        (shifted_facts payload k (shift payload at) (omega arith) (omega (arith, bit)) (enough_later k at.a enough high))
-    | inr low ↦ shift_off payload (suc k) at within below low
+      | inl high ↦ shift_on payload k at within below high
+          (shifted_facts payload k (shift payload at) (omega arith) (omega (arith, bit)) (enough_later k at.a enough high))
+      | inr low ↦ shift_off payload (suc k) at within below low
     ]
 
 -- a decision with a z above a
@@ -173,8 +173,8 @@ pub record AfterFacts (from at : Interval) : Type 0 where
 moves_by : (k : ℕ) (from first at : Interval) → CutFacts from first → ShiftedFacts k first at → at.n ≡ from.n → from.a < at.a
 moves_by k from first at c facts e =
     elim (high_or_low first.a) [
-      inl high ↦ absurd (omega (arith, facts.some high, c.same, e))
-    | inr low ↦ rw (facts.none low) c.above
+      | inl high ↦ absurd (omega (arith, facts.some high, c.same, e))
+      | inr low ↦ rw (facts.none low) c.above
     ]
 
 pub after_facts : (payload : List ℕ) (z : ℕ) (at : Interval) → at.a ≤ at.code → at.code < 0x10000 → at.a < 0x8000 → SplitFacts at.a z → AfterFacts at (after payload z at)
@@ -196,9 +196,9 @@ after_facts payload z at within below low split =
 pub data Comes (rows : List Row) (form : Form) (payload : List ℕ) (ended : Bool) (place : Option Interval) (z : ℕ) (at : Interval) : Type 0 where
   needs : is_determined payload ended at ≡ false → outcome_at rows form payload ended place z at ≡ unmoved decision.NeedBytes form place → Comes rows form payload ended place z at
   exhausts : is_determined payload ended at ≡ true → is_exhausted payload ended (after payload z at) ≡ true →
-    outcome_at rows form payload ended place z at ≡ unmoved decision.Exhausted form place → Comes rows form payload ended place z at
+      outcome_at rows form payload ended place z at ≡ unmoved decision.Exhausted form place → Comes rows form payload ended place z at
   moves : is_determined payload ended at ≡ true → is_exhausted payload ended (after payload z at) ≡ false →
-    outcome_at rows form payload ended place z at ≡ moved rows form z at (after payload z at) → Comes rows form payload ended place z at
+      outcome_at rows form payload ended place z at ≡ moved rows form z at (after payload z at) → Comes rows form payload ended place z at
 
 comes_by : (rows : List Row) (form : Form) (payload : List ℕ) (ended : Bool) (place : Option Interval) (z : ℕ) (at : Interval) (determined exhausted : Bool) →
     is_determined payload ended at ≡ determined → is_exhausted payload ended (after payload z at) ≡ exhausted → Comes rows form payload ended place z at
@@ -240,7 +240,7 @@ pub standing : (rows : List Row) (form : Form) (payload : List ℕ) (ended : Boo
     IsStanding (length payload) place → IsStanding (length payload) (outcome_of rows form payload ended place).place
 standing rows form payload ended place t below stands =
     standing_by rows form payload ended place (interval_at payload place) t below (facts_of_place payload place stands) stands
-      (comes rows form payload ended place (split_of rows form (interval_at payload place).a) (interval_at payload place))
+    (comes rows form payload ended place (split_of rows form (interval_at payload place).a) (interval_at payload place))
 
 kept_bits : (payload : List ℕ) (place : Option Interval) (next : Interval) → place ≡ Some next → next.n ≤ (interval_at payload place).n + 16
 kept_bits payload None next e = absurd (cc)
@@ -266,7 +266,7 @@ pub bits : (rows : List Row) (form : Form) (payload : List ℕ) (ended : Bool) (
     IsStanding (length payload) place → (outcome_of rows form payload ended place).place ≡ Some next → next.n ≤ (interval_at payload place).n + 16
 bits rows form payload ended place next t below stands =
     bits_by rows form payload ended place next (interval_at payload place) t below (facts_of_place payload place stands) refl
-      (comes rows form payload ended place (split_of rows form (interval_at payload place).a) (interval_at payload place))
+    (comes rows form payload ended place (split_of rows form (interval_at payload place).a) (interval_at payload place))
 
 next_state-lt : (rows : List Row) (r : Row) (state z : ℕ) (at : Interval) → RowFacts (length rows) r → state < length rows → next_state r state z at < length rows
 next_state-lt rows r state z at facts below = grind (arith, common_steps, facts.up, facts.dn)
@@ -294,8 +294,8 @@ room_same left now a b e some more low = omega arith
 room_by : (size : ℕ) (from at : Interval) → BetweenFacts size from → BetweenFacts size at → AfterFacts from at → room_at size at < room_at size from
 room_by size from at was is facts =
     elim (more_or_same from.n at.n facts.least) [
-      inl more ↦ omega (arith, more, was.low, was.bits, is.bits)
-    | inr same ↦ room_same (8 * size + 177 - from.n) (8 * size + 177 - at.n) from.a at.a (omega (arith, same)) (omega (arith, was.bits)) (facts.moves same) facts.low
+      | inl more ↦ omega (arith, more, was.low, was.bits, is.bits)
+      | inr same ↦ room_same (8 * size + 177 - from.n) (8 * size + 177 - at.n) from.a at.a (omega (arith, same)) (omega (arith, was.bits)) (facts.moves same) facts.low
     ]
 
 fewer_by : (rows : List Row) (form : Form) (payload : List ℕ) (ended : Bool) (place : Option Interval) (at : Interval) (bit : Bool) → IsTable rows → IsFormOf rows form → BetweenFacts (length payload) at →
@@ -317,7 +317,7 @@ pub fewer : (rows : List Row) (form : Form) (payload : List ℕ) (ended : Bool) 
     room payload (outcome_of rows form payload ended place).place < room payload place
 fewer rows form payload ended place bit t below stands =
     fewer_by rows form payload ended place (interval_at payload place) bit t below (facts_of_place payload place stands)
-      (comes rows form payload ended place (split_of rows form (interval_at payload place).a) (interval_at payload place))
+    (comes rows form payload ended place (split_of rows form (interval_at payload place).a) (interval_at payload place))
 
 falls_by : (rows : List Row) (form : Form) (payload : List ℕ) (ended : Bool) (place : Option Interval) (at : Interval) → IsTable rows → IsFormOf rows form → BetweenFacts (length payload) at →
     at ≡ interval_at payload place → Comes rows form payload ended place (split_of rows form at.a) at →
@@ -334,7 +334,7 @@ room_falls : (rows : List Row) (form : Form) (payload : List ℕ) (ended : Bool)
     cond (is_bit (outcome_of rows form payload ended place).answer) 1 0 + room payload (outcome_of rows form payload ended place).place ≤ room payload place
 room_falls rows form payload ended place t below stands =
     falls_by rows form payload ended place (interval_at payload place) t below (facts_of_place payload place stands) refl
-      (comes rows form payload ended place (split_of rows form (interval_at payload place).a) (interval_at payload place))
+    (comes rows form payload ended place (split_of rows form (interval_at payload place).a) (interval_at payload place))
 
 pub at_most : (rows : List Row) (payload : List ℕ) (ended : Bool) (place : Option Interval) (forms : List Form) → IsTable rows → AreFormsOf rows forms →
     IsStanding (length payload) place → bits_made rows payload ended place forms ≤ room payload place
@@ -344,5 +344,5 @@ at_most rows payload ended place (form ∷ forms) t below stands =
     let next : Option Interval = (outcome_of rows form payload ended place).place in
     let later = at_most rows payload ended next forms t below.1 (standing rows form payload ended place t below.0 stands) in
     let one : bits_made rows payload ended place (form ∷ forms) ≡ cond (is_bit (outcome_of rows form payload ended place).answer) 1 0 + bits_made rows payload ended next forms =
-      sum_by-cons (λ (answer : Decision). cond (is_bit answer) 1 0) (outcome_of rows form payload ended place).answer (answers rows payload ended next forms) in
+    sum_by-cons (λ (answer : Decision). cond (is_bit answer) 1 0) (outcome_of rows form payload ended place).answer (answers rows payload ended next forms) in
     omega (arith, first, later, one)

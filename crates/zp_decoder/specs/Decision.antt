@@ -1,5 +1,5 @@
 -- Decisions of the ZP coder (DjVu 3 reference, ZP-Coder), one bit of the input after the other.
-use Rattle.std.specs.Prelude.{ℕ, zero, suc, ◌+◌, ◌-◌, ◌*◌, ◌/◌, ◌%◌, ◌==◌, Bool, true, false, not, ◌&&◌, ◌||◌, min, List, [], ◌∷◌, length, Option, Some, None, nat_lt, nat_le, if◌then◌else◌}
+use Rattle.std.specs.Prelude.{ℕ, zero, suc, ◌+◌, ◌-◌, ◌*◌, ◌/◌, ◌%◌, ◌==◌, Bool, false, not, ◌&&◌, ◌||◌, min, List, length, Option, Some, None, nat_lt, nat_le, if◌then◌else◌}
 use Rattle.zp_table.specs.declared.rows.Row.{Row}
 use Rattle.zp_table.specs.Rows.{row_at}
 use Rattle.zp_decoder.specs.declared.decoder.Decision.{Decision}
@@ -121,8 +121,8 @@ abbrev pub outcome_at : List Row → Form → List ℕ → Bool → Option Inter
 outcome_at rows form payload ended place z at =
     if is_determined payload ended at
     then if is_exhausted payload ended (after payload z at)
-         then unmoved decision.Exhausted form place
-         else moved rows form z at (after payload z at)
+    then unmoved decision.Exhausted form place
+    else moved rows form z at (after payload z at)
     else unmoved decision.NeedBytes form place
 
 abbrev pub outcome_from : List Row → Form → List ℕ → Bool → Option Interval → Interval → Outcome

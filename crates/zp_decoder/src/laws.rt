@@ -19,13 +19,13 @@ pub fn worked_decisions()
 
     // The bits are 1011 0111 0110, and each decision is one of them inverted, in all three forms.
     ensures flat { answers flat_rows (0xB7 ∷ 0x6D ∷ 0x86 ∷ 0x87 ∷ []) true None
-            (Adaptive 0 ∷ Pass ∷ Iw ∷ Adaptive 0 ∷ Adaptive 0 ∷ Pass ∷ Iw ∷ Adaptive 0 ∷ Adaptive 0 ∷ Adaptive 0 ∷ Adaptive 0 ∷ Adaptive 0 ∷ []) ≡
+        (Adaptive 0 ∷ Pass ∷ Iw ∷ Adaptive 0 ∷ Adaptive 0 ∷ Pass ∷ Iw ∷ Adaptive 0 ∷ Adaptive 0 ∷ Adaptive 0 ∷ Adaptive 0 ∷ Adaptive 0 ∷ []) ≡
         decision.Bit false ∷ decision.Bit true ∷ decision.Bit false ∷ decision.Bit false ∷ decision.Bit true ∷ decision.Bit false
         ∷ decision.Bit false ∷ decision.Bit false ∷ decision.Bit true ∷ decision.Bit false ∷ decision.Bit false ∷ decision.Bit true ∷ [] }
 
     // Six in a context that starts at state 0, and one of each form without a context.
     ensures djvu { outcomes djvu_rows (0x44 ∷ 0x20 ∷ 0x82 ∷ 0x3C ∷ 0xFD ∷ []) false None
-            (Adaptive 0 ∷ Adaptive 145 ∷ Adaptive 145 ∷ Adaptive 145 ∷ Adaptive 145 ∷ Adaptive 247 ∷ Pass ∷ Iw ∷ []) ≡
+        (Adaptive 0 ∷ Adaptive 145 ∷ Adaptive 145 ∷ Adaptive 145 ∷ Adaptive 145 ∷ Adaptive 247 ∷ Pass ∷ Iw ∷ []) ≡
         record { answer = decision.Bit true; place = Some (interval 0 0x8841 1); state = 145 }
         ∷ record { answer = decision.Bit true; place = Some (interval 0x24EE 0x8841 1); state = 145 }
         ∷ record { answer = decision.Bit true; place = Some (interval 0x49DC 0x8841 1); state = 145 }

@@ -5,6 +5,8 @@ mod decoder;
 mod interval;
 mod laws;
 mod steps;
+#[cfg(test)]
+mod tests;
 
 pub use decoder::{Decision, ZpDecoder};
 pub use laws::{

@@ -1,6 +1,6 @@
-use Rattle.std.proofs.Common.{◌≡◌, ◌<◌, ◌≤◌, ◌+◌, ◌-◌, ℕ, suc, arith, sym}
+use Rattle.std.proofs.Common.{◌≡◌, ◌<◌, ◌≤◌, ◌+◌, ◌-◌, ℕ, arith}
 use Rattle.std.proofs.lemmas.Grind.{common_steps}
-use Rattle.zp_decoder.proofs.Shifting.{Shifts, shifts_first, shifts_on, shifts_last, enough_some}
+use Rattle.zp_decoder.proofs.Shifting.{shifts_first, shifts_on, shifts_last, enough_some}
 use Rattle.zp_decoder.proofs.interval.after.Goals as goal
 
 pub loop-at-init : goal.loop-at-init

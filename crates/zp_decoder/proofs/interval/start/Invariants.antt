@@ -1,4 +1,4 @@
-use Rattle.std.proofs.Common.{◌≡◌, ◌<◌, ◌^◌, ℕ}
+use Rattle.std.proofs.Common.{◌≡◌, ◌<◌, ◌^◌}
 use Rattle.zp_decoder.specs.Bits.{bits_from}
 use Rattle.zp_decoder.proofs.interval.start.Given as goal
 

@@ -220,19 +220,18 @@ bits_within : (payload : List ℕ) (ended : Bool) (at next : Interval) → is_de
 bits_within payload true at next d x most = omega (arith, le_from_lt_false _ _ x)
 bits_within payload false at next d x most = omega (arith, le_from_le_true _ _ d, most)
 
-pub moved_facts : (rows : List Row) (form : Form) (payload : List ℕ) (ended : Bool) (at : Interval) → IsTable rows → IsFormOf rows form → BetweenFacts (length payload) at →
-    is_determined payload ended at ≡ true → is_exhausted payload ended (after payload (split_of rows form at.a) at) ≡ false → BetweenFacts (length payload) (after payload (split_of rows form at.a) at)
-moved_facts rows form payload ended at t below between d x =
-    let split = split_facts rows form at.a t below between.low in
-    let facts = after_facts payload (split_of rows form at.a) at between.within between.below between.low split in
-    record { low = facts.low; within = facts.within; below = facts.below; bits = bits_within payload ended at (after payload (split_of rows form at.a) at) d x facts.most }
+pub moved_facts : (payload : List ℕ) (ended : Bool) (z : ℕ) (at : Interval) → SplitFacts at.a z → BetweenFacts (length payload) at →
+    is_determined payload ended at ≡ true → is_exhausted payload ended (after payload z at) ≡ false → BetweenFacts (length payload) (after payload z at)
+moved_facts payload ended z at split between d x =
+    let facts = after_facts payload z at between.within between.below between.low split in
+    record { low = facts.low; within = facts.within; below = facts.below; bits = bits_within payload ended at (after payload z at) d x facts.most }
 
 standing_by : (rows : List Row) (form : Form) (payload : List ℕ) (ended : Bool) (place : Option Interval) (at : Interval) → IsTable rows → IsFormOf rows form → BetweenFacts (length payload) at →
     IsStanding (length payload) place → Comes rows form payload ended place (split_of rows form at.a) at → IsStanding (length payload) (outcome_from rows form payload ended place at).place
 standing_by rows form payload ended place at t below between stands (needs d e) = rw e stands
 standing_by rows form payload ended place at t below between stands (exhausts d x e) = rw e stands
 standing_by rows form payload ended place at t below between stands (moves d x e) =
-    let facts = moved_facts rows form payload ended at t below between d x in
+    let facts = moved_facts payload ended (split_of rows form at.a) at (split_facts rows form at.a t below between.low) between d x in
     let good = between-from_facts (length payload) (after payload (split_of rows form at.a) at) facts in
     rw e (grind (arith, common_steps, good))
 
@@ -298,26 +297,28 @@ room_by size from at was is facts =
       | inr same ↦ room_same (8 * size + 177 - from.n) (8 * size + 177 - at.n) from.a at.a (omega (arith, same)) (omega (arith, was.bits)) (facts.moves same) facts.low
     ]
 
-fewer_by : (rows : List Row) (form : Form) (payload : List ℕ) (ended : Bool) (place : Option Interval) (at : Interval) (bit : Bool) → IsTable rows → IsFormOf rows form → BetweenFacts (length payload) at →
-    Comes rows form payload ended place (split_of rows form at.a) at → (outcome_from rows form payload ended place at).answer ≡ decision.Bit bit →
-    room payload (outcome_from rows form payload ended place at).place < room_at (length payload) at
-fewer_by rows form payload ended place at bit t below between (needs d e) answered =
+pub fewer_by : (rows : List Row) (form : Form) (payload : List ℕ) (ended : Bool) (place : Option Interval) (z : ℕ) (at : Interval) (bit : Bool) → SplitFacts at.a z → BetweenFacts (length payload) at →
+    Comes rows form payload ended place z at → (outcome_at rows form payload ended place z at).answer ≡ decision.Bit bit →
+    room payload (outcome_at rows form payload ended place z at).place < room_at (length payload) at
+fewer_by rows form payload ended place z at bit split between (needs d e) answered =
     let other : decision.NeedBytes ≡ decision.Bit bit = sym (ap (λ (o : Outcome). o.answer) e) ∙ answered in
     absurd (cc)
-fewer_by rows form payload ended place at bit t below between (exhausts d x e) answered =
+fewer_by rows form payload ended place z at bit split between (exhausts d x e) answered =
     let other : decision.Exhausted ≡ decision.Bit bit = sym (ap (λ (o : Outcome). o.answer) e) ∙ answered in
     absurd (cc)
-fewer_by rows form payload ended place at bit t below between (moves d x e) answered =
-    let facts = after_facts payload (split_of rows form at.a) at between.within between.below between.low (split_facts rows form at.a t below between.low) in
-    let later = moved_facts rows form payload ended at t below between d x in
-    rw e (room_by (length payload) at (after payload (split_of rows form at.a) at) between later facts)
+fewer_by rows form payload ended place z at bit split between (moves d x e) answered =
+    let facts = after_facts payload z at between.within between.below between.low split in
+    let later = moved_facts payload ended z at split between d x in
+    rw e (room_by (length payload) at (after payload z at) between later facts)
 
 pub fewer : (rows : List Row) (form : Form) (payload : List ℕ) (ended : Bool) (place : Option Interval) (bit : Bool) → IsTable rows → IsFormOf rows form →
     IsStanding (length payload) place → (outcome_of rows form payload ended place).answer ≡ decision.Bit bit →
     room payload (outcome_of rows form payload ended place).place < room payload place
 fewer rows form payload ended place bit t below stands =
-    fewer_by rows form payload ended place (interval_at payload place) bit t below (facts_of_place payload place stands)
-    (comes rows form payload ended place (split_of rows form (interval_at payload place).a) (interval_at payload place))
+    let at : Interval = interval_at payload place in
+    let between = facts_of_place payload place stands in
+    fewer_by rows form payload ended place (split_of rows form at.a) at bit (split_facts rows form at.a t below between.low) between
+      (comes rows form payload ended place (split_of rows form at.a) at)
 
 falls_by : (rows : List Row) (form : Form) (payload : List ℕ) (ended : Bool) (place : Option Interval) (at : Interval) → IsTable rows → IsFormOf rows form → BetweenFacts (length payload) at →
     at ≡ interval_at payload place → Comes rows form payload ended place (split_of rows form at.a) at →
@@ -326,7 +327,7 @@ falls_by rows form payload ended place at t below between same (needs d e) = rw 
 falls_by rows form payload ended place at t below between same (exhausts d x e) = rw e (omega arith)
 falls_by rows form payload ended place at t below between same (moves d x e) =
     let facts = after_facts payload (split_of rows form at.a) at between.within between.below between.low (split_facts rows form at.a t below between.low) in
-    let later = moved_facts rows form payload ended at t below between d x in
+    let later = moved_facts payload ended (split_of rows form at.a) at (split_facts rows form at.a t below between.low) between d x in
     let less = room_by (length payload) at (after payload (split_of rows form at.a) at) between later facts in
     rw (e, ← same) (omega (arith, less))
 

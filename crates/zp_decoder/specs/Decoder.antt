@@ -2,6 +2,7 @@
 use Rattle.std.specs.Prelude.{◌≡◌, ℕ, ◌+◌, ◌*◌, Bool, true, ◌&&◌, List, Option, Some, None, nat_lt, nat_le, IsTrue}
 use Rattle.zp_table.specs.declared.rows.Row.{Row}
 use Rattle.zp_decoder.specs.Decision.{Interval}
+use Rattle.zp_decoder.specs.Runs.{room}
 
 -- what only the decoder itself reads
 pub record Kept : Type 0 where
@@ -18,6 +19,10 @@ pub record Decoder : Type 0 where
 -- start
 unfoldable pub Fed : List ℕ → Option Interval → Decoder → Type 0
 Fed payload place decoder = (decoder.kept.bytes ≡ payload) × (decoder.kept.place ≡ place)
+
+-- how many bits can still be decided, at most, with the bytes so far
+unfoldable pub room_left : Decoder → ℕ
+room_left decoder = room decoder.kept.bytes decoder.kept.place
 
 -- between decisions a is below 8000 hexadecimal and at most code, code is below 10000 hexadecimal, and of the bits in
 -- use at most 192 lie past the end of so many bytes

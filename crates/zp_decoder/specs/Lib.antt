@@ -1,5 +1,5 @@
 pub mod Bits
 pub mod Decision
 pub mod Steps
-pub mod Decoder
 pub mod Runs
+pub mod Decoder

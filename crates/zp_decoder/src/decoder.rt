@@ -3,7 +3,7 @@ ghost use Rattle.std.specs.Prelude.{◌≡◌, ◌+◌, ◌<◌, ◌≤◌, ℕ,
 ghost use Rattle.std.specs.Arc.{arc_value};
 ghost use Rattle.zp_table.specs.Rows.{row_at};
 ghost use Rattle.zp_decoder.specs.Decision.{Interval, Adaptive, Pass, Iw, outcome_of, outcome_at, interval_at, counted, next_state};
-ghost use Rattle.zp_decoder.specs.Decoder.{Fed};
+ghost use Rattle.zp_decoder.specs.Decoder.{Fed, room_left};
 
 use crate::interval::{Interval, adaptive_split, interval_at, iw_split, pass_split};
 use crate::steps::{Step, make_step};
@@ -115,6 +115,7 @@ impl ZpDecoder {
         ensures table { self.new.table ≡ self.old.table }
         ensures ended { self.new.ended ≡ self.old.ended }
         ensures ticks { M.count meter.new ≡ counted result (M.count meter.old) }
+        ensures fewer { (bit : Bool) → result ≡ Decision.Bit bit → room_left self.new < room_left self.old }
         ensures needs { result ≡ Decision.NeedBytes → (self.new ≡ self.old) × (ctx.new ≡ ctx.old) × (meter.new ≡ meter.old) }
         ensures exhausted { result ≡ Decision.Exhausted → (self.new ≡ self.old) × (ctx.new ≡ ctx.old) × (meter.new ≡ meter.old) }
     {
@@ -142,6 +143,7 @@ impl ZpDecoder {
         ensures table { self.new.table ≡ self.old.table }
         ensures ended { self.new.ended ≡ self.old.ended }
         ensures ticks { M.count meter.new ≡ counted result (M.count meter.old) }
+        ensures fewer { (bit : Bool) → result ≡ Decision.Bit bit → room_left self.new < room_left self.old }
         ensures needs { result ≡ Decision.NeedBytes → (self.new ≡ self.old) × (meter.new ≡ meter.old) }
         ensures exhausted { result ≡ Decision.Exhausted → (self.new ≡ self.old) × (meter.new ≡ meter.old) }
     {
@@ -159,6 +161,7 @@ impl ZpDecoder {
         ensures table { self.new.table ≡ self.old.table }
         ensures ended { self.new.ended ≡ self.old.ended }
         ensures ticks { M.count meter.new ≡ counted result (M.count meter.old) }
+        ensures fewer { (bit : Bool) → result ≡ Decision.Bit bit → room_left self.new < room_left self.old }
         ensures needs { result ≡ Decision.NeedBytes → (self.new ≡ self.old) × (meter.new ≡ meter.old) }
         ensures exhausted { result ≡ Decision.Exhausted → (self.new ≡ self.old) × (meter.new ≡ meter.old) }
     {

@@ -1,7 +1,7 @@
 //! State tables.
 ghost use Rattle.std.specs.Prelude.{◌≡◌, ◌<◌, ◌≤◌, IfOk, Some, None, Err, length, IsTrue};
 ghost use Rattle.zp_table.specs.Listing.{djvu_rows, flat_rows};
-ghost use Rattle.zp_table.specs.Rows.{is_row, row_at};
+ghost use Rattle.zp_table.specs.Rows.{IsTable, is_row, row_at};
 ghost use Rattle.zp_table.specs.Reading.{rows_in, fault_of};
 ghost use Rattle.zp_table.specs.declared.faults.TableFault.{TableFault};
 
@@ -79,6 +79,7 @@ impl Table {
         requires { state < length self.now }
         ensures row { result ≡ row_at self.now state }
         ensures valid { IsTrue (is_row (length self.now) result) }
+        ensures table { IsTable self.now }
     {
         self.rows[usize::from(state)]
     }

@@ -5,7 +5,7 @@ use Rattle.zp_table.specs.declared.rows.Row.{Row}
 use Rattle.zp_table.specs.Rows.{row_at, IsTable}
 use Rattle.zp_decoder.specs.declared.decoder.Decision.TheVariants as decision
 use Rattle.zp_decoder.specs.Decision.{Form, Adaptive, Pass, split_of, Interval, Outcome, adaptive_split, interval_at, next_state, outcome_of, outcome_at}
-use Rattle.zp_decoder.specs.Decoder.{Decoder, Kept, IsStanding, room_left}
+use Rattle.zp_decoder.specs.Decoder.{Decoder, IsStanding, room_left}
 use Rattle.zp_decoder.specs.Runs.{IsFormOf}
 use Rattle.zp_decoder.proofs.Within.{SplitFacts, split_facts, facts_of_place, fewer_by, Comes, needs, exhausts, moves, comes}
 

@@ -1,7 +1,6 @@
-//! The decoder.
-ghost use Rattle.std.specs.Prelude.{◌≡◌, ◌+◌, ◌<◌, ◌≤◌, ℕ, List, [], ◌++◌, length, Bool, true, false, Option, Some, None, OnOk, OnErr};
+//! The decoder. It keeps the bytes of its chunk, and shifts one bit in at a time.
+ghost use Rattle.std.specs.Prelude.{◌≡◌, ◌<◌, ◌≤◌, ℕ, List, [], ◌++◌, length, Bool, true, false, Option, None, OnOk, OnErr};
 ghost use Rattle.std.specs.Arc.{arc_value};
-ghost use Rattle.zp_table.specs.Rows.{row_at};
 ghost use Rattle.zp_decoder.specs.Decision.{Interval, Adaptive, Pass, Iw, outcome_of, outcome_at, interval_at, counted, next_state};
 ghost use Rattle.zp_decoder.specs.Decoder.{Fed, room_left};
 
@@ -28,7 +27,8 @@ pub enum Decision {
 /// Decodes the bits of a chunk that arrives in pieces.
 ///
 /// Contracts see its table and whether the chunk ended. They speak of the rest by `Fed payload place decoder`: since the
-/// chunk began it was fed this payload, and its last decision led to this place.
+/// chunk began it was fed this payload, and its last decision led to this place. What a decision answers, and where it
+/// leads, is `outcome_of` of the table, its form, the payload and the place (DjVu 3 reference, ZP-Coder).
 #[derive(Debug, Drop)]
 pub struct ZpDecoder {
     rows: Arc<Table>,
@@ -65,7 +65,7 @@ impl ZpDecoder {
         }
     }
 
-    /// The next bytes of the chunk.
+    /// The next bytes of the chunk, which hasn't ended. Where there is no memory for them, nothing changes.
     #[tactic(auto, unfolding(crate::specs::Decoder::Fed))]
     pub fn push(&mut self, piece: &[u8]) -> Result<(), AllocError>
         requires { self.old.ended ≡ false }
@@ -105,6 +105,7 @@ impl ZpDecoder {
     #[tactic(auto, using(crate::proofs::Deciding::place_same), unfolding(crate::specs::Decoder::Fed))]
     pub fn decode<M: Meter>(&mut self, ctx: &mut u8, meter: &mut M) -> Decision
         requires { ctx.old < length self.old.table }
+        // For every payload that it was fed, the definition's answer, place and state.
         ensures answer { (payload : List ℕ) (place : Option Interval) → Fed payload place self.old →
             result ≡ (outcome_of self.old.table (Adaptive ctx.old) payload self.old.ended place).answer }
         ensures fed { (payload : List ℕ) (place : Option Interval) → Fed payload place self.old →
@@ -112,8 +113,11 @@ impl ZpDecoder {
         ensures context { (payload : List ℕ) (place : Option Interval) → Fed payload place self.old →
             ctx.new ≡ (outcome_of self.old.table (Adaptive ctx.old) payload self.old.ended place).state }
         ensures below { ctx.new < length self.new.table }
+
         ensures table { self.new.table ≡ self.old.table }
         ensures ended { self.new.ended ≡ self.old.ended }
+
+        // A bit ticks once, and leaves room for fewer. The other answers change nothing.
         ensures ticks { M.count meter.new ≡ counted result (M.count meter.old) }
         ensures fewer { (bit : Bool) → result ≡ Decision.Bit bit → room_left self.new < room_left self.old }
         ensures needs { result ≡ Decision.NeedBytes → (self.new ≡ self.old) × (ctx.new ≡ ctx.old) × (meter.new ≡ meter.old) }
@@ -140,8 +144,10 @@ impl ZpDecoder {
             result ≡ (outcome_of self.old.table Pass payload self.old.ended place).answer }
         ensures fed { (payload : List ℕ) (place : Option Interval) → Fed payload place self.old →
             Fed payload (outcome_of self.old.table Pass payload self.old.ended place).place self.new }
+
         ensures table { self.new.table ≡ self.old.table }
         ensures ended { self.new.ended ≡ self.old.ended }
+
         ensures ticks { M.count meter.new ≡ counted result (M.count meter.old) }
         ensures fewer { (bit : Bool) → result ≡ Decision.Bit bit → room_left self.new < room_left self.old }
         ensures needs { result ≡ Decision.NeedBytes → (self.new ≡ self.old) × (meter.new ≡ meter.old) }
@@ -158,8 +164,10 @@ impl ZpDecoder {
             result ≡ (outcome_of self.old.table Iw payload self.old.ended place).answer }
         ensures fed { (payload : List ℕ) (place : Option Interval) → Fed payload place self.old →
             Fed payload (outcome_of self.old.table Iw payload self.old.ended place).place self.new }
+
         ensures table { self.new.table ≡ self.old.table }
         ensures ended { self.new.ended ≡ self.old.ended }
+
         ensures ticks { M.count meter.new ≡ counted result (M.count meter.old) }
         ensures fewer { (bit : Bool) → result ≡ Decision.Bit bit → room_left self.new < room_left self.old }
         ensures needs { result ≡ Decision.NeedBytes → (self.new ≡ self.old) × (meter.new ≡ meter.old) }

@@ -1,5 +1,5 @@
 //! Steps of a decoder: where decisions lead, as far as the bytes that arrived determine it.
-ghost use Rattle.std.specs.Prelude.{◌≡◌, ◌≤◌, length, IsTrue, Some};
+ghost use Rattle.std.specs.Prelude.{◌≡◌, ◌≤◌, length, IsTrue};
 ghost use Rattle.zp_decoder.specs.Decision.{Interval};
 ghost use Rattle.zp_decoder.specs.Steps.{step_of};
 ghost use Rattle.zp_decoder.specs.Decoder.{is_between};

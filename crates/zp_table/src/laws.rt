@@ -3,7 +3,7 @@ ghost use Rattle.std.specs.Prelude.{◌≡◌, ◌<◌, ◌↔◌, ℕ, List, []
 ghost use Rattle.zp_table.specs.declared.rows.Row.{Row};
 ghost use Rattle.zp_table.specs.declared.faults.TableFault.{TableFault};
 ghost use Rattle.zp_table.specs.declared.faults.TableWhy.TheVariants.{Empty, TooMany, Short, Chance, Up, Down};
-ghost use Rattle.zp_table.specs.Rows.{row, is_table, IsTable, row_at, weighted_sum};
+ghost use Rattle.zp_table.specs.Rows.{row, is_table, row_at, weighted_sum};
 ghost use Rattle.zp_table.specs.Listing.{djvu_rows, flat_rows};
 ghost use Rattle.zp_table.specs.Reading.{rows_in, bytes_of, fault_of, fault_of_length, first_fault, fault_at, IsWritten, IsFirstBadRow};
 

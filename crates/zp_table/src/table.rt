@@ -51,7 +51,7 @@ impl Table {
     /// refusal tells the first check that fails: no bytes, more than 1,536, a row that isn't whole, and then row by
     /// row p, up and dn.
     pub fn read(alloc: Global, bytes: &[u8]) -> Result<Table, TableError>
-        ensures sound { IfOk result (λ _. fault_of bytes.now ≡ None) }
+        ensures accepted { IfOk result (λ _. fault_of bytes.now ≡ None) }
         ensures rows { IfOk result (λ table. table ≡ rows_in bytes.now) }
         ensures refused { (fault : TableFault) → result ≡ Err (TableError.Refused fault) → fault_of bytes.now ≡ Some fault }
     {

@@ -1,4 +1,4 @@
-use Rattle.std.proofs.Common.{◌≡◌, refl, sym, ◌∙◌, arith}
+use Rattle.std.proofs.Common.{refl, sym, ◌∙◌, arith}
 use Rattle.std.proofs.lemmas.Grind.{common_steps}
 use Rattle.zp_decoder.specs.Decision.{Adaptive}
 use Rattle.zp_decoder.specs.Decoder.{Fed}
@@ -23,7 +23,7 @@ returns-then-is_less-clause-fewer g c bit answered =
     let fed = c.decide.ensures.fed c.args.self.now.kept.bytes c.args.self.now.kept.place (refl, refl) in
     let told = c.decide.ensures.answer c.args.self.now.kept.bytes c.args.self.now.kept.place (refl, refl) in
     left_falls c.args.self.now c.decide.new.self c.args.self.now.table (Adaptive c.args.ctx.now) c.adaptive_split-z.result c.in-Bit.is_less
-      (grind (arith, common_steps)) (grind (arith, common_steps)) (grind (arith, common_steps)) (grind (arith, common_steps)) (sym told ∙ c.in-Bit.is) fed.0 fed.1
+    (grind (arith, common_steps)) (grind (arith, common_steps)) (grind (arith, common_steps)) (grind (arith, common_steps)) (sym told ∙ c.in-Bit.is) fed.0 fed.1
 
 pub returns-else-is_less-clause-fewer : goal.returns-else-is_less-clause-fewer
 unfolding Fed
@@ -31,4 +31,4 @@ returns-else-is_less-clause-fewer g c bit answered =
     let fed = c.decide.ensures.fed c.args.self.now.kept.bytes c.args.self.now.kept.place (refl, refl) in
     let told = c.decide.ensures.answer c.args.self.now.kept.bytes c.args.self.now.kept.place (refl, refl) in
     left_falls c.args.self.now c.decide.new.self c.args.self.now.table (Adaptive c.args.ctx.now) c.adaptive_split-z.result c.in-Bit.is_less
-      (grind (arith, common_steps)) (grind (arith, common_steps)) (grind (arith, common_steps)) (grind (arith, common_steps)) (sym told ∙ c.in-Bit.is) fed.0 fed.1
+    (grind (arith, common_steps)) (grind (arith, common_steps)) (grind (arith, common_steps)) (grind (arith, common_steps)) (sym told ∙ c.in-Bit.is) fed.0 fed.1

@@ -1,0 +1,5 @@
+pub mod Shifting
+pub mod Within
+pub mod Growing
+pub mod FlatLemmas
+pub mod Deciding

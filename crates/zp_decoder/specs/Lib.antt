@@ -1,0 +1,5 @@
+pub mod Bits
+pub mod Decision
+pub mod Steps
+pub mod Runs
+pub mod Decoder

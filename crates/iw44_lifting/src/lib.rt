@@ -1,0 +1,4 @@
+//! The inverse wavelet transform.
+#![tactic(auto)]
+
+pub mod samples;

@@ -60,3 +60,6 @@ pub odd_kept : (x next third w r : ℤ) (half k : ℕ) → half ≤ 16 → FitsS
     to_z w64 (of_z w64 (to_z w64 (of_z w64 x) +ℤ to_z w64 (of_z w64 r))) ≡ x +ℤ int_shr (pos 9 *ℤ next -ℤ third +ℤ pos half) k
 odd_kept x next third w r half k small n t h is below e l =
     sum_kept x r h (low w r half small below l) ∙ ap (λ z. x +ℤ z) (shifted_sum next third w r half k small n t is below e)
+
+pub small_sum : (p q : ℤ) → unsigned_abs p ≤ 2 ^ 54 → unsigned_abs q ≤ 2 ^ 54 → unsigned_abs (to_z w64 (of_z w64 (to_z w64 (of_z w64 p) +ℤ to_z w64 (of_z w64 q)))) ≤ 2 ^ 55
+small_sum p q h k = omega (arith, ints)

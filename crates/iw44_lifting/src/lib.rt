@@ -1,4 +1,5 @@
 //! The inverse wavelet transform.
 #![tactic(auto)]
 
-pub mod samples;
+pub mod neighbours;
+mod samples;

@@ -2,4 +2,5 @@
 #![tactic(auto)]
 
 pub mod neighbours;
+pub mod passes;
 mod samples;

@@ -1,0 +1,71 @@
+//! One pass over a grid.
+ghost use Rattle.std.specs.Prelude.{◌≡◌, ◌%◌, ◌^◌, ◌<◌, ◌≤◌};
+ghost use Rattle.iw44_lifting.specs.Step.{IsWithin};
+ghost use Rattle.iw44_lifting.specs.Passes.{IsPass, new_value, row_passed, passed, column_pass, row_pass};
+
+use crate::neighbours::{Step, even_at, odd_at};
+use iw44_blocks::Grid;
+
+/// Which columns or rows a pass goes to: the first, and each one that stands so far apart from the one before.
+#[derive(Clone, Copy, Debug)]
+pub(crate) struct Turns {
+    pub first: u32,
+    pub apart: u32,
+}
+
+/// A pass over the even or the odd samples of all columns, or of all rows.
+#[derive(Clone, Copy, Debug)]
+pub(crate) struct Pass {
+    pub odd: bool,
+    pub step: Step,
+    pub columns: Turns,
+    pub rows: Turns,
+}
+
+impl Pass {
+    /// The pass over the columns' samples at a scale.
+    pub fn over_columns(scale: u32, odd: bool) -> Pass
+        requires { scale ≤ 16 }
+        ensures { result ≡ column_pass scale odd }
+    {
+        let first = if odd { scale } else { 0 };
+        Pass {
+            odd,
+            step: Step { right: 0, up: scale },
+            columns: Turns { first: 0, apart: scale },
+            rows: Turns { first, apart: 2 * scale },
+        }
+    }
+
+    /// The pass over the rows' samples at a scale.
+    pub fn over_rows(scale: u32, odd: bool) -> Pass
+        requires { scale ≤ 16 }
+        ensures { result ≡ row_pass scale odd }
+    {
+        let first = if odd { scale } else { 0 };
+        Pass {
+            odd,
+            step: Step { right: scale, up: 0 },
+            columns: Turns { first, apart: 2 * scale },
+            rows: Turns { first: 0, apart: scale },
+        }
+    }
+
+    /// What the sample in this column and row becomes.
+    fn new_value(self, grid: &Grid, x: u32, y: u32) -> i64
+        requires small { IsWithin (2 ^ 54) grid.now }
+        requires right { self.step.right ≤ 16 }
+        requires up { self.step.up ≤ 16 }
+        requires column { x < grid.now.width }
+        requires row { y < grid.now.height }
+        requires column_fits { x < 2 ^ 24 }
+        requires row_fits { y < 2 ^ 24 }
+        ensures { result ≡ new_value self grid.now x y }
+    {
+        if self.odd {
+            odd_at(grid, self.step, x, y)
+        } else {
+            even_at(grid, self.step, x, y)
+        }
+    }
+}

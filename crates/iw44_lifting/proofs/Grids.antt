@@ -1,8 +1,9 @@
 -- Grids by their values.
-use Rattle.std.proofs.Common.{◌≡◌, ℕ, zero, suc, ◌^◌, ◌*◌, ◌+◌, ◌/◌, ◌%◌, ◌<◌, ◌≤◌, ℤ, pos, List, length, get_or, map, ap, ◌∙◌, sym, subst, arith}
+use Rattle.std.proofs.Common.{◌≡◌, ℕ, zero, suc, ◌^◌, ◌*◌, ◌+◌, ◌/◌, ◌%◌, ◌<◌, ◌≤◌, ℤ, pos, List, length, get_or, map, ap, ◌∙◌, sym, subst, ◌≢◌, ◌⊎◌, inl, inr, arith}
 use Rattle.std.specs.List.{range_with_len}
 use Rattle.std.proofs.lemmas.List.FromFn.{fill_by_all, get_or-map-range_with_len, length-map-range_with_len}
-use Rattle.std.proofs.lemmas.Nat.{div-add-mod', div_below, mod_below, mul-le, mul-add-lt, div-mul-add, mod-mul-add}
+use Rattle.std.proofs.lemmas.Nat.{div-add-mod', same_from_place, div_below, mod_below, mul-le, mul-add-lt, div-mul-add, mod-mul-add}
+use Rattle.std.proofs.lemmas.List.{get_or-set_same, get_or-set_other}
 use Rattle.std.proofs.Math.Nat.{mul_comm, zero-mul}
 use Rattle.iw44_blocks.specs.Lattice.{Lattice, IsLattice, value_at, with_value, lattice, values_by}
 
@@ -43,3 +44,11 @@ same_lattice now width height value valid w h same =
     let values = values_given now width height value w full some same in
     let made : ℕ → ℕ → List ℤ → Lattice = λ a b v. record { width = a; height = b; values = v } in
     ap (λ a. made a now.height now.values) w ∙ ap (λ b. made width b now.values) h ∙ ap (made width height) values
+
+pub value_changed : (grid : Lattice) (x y : ℕ) (value : ℤ) → IsLattice grid → x < grid.width → y < grid.height → value_at (with_value grid x y value) x y ≡ value
+value_changed grid x y value valid h k =
+    get_or-set_same grid.values (y * grid.width + x) value (pos 0) (subst (λ (n : ℕ). y * grid.width + x < n) (sym valid.full) (mul-add-lt y grid.width x grid.height k h))
+
+pub value_other : (grid : Lattice) (x y i j : ℕ) (value : ℤ) → x < grid.width → i < grid.width → (i ≢ x) ⊎ (j ≢ y) → value_at (with_value grid x y value) i j ≡ value_at grid i j
+value_other grid x y i j value h k apart =
+    get_or-set_other grid.values (y * grid.width + x) (j * grid.width + i) value (pos 0) (λ same. let one = same_from_place j i y x grid.width k h same in elim apart [ inl column ↦ column one.1 | inr row ↦ row one.0 ])

@@ -44,3 +44,6 @@ pub record IsPass (scale : ℕ) (pass : Pass) : Type 0 where
   pub least : 1 ≤ scale
   pub most : scale ≤ 16
   pub either : (pass ≡ column_pass scale pass.odd) ⊎ (pass ≡ row_pass scale pass.odd)
+
+abbrev pub IsSomePass : Pass → Type 0
+IsSomePass pass = (scale : ℕ) × IsPass scale pass

@@ -1,7 +1,8 @@
 //! One pass over a grid.
 ghost use Rattle.std.specs.Prelude.{◌≡◌, ◌%◌, ◌^◌, ◌<◌, ◌≤◌};
+ghost use Rattle.iw44_blocks.specs.Lattice.{IsLattice};
 ghost use Rattle.iw44_lifting.specs.Step.{IsWithin};
-ghost use Rattle.iw44_lifting.specs.Passes.{IsPass, new_value, row_passed, passed, column_pass, row_pass};
+ghost use Rattle.iw44_lifting.specs.Passes.{IsPass, IsSomePass, new_value, row_passed, passed, column_pass, row_pass};
 
 use crate::neighbours::{Step, even_at, odd_at};
 use iw44_blocks::Grid;
@@ -66,6 +67,39 @@ impl Pass {
             odd_at(grid, self.step, x, y)
         } else {
             even_at(grid, self.step, x, y)
+        }
+    }
+
+    /// Lifts the samples of one row to which this pass goes.
+    fn lift_row(self, grid: &mut Grid, y: u32)
+        requires pass { IsSomePass self }
+        requires small { IsWithin (2 ^ 51) grid.old }
+        requires row { y < grid.old.height }
+        requires turn { y % self.rows.apart ≡ self.rows.first }
+        ensures row { grid.new ≡ row_passed self y grid.old }
+        ensures valid { IsLattice grid.new }
+    {
+        let width = grid.width();
+        let mut x = self.columns.first;
+        while x < width {
+            let value = self.new_value(grid, x, y);
+            grid.set_value(x, y, value);
+            x += self.columns.apart;
+        }
+    }
+
+    /// Lifts all samples to which this pass goes.
+    pub fn lift(self, grid: &mut Grid)
+        requires pass { IsSomePass self }
+        requires small { IsWithin (2 ^ 48) grid.old }
+        ensures passed { grid.new ≡ passed self grid.old }
+        ensures valid { IsLattice grid.new }
+    {
+        let height = grid.height();
+        let mut y = self.rows.first;
+        while y < height {
+            self.lift_row(grid, y);
+            y += self.rows.apart;
         }
     }
 }

@@ -52,3 +52,6 @@ value_changed grid x y value valid h k =
 pub value_other : (grid : Lattice) (x y i j : ℕ) (value : ℤ) → x < grid.width → i < grid.width → (i ≢ x) ⊎ (j ≢ y) → value_at (with_value grid x y value) i j ≡ value_at grid i j
 value_other grid x y i j value h k apart =
     get_or-set_other grid.values (y * grid.width + x) (j * grid.width + i) value (pos 0) (λ same. let one = same_from_place j i y x grid.width k h same in elim apart [ inl column ↦ column one.1 | inr row ↦ row one.0 ])
+
+pub lattice_valid : (width height : ℕ) (value : ℕ → ℕ → ℤ) → 1 ≤ width * height → width * height ≤ 2 ^ 24 → IsLattice (lattice width height value)
+lattice_valid width height value some fits = record { some = some; fits = fits; full = length-map-range_with_len (λ n. value (n % width) (n / width)) 0 (width * height) }

@@ -74,7 +74,7 @@ pub record Keeps (pass : Pass) (old now : Lattice) : Type 0 where
   pub unlifted : (x y : ℕ) → x < old.width → y < old.height → is_lifted pass x y ≡ false → value_at now x y ≡ value_at old x y
 
 -- a value that is there under one test
-under : (b c : Bool) (v w : ℤ) → b ≡ c → (c ≡ true → v ≡ w) → cond b (Some v) None ≡ cond c (Some w) None
+pub under : (b c : Bool) (v w : ℤ) → b ≡ c → (c ≡ true → v ≡ w) → cond b (Some v) None ≡ cond c (Some w) None
 under b c v w same values = ap (λ t. cond t (Some v) None) same ∙ chosen c v w values
   where
     chosen : (c : Bool) (v w : ℤ) → (c ≡ true → v ≡ w) → cond c (Some v) None ≡ cond c (Some w) None
@@ -105,14 +105,14 @@ after_same pass old now x y k facts keeps steps here =
     keeps.unlifted right up apart.0 apart.1 (false_from_ne_true (is_lifted pass right up) (λ there. facts.after x y k steps here there)))
 
 -- what a sample becomes, by its value and those around it
-abbrev even_of : ℤ → Option ℤ → Option ℤ → Option ℤ → Option ℤ → ℤ
+abbrev pub even_of : ℤ → Option ℤ → Option ℤ → Option ℤ → Option ℤ → ℤ
 even_of v b a c d = even_value v (unwrap_or b (pos 0) +ℤ unwrap_or a (pos 0)) (unwrap_or c (pos 0) +ℤ unwrap_or d (pos 0))
 
-abbrev odd_of : ℤ → Option ℤ → Option ℤ → Option ℤ → Option ℤ → ℤ
+abbrev pub odd_of : ℤ → Option ℤ → Option ℤ → Option ℤ → Option ℤ → ℤ
 odd_of v b a c d = cond (is_some c && is_some d) (inner_value v (unwrap_or b (pos 0) +ℤ unwrap_or a (pos 0)) (unwrap_or c (pos 0) +ℤ unwrap_or d (pos 0)))
     (end_value v (unwrap_or b (pos 0) +ℤ unwrap_or a (unwrap_or b (pos 0))))
 
-five : (F : ℤ → Option ℤ → Option ℤ → Option ℤ → Option ℤ → ℤ) (v w : ℤ) (b a c d b' a' c' d' : Option ℤ) → v ≡ w → b ≡ b' → a ≡ a' → c ≡ c' → d ≡ d' → F v b a c d ≡ F w b' a' c' d'
+pub five : (F : ℤ → Option ℤ → Option ℤ → Option ℤ → Option ℤ → ℤ) (v w : ℤ) (b a c d b' a' c' d' : Option ℤ) → v ≡ w → b ≡ b' → a ≡ a' → c ≡ c' → d ≡ d' → F v b a c d ≡ F w b' a' c' d'
 five F v w b a c d b' a' c' d' ev eb ea ec ed =
     ap (λ z. F z b a c d) ev ∙ ap (λ z. F w z a c d) eb ∙ ap (λ z. F w b' z c d) ea ∙ ap (λ z. F w b' a' z d) ec ∙ ap (λ z. F w b' a' c' z) ed
 

@@ -1,5 +1,5 @@
 -- The rows of a grid as lines.
-use Rattle.std.proofs.Common.{◌≡◌, ℕ, ◌+◌, ◌-◌, ◌*◌, ◌/◌, ◌%◌, ◌<◌, ◌≤◌, ◌⊎◌, ◌&&◌, eqb, Bool, true, false, inl, inr, Option, Some, None, cond, nat_le, nat_lt, ℤ, pos, List, length, map, ap, ◌∙◌, sym, subst, refl, arith}
+use Rattle.std.proofs.Common.{◌≡◌, ℕ, ◌^◌, ◌+◌, ◌-◌, ◌*◌, ◌/◌, ◌%◌, ◌<◌, ◌≤◌, ◌⊎◌, ◌&&◌, eqb, Bool, true, false, inl, inr, Option, Some, None, cond, nat_le, nat_lt, ℤ, pos, List, length, map, ap, ◌∙◌, sym, subst, refl, arith}
 use Rattle.std.specs.List.{range_with_len}
 use Rattle.std.proofs.Math.Nat.{mul-zero, mod_self}
 use Rattle.std.proofs.lemmas.Bool.{eq-eqb, ne_eqb, eqb-true, eqb-false}
@@ -132,10 +132,10 @@ both_passes s grid x y some wide tall =
       ]
 
 -- the two passes lift the rows
-pub rows_passed : (s : ℕ) (grid : Lattice) → 1 ≤ s → IsLattice grid → passed (row_pass s true) (passed (row_pass s false) grid) ≡ rows_lifted s grid
+pub rows_passed : (s : ℕ) (grid : Lattice) → 1 ≤ s → 1 ≤ grid.width * grid.height → grid.width * grid.height ≤ 2 ^ 24 → passed (row_pass s true) (passed (row_pass s false) grid) ≡ rows_lifted s grid
 unfolding rows_lifted
-rows_passed s grid some valid =
+rows_passed s grid some area fits =
     let value = λ (x y : ℕ). cond (takes_part s x y) (sample (line_lifted (row s grid y)) (x / s)) (value_at grid x y) in
     let first : Lattice = passed (row_pass s false) grid in
-    let made = lattice_valid grid.width grid.height (λ x y. cond (is_lifted (row_pass s true) x y) (new_value (row_pass s true) first x y) (value_at first x y)) valid.some valid.fits in
+    let made = lattice_valid grid.width grid.height (λ x y. cond (is_lifted (row_pass s true) x y) (new_value (row_pass s true) first x y) (value_at first x y)) area fits in
     same_lattice (passed (row_pass s true) first) grid.width grid.height value made refl refl (λ x y h k. both_passes s grid x y some h k)

@@ -1,6 +1,15 @@
-//! The inverse wavelet transform.
+//! The inverse wavelet transform of IW44.
+//!
+//! A line of samples is lifted by changing its even samples by their neighbours, and then its odd ones. The transform
+//! lifts the columns of a grid and then its rows, at the scales 16, 8, 4, 2 and 1. `specs/` has the definitions that the
+//! contracts cite: `Line` (one line, as a list) and `Lift` (a grid, line by line). `Step` and `Passes` say the same place
+//! by place, as the code goes: it changes one grid in place, a row at a time, so that columns too are walked along memory.
 #![tactic(auto)]
 
-pub mod neighbours;
-pub mod passes;
+
+mod neighbours;
+mod passes;
 mod samples;
+mod transform;
+
+pub use transform::inverse;

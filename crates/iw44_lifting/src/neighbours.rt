@@ -7,7 +7,7 @@ use iw44_blocks::Grid;
 
 /// How far the samples of a line stand apart: so many columns to the right, or so many rows up.
 #[derive(Clone, Copy, Debug)]
-pub struct Step {
+pub(crate) struct Step {
     pub right: u32,
     pub up: u32,
 }

@@ -12,7 +12,7 @@ pub value_given : (width height x y : ℕ) (value : ℕ → ℕ → ℤ) → x <
 value_given width height x y value h k =
     let at : ℕ → ℤ = λ n. value (n % width) (n / width) in
     get_or-map-range_with_len at 0 (width * height) (y * width + x) (y * width + x) (pos 0) (mul-add-lt y width x height k h) (omega arith)
-        ∙ ap (λ i. value i ((y * width + x) / width)) (mod-mul-add y width x h) ∙ ap (λ i. value x i) (div-mul-add y width x h)
+    ∙ ap (λ i. value i ((y * width + x) / width)) (mod-mul-add y width x h) ∙ ap (λ i. value x i) (div-mul-add y width x h)
 
 values_given : (now : Lattice) (width height : ℕ) (value : ℕ → ℕ → ℤ) → now.width ≡ width → length now.values ≡ width * height → 1 ≤ width →
     ((x y : ℕ) → x < width → y < height → value_at now x y ≡ value x y) → now.values ≡ values_by width (width * height) value

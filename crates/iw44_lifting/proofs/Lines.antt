@@ -47,7 +47,7 @@ before_sum line i k = unwrap_some (nat_le k i) (sample line (i - k)) (pos 0)
 around : (line : List ℤ) (i k : ℕ) → unwrap_or (some_before line i k) (pos 0) +ℤ unwrap_or (some_after line i k) (pos 0) ≡ both_sides line i k
 around line i k =
     ap (λ z. z +ℤ unwrap_or (some_after line i k) (pos 0)) (before_sum line i k)
-        ∙ ap (λ z. sample_before line i k +ℤ z) (unwrap_some (nat_lt (i + k) (length line)) (sample line (i + k)) (pos 0) ∙ sample_past line (i + k))
+    ∙ ap (λ z. sample_before line i k +ℤ z) (unwrap_some (nat_lt (i + k) (length line)) (sample line (i + k)) (pos 0) ∙ sample_past line (i + k))
 
 pub even_line : (line : List ℤ) (i : ℕ) → even_of (sample line i) (some_before line i 1) (some_after line i 1) (some_before line i 3) (some_after line i 3) ≡ even_sample line i
 even_line line i =
@@ -61,23 +61,23 @@ odd_line line i =
     let t : Bool = nat_lt (i + 1) (length line) in
     let third : ℤ = unwrap_or (some_before line i 3) (pos 0) +ℤ unwrap_or (some_after line i 3) (pos 0) in
     let test : (is_some (some_before line i 3) && is_some (some_after line i 3)) ≡ (nat_le 3 i && nat_lt (i + 3) (length line)) =
-        ap (λ s. s && is_some (some_after line i 3)) (some_is (nat_le 3 i) (sample line (i - 3))) ∙ ap (λ s. nat_le 3 i && s) (some_is (nat_lt (i + 3) (length line)) (sample line (i + 3))) in
+    ap (λ s. s && is_some (some_after line i 3)) (some_is (nat_le 3 i) (sample line (i - 3))) ∙ ap (λ s. nat_le 3 i && s) (some_is (nat_lt (i + 3) (length line)) (sample line (i + 3))) in
     let inner : inner_value v (unwrap_or (some_before line i 1) (pos 0) +ℤ unwrap_or (some_after line i 1) (pos 0)) third ≡ inner_value v (both_sides line i 1) (both_sides line i 3) =
-        ap (λ z. inner_value v z third) (around line i 1) ∙ ap (λ z. inner_value v (both_sides line i 1) z) (around line i 3) in
+    ap (λ z. inner_value v z third) (around line i 1) ∙ ap (λ z. inner_value v (both_sides line i 1) z) (around line i 3) in
     let last : end_value v (unwrap_or (some_before line i 1) (pos 0) +ℤ unwrap_or (some_after line i 1) (unwrap_or (some_before line i 1) (pos 0)))
-            ≡ cond t (end_value v (both_sides line i 1)) (end_value v (b +ℤ b)) =
-        ap (λ z. end_value v (z +ℤ unwrap_or (some_after line i 1) z)) (before_sum line i 1)
-            ∙ ap (λ z. end_value v (b +ℤ z)) (unwrap_some t (sample line (i + 1)) b) ∙ end_split t v b (sample line (i + 1)) in
+    ≡ cond t (end_value v (both_sides line i 1)) (end_value v (b +ℤ b)) =
+    ap (λ z. end_value v (z +ℤ unwrap_or (some_after line i 1) z)) (before_sum line i 1)
+    ∙ ap (λ z. end_value v (b +ℤ z)) (unwrap_some t (sample line (i + 1)) b) ∙ end_split t v b (sample line (i + 1)) in
     choice (is_some (some_before line i 3) && is_some (some_after line i 3)) (nat_le 3 i && nat_lt (i + 3) (length line))
-        (inner_value v (unwrap_or (some_before line i 1) (pos 0) +ℤ unwrap_or (some_after line i 1) (pos 0)) third) (inner_value v (both_sides line i 1) (both_sides line i 3))
-        (end_value v (unwrap_or (some_before line i 1) (pos 0) +ℤ unwrap_or (some_after line i 1) (unwrap_or (some_before line i 1) (pos 0))))
-        (cond t (end_value v (both_sides line i 1)) (end_value v (b +ℤ b))) test inner last
+    (inner_value v (unwrap_or (some_before line i 1) (pos 0) +ℤ unwrap_or (some_after line i 1) (pos 0)) third) (inner_value v (both_sides line i 1) (both_sides line i 3))
+    (end_value v (unwrap_or (some_before line i 1) (pos 0) +ℤ unwrap_or (some_after line i 1) (unwrap_or (some_before line i 1) (pos 0))))
+    (cond t (end_value v (both_sides line i 1)) (end_value v (b +ℤ b))) test inner last
 
 -- lists that are given by place are equal where their values are
 pub same_by_place : (f g : ℕ → ℤ) (n m : ℕ) → n ≡ m → ((i : ℕ) → i < n → f i ≡ g i) → map f (range_with_len 0 n) ≡ map g (range_with_len 0 m)
 same_by_place f g n m e same =
     fill_by_all g (map f (range_with_len 0 n)) n (pos 0) (length-map-range_with_len f 0 n) (λ i h. get_or-map-range_with_len f 0 n i i (pos 0) h (omega arith) ∙ same i h)
-        ∙ ap (λ k. map g (range_with_len 0 k)) e
+    ∙ ap (λ k. map g (range_with_len 0 k)) e
 
 -- the samples after even ones and after odd ones were lifted
 pub evens_at : (line : List ℤ) (i : ℕ) → i < length line → sample (evens_lifted line) i ≡ cond (eqb (i % 2) 0) (even_sample line i) (sample line i)
@@ -94,7 +94,7 @@ lifted_even line i h even =
     let now : List ℤ = evens_lifted line in
     let test : eqb (i % 2) 0 ≡ true = eq-eqb (i % 2) 0 even in
     odds_at now i (subst (λ (n : ℕ). i < n) (sym (evens_length line)) h) ∙ ap (λ t. cond t (sample now i) (odd_sample now i)) test
-        ∙ evens_at line i h ∙ ap (λ t. cond t (even_sample line i) (sample line i)) test
+    ∙ evens_at line i h ∙ ap (λ t. cond t (even_sample line i) (sample line i)) test
 
 pub lifted_odd : (line : List ℤ) (i : ℕ) → i < length line → i % 2 ≡ 1 → sample (line_lifted line) i ≡ odd_sample (evens_lifted line) i
 lifted_odd line i h odd =

@@ -127,8 +127,8 @@ new_value_same pass old now x y facts keeps here inside below value =
     let c = before_same pass old now x y 3 facts keeps (inr refl) here inside below in
     let d = after_same pass old now x y 3 facts keeps (inr refl) here in
     let all = λ (F : ℤ → Option ℤ → Option ℤ → Option ℤ → Option ℤ → ℤ).
-        five F (value_at now x y) (value_at old x y) (value_before now r u x y 1) (value_after now r u x y 1) (value_before now r u x y 3) (value_after now r u x y 3)
-            (value_before old r u x y 1) (value_after old r u x y 1) (value_before old r u x y 3) (value_after old r u x y 3) value b a c d in
+    five F (value_at now x y) (value_at old x y) (value_before now r u x y 1) (value_after now r u x y 1) (value_before now r u x y 3) (value_after now r u x y 3)
+    (value_before old r u x y 1) (value_after old r u x y 1) (value_before old r u x y 3) (value_after old r u x y 3) value b a c d in
     let evens : even_at now r u x y ≡ even_at old r u x y = all even_of in
     let odds : odd_at now r u x y ≡ odd_at old r u x y = all odd_of in
     either pass.odd (odd_at now r u x y) (odd_at old r u x y) (even_at now r u x y) (even_at old r u x y) odds evens

@@ -6,7 +6,7 @@ use Rattle.std.proofs.lemmas.Bool.{cases_lt, cases_eq, eqb-true, eq-eqb, ne_eqb}
 use Rattle.iw44_blocks.specs.Lattice.{Lattice, IsLattice, value_at, with_value, lattice}
 use Rattle.iw44_lifting.specs.declared.passes.Pass.{Pass}
 use Rattle.iw44_lifting.specs.Passes.{is_lifted, new_value, row_passed, passed}
-use Rattle.iw44_lifting.specs.Step.{IsWithin}
+use Rattle.iw44_blocks.specs.Lattice.{IsWithin}
 use Rattle.iw44_lifting.proofs.Grids.{value_given, value_changed, value_other, same_lattice}
 use Rattle.iw44_lifting.proofs.PassFacts.{Facts, Keeps, on_turns, new_value_same}
 use Rattle.iw44_lifting.proofs.StepSizes.{new_value_small}
@@ -22,9 +22,9 @@ pub record InRow (pass : Pass) (row column : ℕ) (old now : Lattice) : Type 0 w
 
 apart_from : (pass : Pass) (x y i j : ℕ) → is_lifted pass x y ≡ true → is_lifted pass i j ≡ false → (i ≢ x) ⊎ (j ≢ y)
 apart_from pass x y i j here there = elim (cases_eq i x) [
-    inr other ↦ inl other
+  | inr other ↦ inl other
   | inl column ↦ elim (cases_eq j y) [ inr other ↦ inr other | inl row ↦ absurd (true_false (sym here ∙ ap (λ n. is_lifted pass n y) (sym column) ∙ ap (λ n. is_lifted pass i n) (sym row) ∙ there)) ]
-  ]
+]
   where
     true_false : true ≡ false → ⊥
     true_false e = cc
@@ -45,7 +45,7 @@ row_goes_on pass row column old now new value facts in_row here h k is made =
     let tall : row < now.height = subst (λ (n : ℕ). row < n) (sym in_row.keeps.height) k in
     let other = λ (i j : ℕ) (l : i < old.width) (apart : (i ≢ column) ⊎ (j ≢ row)). value_other now column row i j value wide (subst (λ (n : ℕ). i < n) (sym in_row.keeps.width) l) apart in
     let here_value : value_at (with_value now column row value) column row ≡ new_value pass old column row =
-        value_changed now column row value in_row.valid wide tall ∙ is ∙ new_value_same pass old now column row facts in_row.keeps here h k (in_row.later column h (omega arith)) in
+    value_changed now column row value in_row.valid wide tall ∙ is ∙ new_value_same pass old now column row facts in_row.keeps here h k (in_row.later column h (omega arith)) in
     record {
       valid = record { some = in_row.valid.some; fits = in_row.valid.fits; full = length-set now.values (row * now.width + column) value ∙ in_row.valid.full };
       keeps = record {
@@ -54,12 +54,12 @@ row_goes_on pass row column old now new value facts in_row here h k is made =
         unlifted = λ x y l m there. other x y l (apart_from pass column row x y here there) ∙ in_row.keeps.unlifted x y l m there;
       };
       lifted = λ x l there before. elim (cases_eq x column) [
-          inl same ↦ subst (λ (n : ℕ). value_at (with_value now column row value) n row ≡ new_value pass old n row) (sym same) here_value
+        | inl same ↦ subst (λ (n : ℕ). value_at (with_value now column row value) n row ≡ new_value pass old n row) (sym same) here_value
         | inr differs ↦ elim (cases_lt x column) [
-              inl less ↦ other x row l (inl differs) ∙ in_row.lifted x l there less
-            | inr more ↦ absurd (differs (same_turn pass.columns.apart pass.columns.first x column (on_turns pass x row there).0 (on_turns pass column row here).0 more before))
-            ]
-        ];
+          | inl less ↦ other x row l (inl differs) ∙ in_row.lifted x l there less
+          | inr more ↦ absurd (differs (same_turn pass.columns.apart pass.columns.first x column (on_turns pass x row there).0 (on_turns pass column row here).0 more before))
+        ]
+      ];
       later = λ x l behind. other x row l (inl (λ e. omega (arith, facts.columns))) ∙ in_row.later x l (omega arith);
       others = λ x y l m differs. other x y l (inr differs) ∙ in_row.others x y l m differs;
     })
@@ -85,21 +85,20 @@ true_or_false : (b : Bool) → (b ≡ true) ⊎ (b ≡ false)
 true_or_false true = inl refl
 true_or_false false = inr refl
 
-
 pub row_ends : (pass : Pass) (row column : ℕ) (old now : Lattice) → InRow pass row column old now → old.width ≤ column → now ≡ row_passed pass row old
 row_ends pass row column old now in_row past =
     same_lattice now old.width old.height (λ x y. cond (is_lifted pass x y && eqb y row) (new_value pass old x y) (value_at old x y)) in_row.valid in_row.keeps.width in_row.keeps.height (λ x y h k.
     let lifted : Bool = is_lifted pass x y in
     elim (true_or_false lifted) [
-        inr left ↦ in_row.keeps.unlifted x y h k left ∙ sym (unless (lifted && eqb y row) (new_value pass old x y) (value_at old x y) (first_false lifted (eqb y row) left))
+      | inr left ↦ in_row.keeps.unlifted x y h k left ∙ sym (unless (lifted && eqb y row) (new_value pass old x y) (value_at old x y) (first_false lifted (eqb y row) left))
       | inl taken ↦ elim (cases_eq y row) [
-            inr other ↦ in_row.others x y h k other ∙ sym (unless (lifted && eqb y row) (new_value pass old x y) (value_at old x y) (second_false lifted (eqb y row) (ne_eqb y row other)))
-          | inl same ↦
-              let here : value_at now x y ≡ new_value pass old x y =
-                  subst (λ (n : ℕ). value_at now x n ≡ new_value pass old x n) (sym same) (in_row.lifted x h (subst (λ (n : ℕ). is_lifted pass x n ≡ true) same taken) (omega arith)) in
-              here ∙ sym (when (lifted && eqb y row) (new_value pass old x y) (value_at old x y) (both_true lifted (eqb y row) taken (eq-eqb y row same)))
-          ]
-      ])
+        | inr other ↦ in_row.others x y h k other ∙ sym (unless (lifted && eqb y row) (new_value pass old x y) (value_at old x y) (second_false lifted (eqb y row) (ne_eqb y row other)))
+        | inl same ↦
+            let here : value_at now x y ≡ new_value pass old x y =
+            subst (λ (n : ℕ). value_at now x n ≡ new_value pass old x n) (sym same) (in_row.lifted x h (subst (λ (n : ℕ). is_lifted pass x n ≡ true) same taken) (omega arith)) in
+            here ∙ sym (when (lifted && eqb y row) (new_value pass old x y) (value_at old x y) (both_true lifted (eqb y row) taken (eq-eqb y row same)))
+      ]
+    ])
 
 -- a grid in which a pass has come to a row
 pub record UpTo (pass : Pass) (row : ℕ) (old now : Lattice) : Type 0 where
@@ -121,9 +120,9 @@ pub rows_go_on : (pass : Pass) (row : ℕ) (old now new : Lattice) → Facts pas
 rows_go_on pass row old now new facts up_to turn valid made =
     let value = λ (x y : ℕ). cond (is_lifted pass x y && eqb y row) (new_value pass now x y) (value_at now x y) in
     let given = λ (x y : ℕ) (h : x < old.width) (k : y < old.height).
-        ap (λ (g : Lattice). value_at g x y) made ∙ value_given now.width now.height x y value (subst (λ (n : ℕ). x < n) (sym up_to.keeps.width) h) (subst (λ (n : ℕ). y < n) (sym up_to.keeps.height) k) in
+    ap (λ (g : Lattice). value_at g x y) made ∙ value_given now.width now.height x y value (subst (λ (n : ℕ). x < n) (sym up_to.keeps.width) h) (subst (λ (n : ℕ). y < n) (sym up_to.keeps.height) k) in
     let elsewhere = λ (x y : ℕ) (h : x < old.width) (k : y < old.height) (other : y ≢ row).
-        given x y h k ∙ unless (is_lifted pass x y && eqb y row) (new_value pass now x y) (value_at now x y) (second_false (is_lifted pass x y) (eqb y row) (ne_eqb y row other)) in
+    given x y h k ∙ unless (is_lifted pass x y && eqb y row) (new_value pass now x y) (value_at now x y) (second_false (is_lifted pass x y) (eqb y row) (ne_eqb y row other)) in
     record {
       valid = valid;
       keeps = record {
@@ -133,14 +132,14 @@ rows_go_on pass row old now new facts up_to turn valid made =
             ∙ up_to.keeps.unlifted x y h k left;
       };
       lifted = λ x y h k here before. elim (cases_eq y row) [
-          inr other ↦ elim (cases_lt y row) [
-              inl less ↦ elsewhere x y h k other ∙ up_to.lifted x y h k here less
-            | inr more ↦ absurd (other (same_turn pass.rows.apart pass.rows.first y row (on_turns pass x y here).1 turn more before))
-            ]
+        | inr other ↦ elim (cases_lt y row) [
+          | inl less ↦ elsewhere x y h k other ∙ up_to.lifted x y h k here less
+          | inr more ↦ absurd (other (same_turn pass.rows.apart pass.rows.first y row (on_turns pass x y here).1 turn more before))
+        ]
         | inl same ↦ given x y h k
             ∙ when (is_lifted pass x y && eqb y row) (new_value pass now x y) (value_at now x y) (both_true (is_lifted pass x y) (eqb y row) here (eq-eqb y row same))
             ∙ new_value_same pass old now x y facts up_to.keeps here h k (up_to.later x y h k (omega arith))
-        ];
+      ];
       later = λ x y h k behind. elsewhere x y h k (λ e. omega (arith, facts.rows)) ∙ up_to.later x y h k (omega arith);
     }
 
@@ -148,9 +147,9 @@ pub rows_end : (pass : Pass) (row : ℕ) (old now : Lattice) → UpTo pass row o
 rows_end pass row old now up_to past =
     same_lattice now old.width old.height (λ x y. cond (is_lifted pass x y) (new_value pass old x y) (value_at old x y)) up_to.valid up_to.keeps.width up_to.keeps.height (λ x y h k.
     elim (true_or_false (is_lifted pass x y)) [
-        inr left ↦ up_to.keeps.unlifted x y h k left ∙ sym (unless (is_lifted pass x y) (new_value pass old x y) (value_at old x y) left)
+      | inr left ↦ up_to.keeps.unlifted x y h k left ∙ sym (unless (is_lifted pass x y) (new_value pass old x y) (value_at old x y) left)
       | inl taken ↦ up_to.lifted x y h k taken (omega arith) ∙ sym (when (is_lifted pass x y) (new_value pass old x y) (value_at old x y) taken)
-      ])
+    ])
 
 -- a bound on the values of a grid in which a pass has done a part
 pub in_row_small : (m : ℕ) (pass : Pass) (row column : ℕ) (old now : Lattice) → IsWithin m old → InRow pass row column old now → IsWithin (4 * m + 4) now
@@ -160,18 +159,18 @@ in_row_small m pass row column old now within in_row x y h k =
     let small = λ (v : ℤ). unsigned_abs v ≤ 4 * m + 4 in
     let before : unsigned_abs (value_at old x y) ≤ 4 * m + 4 = omega (arith, within x y wide tall) in
     elim (true_or_false (is_lifted pass x y)) [
-        inr left ↦ subst small (sym (in_row.keeps.unlifted x y wide tall left)) before
+      | inr left ↦ subst small (sym (in_row.keeps.unlifted x y wide tall left)) before
       | inl taken ↦ elim (cases_eq y row) [
-            inr other ↦ subst small (sym (in_row.others x y wide tall other)) before
-          | inl same ↦ elim (cases_lt x column) [
-                inr more ↦ subst (λ (n : ℕ). unsigned_abs (value_at now x n) ≤ 4 * m + 4) (sym same)
-                    (subst small (sym (in_row.later x wide more)) (subst (λ (n : ℕ). unsigned_abs (value_at old x n) ≤ 4 * m + 4) same before))
-              | inl less ↦ subst (λ (n : ℕ). unsigned_abs (value_at now x n) ≤ 4 * m + 4) (sym same)
-                    (subst small (sym (in_row.lifted x wide (subst (λ (n : ℕ). is_lifted pass x n ≡ true) same taken) less))
-                    (subst (λ (n : ℕ). unsigned_abs (new_value pass old x n) ≤ 4 * m + 4) same (new_value_small m pass old x y within wide tall)))
-              ]
-          ]
+        | inr other ↦ subst small (sym (in_row.others x y wide tall other)) before
+        | inl same ↦ elim (cases_lt x column) [
+          | inr more ↦ subst (λ (n : ℕ). unsigned_abs (value_at now x n) ≤ 4 * m + 4) (sym same)
+              (subst small (sym (in_row.later x wide more)) (subst (λ (n : ℕ). unsigned_abs (value_at old x n) ≤ 4 * m + 4) same before))
+          | inl less ↦ subst (λ (n : ℕ). unsigned_abs (value_at now x n) ≤ 4 * m + 4) (sym same)
+              (subst small (sym (in_row.lifted x wide (subst (λ (n : ℕ). is_lifted pass x n ≡ true) same taken) less))
+              (subst (λ (n : ℕ). unsigned_abs (new_value pass old x n) ≤ 4 * m + 4) same (new_value_small m pass old x y within wide tall)))
+        ]
       ]
+    ]
 
 pub up_to_small : (m : ℕ) (pass : Pass) (row : ℕ) (old now : Lattice) → IsWithin m old → UpTo pass row old now → IsWithin (4 * m + 4) now
 up_to_small m pass row old now within up_to x y h k =
@@ -180,9 +179,9 @@ up_to_small m pass row old now within up_to x y h k =
     let small = λ (v : ℤ). unsigned_abs v ≤ 4 * m + 4 in
     let before : unsigned_abs (value_at old x y) ≤ 4 * m + 4 = omega (arith, within x y wide tall) in
     elim (true_or_false (is_lifted pass x y)) [
-        inr left ↦ subst small (sym (up_to.keeps.unlifted x y wide tall left)) before
+      | inr left ↦ subst small (sym (up_to.keeps.unlifted x y wide tall left)) before
       | inl taken ↦ elim (cases_lt y row) [
-            inl less ↦ subst small (sym (up_to.lifted x y wide tall taken less)) (new_value_small m pass old x y within wide tall)
-          | inr more ↦ subst small (sym (up_to.later x y wide tall more)) before
-          ]
+        | inl less ↦ subst small (sym (up_to.lifted x y wide tall taken less)) (new_value_small m pass old x y within wide tall)
+        | inr more ↦ subst small (sym (up_to.later x y wide tall more)) before
       ]
+    ]

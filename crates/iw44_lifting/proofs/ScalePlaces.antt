@@ -57,13 +57,13 @@ pub test_before : (s x i k : ℕ) → 1 ≤ s → (nat_le (k * 0) x && nat_le (k
 test_before s x i k some =
     let none : k * 0 ≡ 0 = mul-zero k in
     same_test (nat_le (k * 0) x && nat_le (k * s) (s * i)) (nat_le k i) (λ h. is_le k i (fits_before s i k some (two_le (k * 0) x (k * s) (s * i) h).1))
-        (λ h. both_tests (k * 0) x (k * s) (s * i) (omega arith) (fits_after s i k (le_is k i h)))
+    (λ h. both_tests (k * 0) x (k * s) (s * i) (omega arith) (fits_after s i k (le_is k i h)))
 
 pub test_before_turned : (s x i k : ℕ) → 1 ≤ s → (nat_le (k * s) (s * i) && nat_le (k * 0) x) ≡ nat_le k i
 test_before_turned s x i k some =
     let none : k * 0 ≡ 0 = mul-zero k in
     same_test (nat_le (k * s) (s * i) && nat_le (k * 0) x) (nat_le k i) (λ h. is_le k i (fits_before s i k some (two_le (k * s) (s * i) (k * 0) x h).0))
-        (λ h. both_tests (k * s) (s * i) (k * 0) x (fits_after s i k (le_is k i h)) (omega arith))
+    (λ h. both_tests (k * s) (s * i) (k * 0) x (fits_after s i k (le_is k i h)) (omega arith))
 
 on : (s i k : ℕ) → s * i + k * s ≡ s * (i + k)
 on s i k = grind arith
@@ -72,15 +72,15 @@ pub test_after : (s x w i k h n : ℕ) → 1 ≤ s → x < w → n ≡ places s 
 test_after s x w i k h n some wide count =
     let none : k * 0 ≡ 0 = mul-zero k in
     same_test (nat_lt (x + k * 0) w && nat_lt (s * i + k * s) h) (nat_lt (i + k) n)
-        (λ t. is_lt (i + k) n (subst (λ (m : ℕ). i + k < m) (sym count) (inside s h (i + k) some (subst (λ (m : ℕ). m < h) (on s i k) (two_lt (x + k * 0) w (s * i + k * s) h t).1))))
-        (λ t. both_strict (x + k * 0) w (s * i + k * s) h (omega arith) (subst (λ (m : ℕ). m < h) (sym (on s i k)) (below s h (i + k) some (subst (λ (m : ℕ). i + k < m) count (lt_is (i + k) n t)))))
+    (λ t. is_lt (i + k) n (subst (λ (m : ℕ). i + k < m) (sym count) (inside s h (i + k) some (subst (λ (m : ℕ). m < h) (on s i k) (two_lt (x + k * 0) w (s * i + k * s) h t).1))))
+    (λ t. both_strict (x + k * 0) w (s * i + k * s) h (omega arith) (subst (λ (m : ℕ). m < h) (sym (on s i k)) (below s h (i + k) some (subst (λ (m : ℕ). i + k < m) count (lt_is (i + k) n t)))))
 
 pub test_after_turned : (s x w i k h n : ℕ) → 1 ≤ s → x < w → n ≡ places s h → (nat_lt (s * i + k * s) h && nat_lt (x + k * 0) w) ≡ nat_lt (i + k) n
 test_after_turned s x w i k h n some wide count =
     let none : k * 0 ≡ 0 = mul-zero k in
     same_test (nat_lt (s * i + k * s) h && nat_lt (x + k * 0) w) (nat_lt (i + k) n)
-        (λ t. is_lt (i + k) n (subst (λ (m : ℕ). i + k < m) (sym count) (inside s h (i + k) some (subst (λ (m : ℕ). m < h) (on s i k) (two_lt (s * i + k * s) h (x + k * 0) w t).0))))
-        (λ t. both_strict (s * i + k * s) h (x + k * 0) w (subst (λ (m : ℕ). m < h) (sym (on s i k)) (below s h (i + k) some (subst (λ (m : ℕ). i + k < m) count (lt_is (i + k) n t)))) (omega arith))
+    (λ t. is_lt (i + k) n (subst (λ (m : ℕ). i + k < m) (sym count) (inside s h (i + k) some (subst (λ (m : ℕ). m < h) (on s i k) (two_lt (s * i + k * s) h (x + k * 0) w t).0))))
+    (λ t. both_strict (s * i + k * s) h (x + k * 0) w (subst (λ (m : ℕ). m < h) (sym (on s i k)) (below s h (i + k) some (subst (λ (m : ℕ). i + k < m) count (lt_is (i + k) n t)))) (omega arith))
 
 -- the place k steps before and after place i
 pub place_before : (s i k : ℕ) → k ≤ i → s * i - k * s ≡ s * (i - k)
@@ -104,9 +104,13 @@ pub no_turn : (s n f : ℕ) → 1 ≤ s → (f ≡ 0) ⊎ (f ≡ s) → n % (2 *
 no_turn s n f some first is =
     let parts : n / s % 2 * s + n % s ≡ f = sym (rest_by_two s n some) ∙ is in
     let small : n % s < s = mod_below n s some in
-    elim first [ inl none ↦ omega arith | inr one ↦ elim (cases_lt (n / s % 2) 1) [
-        inl even ↦ let zero_times : n / s % 2 * s ≡ 0 = ap (λ m. m * s) (none_is (n / s % 2) even) ∙ zero-mul s in absurd (omega arith)
-      | inr odd ↦ omega (arith, mul-le 1 s (n / s % 2) s odd (omega arith)) ] ]
+    elim first [
+      | inl none ↦ omega arith
+      | inr one ↦ elim (cases_lt (n / s % 2) 1) [
+        | inl even ↦ let zero_times : n / s % 2 * s ≡ 0 = ap (λ m. m * s) (none_is (n / s % 2) even) ∙ zero-mul s in absurd (omega arith)
+        | inr odd ↦ omega (arith, mul-le 1 s (n / s % 2) s odd (omega arith))
+      ]
+    ]
   where
     none_is : (m : ℕ) → m < 1 → m ≡ 0
     none_is m h = omega arith

@@ -4,7 +4,7 @@ use Rattle.iw44_blocks.specs.Lattice.{Lattice, IsLattice}
 use Rattle.iw44_lifting.specs.declared.passes.Pass.{Pass}
 use Rattle.iw44_lifting.specs.Passes.{IsPass, IsSomePass, passed, column_pass, row_pass}
 use Rattle.iw44_lifting.specs.Lift.{scale_lifted, columns_lifted, rows_lifted}
-use Rattle.iw44_lifting.specs.Step.{IsWithin}
+use Rattle.iw44_blocks.specs.Lattice.{IsWithin}
 use Rattle.iw44_lifting.proofs.ColumnLines.{columns_passed}
 use Rattle.iw44_lifting.proofs.RowLines.{rows_passed}
 use Rattle.iw44_lifting.proofs.LineSizes.{pass_within, scale_within}

@@ -2,7 +2,8 @@
 use Rattle.std.proofs.Common.{◌≡◌, ℕ, ◌+◌, ◌-◌, ◌*◌, ◌<◌, ◌≤◌, ℤ, pos, ◌+ℤ◌, unsigned_abs, unwrap_or, Bool, true, false, cond, arith}
 use Rattle.std.proofs.lemmas.Grind.{common_steps}
 use Rattle.iw44_blocks.specs.Lattice.{Lattice, value_at}
-use Rattle.iw44_lifting.specs.Step.{IsWithin, value_before, value_after, sum_around, sum_at_end, is_inner, inner_at, end_at, even_at, odd_at}
+use Rattle.iw44_blocks.specs.Lattice.{IsWithin}
+use Rattle.iw44_lifting.specs.Step.{value_before, value_after, sum_around, sum_at_end, is_inner, inner_at, end_at, even_at, odd_at}
 use Rattle.iw44_lifting.specs.declared.passes.Pass.{Pass}
 use Rattle.iw44_lifting.specs.Passes.{new_value}
 use Rattle.iw44_lifting.proofs.Sizes.{size_of_sum, even_size, inner_size, end_size}
@@ -18,8 +19,11 @@ after_or_small limit grid right up x y steps other within h = grind (arith, comm
 
 around_small : (m : ℕ) (grid : Lattice) (right up x y steps : ℕ) → IsWithin m grid → x < grid.width → y < grid.height → unsigned_abs (sum_around grid right up x y steps) ≤ 2 * m
 around_small m grid right up x y steps within h k =
-    omega (arith, size_of_sum (unwrap_or (value_before grid right up x y steps) (pos 0)) (unwrap_or (value_after grid right up x y steps) (pos 0)) m m
-        (before_small m grid right up x y steps within h k) (after_small m grid right up x y steps within))
+    omega (
+      arith,
+      size_of_sum (unwrap_or (value_before grid right up x y steps) (pos 0)) (unwrap_or (value_after grid right up x y steps) (pos 0)) m m
+          (before_small m grid right up x y steps within h k) (after_small m grid right up x y steps within),
+    )
 
 end_small : (m : ℕ) (grid : Lattice) (right up x y : ℕ) → IsWithin m grid → x < grid.width → y < grid.height → unsigned_abs (sum_at_end grid right up x y) ≤ 2 * m
 end_small m grid right up x y within h k =

@@ -12,7 +12,7 @@ same_turn a f i n is has low high =
     let first : q * a + i % a ≡ i = div-add-mod' i a in
     let second : r * a + n % a ≡ n = div-add-mod' n a in
     elim (cases_order q r) [
-        inl same ↦ sym first ∙ ap (λ m. m * a + i % a) same ∙ ap (λ m. r * a + m) (is ∙ sym has) ∙ second
+      | inl same ↦ sym first ∙ ap (λ m. m * a + i % a) same ∙ ap (λ m. r * a + m) (is ∙ sym has) ∙ second
       | inr apart ↦ elim apart [ inl less ↦ absurd (omega (arith, row_fits q a r a less)) | inr more ↦ absurd (omega (arith, row_fits r a q a more)) ]
     ]
 

@@ -4,10 +4,6 @@ use Rattle.std.specs.Prelude.{ℕ, Bool, ◌+◌, ◌-◌, ◌*◌, ◌<◌, ◌
 use Rattle.iw44_blocks.specs.Lattice.{Lattice, value_at}
 use Rattle.iw44_lifting.specs.Line.{even_value, inner_value, end_value}
 
--- no value of a grid is larger in size
-abbrev pub IsWithin : ℕ → Lattice → Type 0
-IsWithin limit grid = (x y : ℕ) → x < grid.width → y < grid.height → unsigned_abs (value_at grid x y) ≤ limit
-
 -- the value so many steps before a place, if that is in the grid
 abbrev pub value_before : Lattice → ℕ → ℕ → ℕ → ℕ → ℕ → Option ℤ
 value_before grid right up x y steps =

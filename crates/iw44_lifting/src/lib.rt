@@ -6,10 +6,13 @@
 //! by place, as the code goes: it changes one grid in place, a row at a time, so that columns too are walked along memory.
 #![tactic(auto)]
 
-
+mod laws;
 mod neighbours;
 mod passes;
 mod samples;
+#[cfg(test)]
+mod tests;
 mod transform;
 
+pub use laws::{values_stay_small, worked_grids, worked_lines};
 pub use transform::inverse;

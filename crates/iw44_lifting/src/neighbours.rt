@@ -1,6 +1,7 @@
 //! What the sample at one place of a grid becomes.
 ghost use Rattle.std.specs.Prelude.{◌≡◌, ◌+◌, ◌*◌, ◌^◌, ◌<◌, ◌≤◌, unsigned_abs};
-ghost use Rattle.iw44_lifting.specs.Step.{IsWithin, value_before, value_after, sum_around, sum_at_end, is_inner, even_at, inner_at, end_at, odd_at};
+ghost use Rattle.iw44_blocks.specs.Lattice.{IsWithin};
+ghost use Rattle.iw44_lifting.specs.Step.{value_before, value_after, sum_around, sum_at_end, is_inner, even_at, inner_at, end_at, odd_at};
 
 use crate::samples::{end_value, even_value, inner_value};
 use iw44_blocks::Grid;

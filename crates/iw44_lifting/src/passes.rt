@@ -1,7 +1,7 @@
 //! One pass over a grid.
 ghost use Rattle.std.specs.Prelude.{◌≡◌, ◌%◌, ◌^◌, ◌<◌, ◌≤◌};
 ghost use Rattle.iw44_blocks.specs.Lattice.{IsLattice};
-ghost use Rattle.iw44_lifting.specs.Step.{IsWithin};
+ghost use Rattle.iw44_blocks.specs.Lattice.{IsWithin};
 ghost use Rattle.iw44_lifting.specs.Passes.{IsPass, IsSomePass, new_value, row_passed, passed, column_pass, row_pass};
 
 use crate::neighbours::{Step, even_at, odd_at};
@@ -32,9 +32,18 @@ impl Pass {
         let first = if odd { scale } else { 0 };
         Pass {
             odd,
-            step: Step { right: 0, up: scale },
-            columns: Turns { first: 0, apart: scale },
-            rows: Turns { first, apart: 2 * scale },
+            step: Step {
+                right: 0,
+                up: scale,
+            },
+            columns: Turns {
+                first: 0,
+                apart: scale,
+            },
+            rows: Turns {
+                first,
+                apart: 2 * scale,
+            },
         }
     }
 
@@ -46,9 +55,18 @@ impl Pass {
         let first = if odd { scale } else { 0 };
         Pass {
             odd,
-            step: Step { right: scale, up: 0 },
-            columns: Turns { first, apart: 2 * scale },
-            rows: Turns { first: 0, apart: scale },
+            step: Step {
+                right: scale,
+                up: 0,
+            },
+            columns: Turns {
+                first,
+                apart: 2 * scale,
+            },
+            rows: Turns {
+                first: 0,
+                apart: scale,
+            },
         }
     }
 

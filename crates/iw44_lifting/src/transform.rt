@@ -2,7 +2,7 @@
 ghost use Rattle.std.specs.Prelude.{◌≡◌, ℕ, ◌+◌, ◌*◌, ◌^◌, ◌≤◌, ◌⊎◌};
 ghost use Rattle.iw44_blocks.specs.Lattice.{IsLattice};
 ghost use Rattle.iw44_lifting.specs.Lift.{scale_lifted, lifted};
-ghost use Rattle.iw44_lifting.specs.Step.{IsWithin};
+ghost use Rattle.iw44_blocks.specs.Lattice.{IsWithin};
 
 use crate::passes::Pass;
 use iw44_blocks::Grid;

@@ -1,7 +1,7 @@
 use Rattle.std.proofs.Common.{◌≡◌, ℕ, ◌+◌, ◌*◌, ◌^◌, ◌≤◌, true, false, ap, ◌∙◌, arith}
 use Rattle.iw44_blocks.specs.Lattice.{Lattice}
 use Rattle.iw44_lifting.specs.Lift.{scale_lifted, rows_lifted}
-use Rattle.iw44_lifting.specs.Step.{IsWithin}
+use Rattle.iw44_blocks.specs.Lattice.{IsWithin}
 use Rattle.iw44_lifting.proofs.Scales.{column_pass_is, row_pass_is, passed_within, both_column_passes, both_row_passes, lifted_within}
 use Rattle.iw44_lifting.proofs.transform.lift.Goals as goal
 
@@ -38,9 +38,9 @@ lift-requires-4-clause-small c x y h k =
 pub returns-clause-lifted : goal.returns-clause-lifted
 returns-clause-lifted c =
     let columns = both_column_passes c.args.scale c.over_columns.result c.over_columns-2.result c.args.grid.now c.lift.new.grid c.lift-2.new.grid c.requires.least c.over_columns.ensures c.over_columns-2.ensures
-        c.lift.ensures.valid c.lift.ensures.passed c.lift-2.ensures.passed in
+    c.lift.ensures.valid c.lift.ensures.passed c.lift-2.ensures.passed in
     let rows = both_row_passes c.args.scale c.over_rows.result c.over_rows-2.result c.lift-2.new.grid c.lift-3.new.grid c.lift-4.new.grid c.requires.least c.over_rows.ensures c.over_rows-2.ensures
-        c.lift-3.ensures.valid c.lift-3.ensures.passed c.lift-4.ensures.passed in
+    c.lift-3.ensures.valid c.lift-3.ensures.passed c.lift-4.ensures.passed in
     rows ∙ ap (rows_lifted c.args.scale) columns
 
 pub returns-clause-bounded : goal.returns-clause-bounded

@@ -1,6 +1,8 @@
 -- One pass of lifting over a grid: the even or the odd samples of all columns, or of all rows.
 use Rattle.std.specs.Prelude.{◌≡◌, ℕ, ◌*◌, ◌%◌, ◌≤◌, Bool, ◌&&◌, ◌==◌, ◌⊎◌, if◌then◌else◌, ℤ}
 use Rattle.iw44_blocks.specs.Lattice.{Lattice, value_at, lattice}
+use Rattle.iw44_lifting.specs.declared.passes.Lines.{Lines}
+use Rattle.iw44_lifting.specs.declared.passes.Lines.TheVariants.{Columns, Rows}
 use Rattle.iw44_lifting.specs.declared.passes.Pass.{Pass}
 use Rattle.iw44_lifting.specs.Step.{even_at, odd_at}
 
@@ -38,6 +40,10 @@ row_pass scale odd = record {
   columns = record { first = if odd then scale else 0; apart = 2 * scale };
   rows = record { first = 0; apart = scale };
 }
+
+abbrev pub pass_over : Lines → ℕ → Bool → Pass
+pass_over Columns scale odd = column_pass scale odd
+pass_over Rows scale odd = row_pass scale odd
 
 -- what is true of each pass at a scale
 pub record IsPass (scale : ℕ) (pass : Pass) : Type 0 where

@@ -2,10 +2,17 @@
 ghost use Rattle.std.specs.Prelude.{◌≡◌, ◌%◌, ◌^◌, ◌<◌, ◌≤◌};
 ghost use Rattle.iw44_blocks.specs.Lattice.{IsLattice};
 ghost use Rattle.iw44_blocks.specs.Lattice.{IsWithin};
-ghost use Rattle.iw44_lifting.specs.Passes.{IsPass, IsSomePass, new_value, row_passed, passed, column_pass, row_pass};
+ghost use Rattle.iw44_lifting.specs.Passes.{IsPass, IsSomePass, new_value, row_passed, passed, pass_over};
 
 use crate::neighbours::{Step, even_at, odd_at};
 use iw44_blocks::Grid;
+
+/// The lines that a pass lifts.
+#[derive(Clone, Copy, Debug)]
+pub(crate) enum Lines {
+    Columns,
+    Rows,
+}
 
 /// Which columns or rows a pass goes to: the first, and each one that stands so far apart from the one before.
 #[derive(Clone, Copy, Debug)]
@@ -24,48 +31,37 @@ pub(crate) struct Pass {
 }
 
 impl Pass {
-    /// The pass over the columns' samples at a scale.
-    pub fn over_columns(scale: u32, odd: bool) -> Pass
+    /// The pass over the even or the odd samples of these lines at a scale.
+    pub fn over(lines: Lines, scale: u32, odd: bool) -> Pass
         requires { scale ≤ 16 }
-        ensures { result ≡ column_pass scale odd }
+        ensures { result ≡ pass_over lines scale odd }
     {
-        let first = if odd { scale } else { 0 };
-        Pass {
-            odd,
-            step: Step {
-                right: 0,
-                up: scale,
+        let every = Turns {
+            first: 0,
+            apart: scale,
+        };
+        let other = Turns {
+            first: if odd { scale } else { 0 },
+            apart: 2 * scale,
+        };
+        match lines {
+            Lines::Columns => Pass {
+                odd,
+                step: Step {
+                    right: 0,
+                    up: scale,
+                },
+                columns: every,
+                rows: other,
             },
-            columns: Turns {
-                first: 0,
-                apart: scale,
-            },
-            rows: Turns {
-                first,
-                apart: 2 * scale,
-            },
-        }
-    }
-
-    /// The pass over the rows' samples at a scale.
-    pub fn over_rows(scale: u32, odd: bool) -> Pass
-        requires { scale ≤ 16 }
-        ensures { result ≡ row_pass scale odd }
-    {
-        let first = if odd { scale } else { 0 };
-        Pass {
-            odd,
-            step: Step {
-                right: scale,
-                up: 0,
-            },
-            columns: Turns {
-                first,
-                apart: 2 * scale,
-            },
-            rows: Turns {
-                first: 0,
-                apart: scale,
+            Lines::Rows => Pass {
+                odd,
+                step: Step {
+                    right: scale,
+                    up: 0,
+                },
+                columns: other,
+                rows: every,
             },
         }
     }

@@ -4,7 +4,7 @@ ghost use Rattle.iw44_blocks.specs.Lattice.{IsLattice};
 ghost use Rattle.iw44_lifting.specs.Lift.{scale_lifted, lifted};
 ghost use Rattle.iw44_blocks.specs.Lattice.{IsWithin};
 
-use crate::passes::Pass;
+use crate::passes::{Lines, Pass};
 use iw44_blocks::Grid;
 
 /// The inverse wavelet transform of IW44, in place: the scales 16, 8, 4, 2 and 1 in this order, down to the last scale,
@@ -32,8 +32,8 @@ fn lift(grid: &mut Grid, scale: u32)
     ensures lifted { grid.new ≡ scale_lifted scale grid.old }
     ensures bounded { (m : ℕ) → IsWithin m grid.old → IsWithin (16 * m + 20) grid.new }
 {
-    Pass::over_columns(scale, false).lift(grid);
-    Pass::over_columns(scale, true).lift(grid);
-    Pass::over_rows(scale, false).lift(grid);
-    Pass::over_rows(scale, true).lift(grid);
+    Pass::over(Lines::Columns, scale, false).lift(grid);
+    Pass::over(Lines::Columns, scale, true).lift(grid);
+    Pass::over(Lines::Rows, scale, false).lift(grid);
+    Pass::over(Lines::Rows, scale, true).lift(grid);
 }

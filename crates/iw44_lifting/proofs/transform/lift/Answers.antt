@@ -6,40 +6,40 @@ use Rattle.iw44_lifting.proofs.Scales.{column_pass_is, row_pass_is, passed_withi
 use Rattle.iw44_lifting.proofs.transform.lift.Goals as goal
 
 pub lift-requires-clause-pass : goal.lift-requires-clause-pass
-lift-requires-clause-pass c = column_pass_is c.args.scale false c.over_columns.result c.requires.least c.requires.most c.over_columns.ensures
+lift-requires-clause-pass c = column_pass_is c.args.scale false c.over.result c.requires.least c.requires.most c.over.ensures
 
 pub lift-requires-2-clause-pass : goal.lift-requires-2-clause-pass
-lift-requires-2-clause-pass c = column_pass_is c.args.scale true c.over_columns-2.result c.requires.least c.requires.most c.over_columns-2.ensures
+lift-requires-2-clause-pass c = column_pass_is c.args.scale true c.over-2.result c.requires.least c.requires.most c.over-2.ensures
 
 pub lift-requires-2-clause-small : goal.lift-requires-2-clause-small
 lift-requires-2-clause-small c x y h k =
-    let first = passed_within (2 ^ 40) c.over_columns.result c.args.grid.now c.lift.new.grid c.requires.small c.lift.ensures.passed x y h k in
+    let first = passed_within (2 ^ 40) c.over.result c.args.grid.now c.lift.new.grid c.requires.small c.lift.ensures.passed x y h k in
     omega arith
 
 pub lift-requires-3-clause-pass : goal.lift-requires-3-clause-pass
-lift-requires-3-clause-pass c = row_pass_is c.args.scale false c.over_rows.result c.requires.least c.requires.most c.over_rows.ensures
+lift-requires-3-clause-pass c = row_pass_is c.args.scale false c.over-3.result c.requires.least c.requires.most c.over-3.ensures
 
 pub lift-requires-3-clause-small : goal.lift-requires-3-clause-small
 lift-requires-3-clause-small c x y h k =
-    let first = passed_within (2 ^ 40) c.over_columns.result c.args.grid.now c.lift.new.grid c.requires.small c.lift.ensures.passed in
-    let second = passed_within (4 * 2 ^ 40 + 4) c.over_columns-2.result c.lift.new.grid c.lift-2.new.grid first c.lift-2.ensures.passed x y h k in
+    let first = passed_within (2 ^ 40) c.over.result c.args.grid.now c.lift.new.grid c.requires.small c.lift.ensures.passed in
+    let second = passed_within (4 * 2 ^ 40 + 4) c.over-2.result c.lift.new.grid c.lift-2.new.grid first c.lift-2.ensures.passed x y h k in
     omega arith
 
 pub lift-requires-4-clause-pass : goal.lift-requires-4-clause-pass
-lift-requires-4-clause-pass c = row_pass_is c.args.scale true c.over_rows-2.result c.requires.least c.requires.most c.over_rows-2.ensures
+lift-requires-4-clause-pass c = row_pass_is c.args.scale true c.over-4.result c.requires.least c.requires.most c.over-4.ensures
 
 pub lift-requires-4-clause-small : goal.lift-requires-4-clause-small
 lift-requires-4-clause-small c x y h k =
-    let first = passed_within (2 ^ 40) c.over_columns.result c.args.grid.now c.lift.new.grid c.requires.small c.lift.ensures.passed in
-    let second = passed_within (4 * 2 ^ 40 + 4) c.over_columns-2.result c.lift.new.grid c.lift-2.new.grid first c.lift-2.ensures.passed in
-    let third = passed_within (4 * (4 * 2 ^ 40 + 4) + 4) c.over_rows.result c.lift-2.new.grid c.lift-3.new.grid second c.lift-3.ensures.passed x y h k in
+    let first = passed_within (2 ^ 40) c.over.result c.args.grid.now c.lift.new.grid c.requires.small c.lift.ensures.passed in
+    let second = passed_within (4 * 2 ^ 40 + 4) c.over-2.result c.lift.new.grid c.lift-2.new.grid first c.lift-2.ensures.passed in
+    let third = passed_within (4 * (4 * 2 ^ 40 + 4) + 4) c.over-3.result c.lift-2.new.grid c.lift-3.new.grid second c.lift-3.ensures.passed x y h k in
     omega arith
 
 pub returns-clause-lifted : goal.returns-clause-lifted
 returns-clause-lifted c =
-    let columns = both_column_passes c.args.scale c.over_columns.result c.over_columns-2.result c.args.grid.now c.lift.new.grid c.lift-2.new.grid c.requires.least c.over_columns.ensures c.over_columns-2.ensures
+    let columns = both_column_passes c.args.scale c.over.result c.over-2.result c.args.grid.now c.lift.new.grid c.lift-2.new.grid c.requires.least c.over.ensures c.over-2.ensures
     c.lift.ensures.valid c.lift.ensures.passed c.lift-2.ensures.passed in
-    let rows = both_row_passes c.args.scale c.over_rows.result c.over_rows-2.result c.lift-2.new.grid c.lift-3.new.grid c.lift-4.new.grid c.requires.least c.over_rows.ensures c.over_rows-2.ensures
+    let rows = both_row_passes c.args.scale c.over-3.result c.over-4.result c.lift-2.new.grid c.lift-3.new.grid c.lift-4.new.grid c.requires.least c.over-3.ensures c.over-4.ensures
     c.lift-3.ensures.valid c.lift-3.ensures.passed c.lift-4.ensures.passed in
     rows ∙ ap (rows_lifted c.args.scale) columns
 

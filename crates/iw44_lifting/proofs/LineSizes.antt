@@ -1,11 +1,11 @@
 -- Sizes of the samples of lifted lines and grids.
-use Rattle.std.proofs.Common.{◌≡◌, ℕ, ◌+◌, ◌-◌, ◌*◌, ◌/◌, ◌%◌, ◌<◌, ◌≤◌, ◌⊎◌, ◌&&◌, eqb, Bool, true, false, inl, inr, cond, nat_le, nat_lt, ℤ, pos, ◌+ℤ◌, unsigned_abs, List, length, ap, ◌∙◌, sym, subst, refl, arith}
+use Rattle.std.proofs.Common.{◌≡◌, ℕ, ◌+◌, ◌-◌, ◌*◌, ◌/◌, ◌%◌, ◌<◌, ◌≤◌, ◌&&◌, eqb, Bool, true, false, inl, inr, cond, nat_le, nat_lt, ℤ, pos, ◌+ℤ◌, unsigned_abs, List, length, ◌∙◌, sym, subst, arith}
 use Rattle.std.proofs.lemmas.Bool.{cases_lt, ne_eqb}
 use Rattle.std.proofs.lemmas.List.{get_or_past}
 use Rattle.std.proofs.lemmas.List.FromFn.{length-map-range_with_len}
 use Rattle.std.proofs.lemmas.Nat.{mod_below}
-use Rattle.iw44_blocks.specs.Lattice.{Lattice, IsLattice, value_at, lattice}
-use Rattle.iw44_lifting.specs.Line.{sample, sample_before, both_sides, even_value, inner_value, end_value, even_sample, odd_sample, evens_lifted, line_lifted, odds_lifted}
+use Rattle.iw44_blocks.specs.Lattice.{Lattice, value_at, lattice}
+use Rattle.iw44_lifting.specs.Line.{sample, sample_before, both_sides, inner_value, end_value, even_sample, odd_sample, evens_lifted, line_lifted}
 use Rattle.iw44_lifting.specs.Lift.{places, column, row, takes_part, columns_lifted, rows_lifted, scale_lifted}
 use Rattle.iw44_blocks.specs.Lattice.{IsWithin}
 use Rattle.iw44_lifting.specs.declared.passes.Pass.{Pass}

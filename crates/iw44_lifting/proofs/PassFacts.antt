@@ -1,12 +1,12 @@
 -- What a pass goes to, and what it leaves.
-use Rattle.std.proofs.Common.{◌≡◌, ◌≢◌, ℕ, ◌+◌, ◌-◌, ◌*◌, ◌%◌, ◌<◌, ◌≤◌, ◌⊎◌, ◌&&◌, eqb, Bool, true, false, inl, inr, Option, Some, None, cond, nat_le, nat_lt, ℤ, pos, ◌+ℤ◌, is_some, unwrap_or, ap, ◌∙◌, sym, subst, refl, arith}
-use Rattle.std.proofs.lemmas.Bool.{eqb-true, eq-eqb, false_from_ne_true}
+use Rattle.std.proofs.Common.{◌≡◌, ℕ, ◌+◌, ◌-◌, ◌*◌, ◌%◌, ◌<◌, ◌≤◌, ◌⊎◌, ◌&&◌, eqb, Bool, true, false, inl, inr, Option, Some, None, cond, nat_le, nat_lt, ℤ, pos, ◌+ℤ◌, is_some, unwrap_or, ap, ◌∙◌, sym, subst, refl, arith}
+use Rattle.std.proofs.lemmas.Bool.{false_from_ne_true}
 use Rattle.std.proofs.lemmas.Bool.Decides.{nat_tests}
 use Rattle.iw44_blocks.specs.Lattice.{Lattice, value_at}
 use Rattle.iw44_lifting.specs.declared.passes.Pass.{Pass}
 use Rattle.iw44_lifting.specs.Passes.{IsPass, is_lifted, new_value, column_pass, row_pass}
 use Rattle.iw44_lifting.specs.Line.{even_value, inner_value, end_value}
-use Rattle.iw44_lifting.specs.Step.{value_before, value_after, sum_around, sum_at_end, is_inner, inner_at, end_at, even_at, odd_at}
+use Rattle.iw44_lifting.specs.Step.{value_before, value_after, even_at, odd_at}
 use Rattle.iw44_lifting.proofs.Turns.{other_turn}
 
 two_le : (a b c d : ℕ) → (nat_le a b && nat_le c d) ≡ true → (a ≤ b) × (c ≤ d)

@@ -2,8 +2,8 @@
 use Rattle.std.proofs.Common.{◌≡◌, ◌≢◌, ℕ, ◌+◌, ◌*◌, ◌%◌, ◌<◌, ◌≤◌, ◌⊎◌, ◌&&◌, eqb, Bool, true, false, inl, inr, cond, ℤ, unsigned_abs, ap, ◌∙◌, sym, subst, refl, arith}
 use Rattle.std.proofs.Math.Nat.{mod-le}
 use Rattle.std.proofs.lemmas.List.{length-set}
-use Rattle.std.proofs.lemmas.Bool.{cases_lt, cases_eq, eqb-true, eq-eqb, ne_eqb}
-use Rattle.iw44_blocks.specs.Lattice.{Lattice, IsLattice, value_at, with_value, lattice}
+use Rattle.std.proofs.lemmas.Bool.{cases_lt, cases_eq, eq-eqb, ne_eqb}
+use Rattle.iw44_blocks.specs.Lattice.{Lattice, IsLattice, value_at, with_value}
 use Rattle.iw44_lifting.specs.declared.passes.Pass.{Pass}
 use Rattle.iw44_lifting.specs.Passes.{is_lifted, new_value, row_passed, passed}
 use Rattle.iw44_blocks.specs.Lattice.{IsWithin}

@@ -1,8 +1,8 @@
 -- The four passes of a scale.
-use Rattle.std.proofs.Common.{◌≡◌, ℕ, ◌+◌, ◌*◌, ◌≤◌, Bool, true, false, inl, inr, ap, ◌∙◌, sym, subst, refl, arith}
+use Rattle.std.proofs.Common.{◌≡◌, ℕ, ◌+◌, ◌*◌, ◌≤◌, Bool, true, false, inl, inr, ap, ◌∙◌, sym, subst, refl}
 use Rattle.iw44_blocks.specs.Lattice.{Lattice, IsLattice}
 use Rattle.iw44_lifting.specs.declared.passes.Pass.{Pass}
-use Rattle.iw44_lifting.specs.Passes.{IsPass, IsSomePass, passed, column_pass, row_pass}
+use Rattle.iw44_lifting.specs.Passes.{IsSomePass, passed, column_pass, row_pass}
 use Rattle.iw44_lifting.specs.Lift.{scale_lifted, columns_lifted, rows_lifted}
 use Rattle.iw44_blocks.specs.Lattice.{IsWithin}
 use Rattle.iw44_lifting.proofs.ColumnLines.{columns_passed}

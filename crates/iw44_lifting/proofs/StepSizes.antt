@@ -1,5 +1,5 @@
 -- Sizes of the values around a place.
-use Rattle.std.proofs.Common.{◌≡◌, ℕ, ◌+◌, ◌-◌, ◌*◌, ◌<◌, ◌≤◌, ℤ, pos, ◌+ℤ◌, unsigned_abs, unwrap_or, Bool, true, false, cond, arith}
+use Rattle.std.proofs.Common.{ℕ, ◌+◌, ◌-◌, ◌*◌, ◌<◌, ◌≤◌, ℤ, pos, unsigned_abs, unwrap_or, Bool, true, false, cond, arith}
 use Rattle.std.proofs.lemmas.Grind.{common_steps}
 use Rattle.iw44_blocks.specs.Lattice.{Lattice, value_at}
 use Rattle.iw44_blocks.specs.Lattice.{IsWithin}

@@ -1,6 +1,6 @@
 -- A sample's new value by its place in a grid, where the samples of its line stand a step apart: some columns to the right
 -- in the line of a row, some rows upward in the line of a column.
-use Rattle.std.specs.Prelude.{ℕ, Bool, ◌+◌, ◌-◌, ◌*◌, ◌<◌, ◌≤◌, ◌&&◌, nat_le, nat_lt, if◌then◌else◌, ℤ, pos, ◌+ℤ◌, unsigned_abs, Option, Some, None, is_some, unwrap_or}
+use Rattle.std.specs.Prelude.{ℕ, Bool, ◌+◌, ◌-◌, ◌*◌, ◌&&◌, nat_le, nat_lt, if◌then◌else◌, ℤ, pos, ◌+ℤ◌, Option, Some, None, is_some, unwrap_or}
 use Rattle.iw44_blocks.specs.Lattice.{Lattice, value_at}
 use Rattle.iw44_lifting.specs.Line.{even_value, inner_value, end_value}
 

@@ -1,9 +1,9 @@
-use Rattle.std.proofs.Common.{◌≡◌, ◌≤◌, ◌<◌, ◌^◌, ◌+◌, ◌*◌, ◌%◌, ℕ, ℤ, ap, ◌∙◌, sym, subst, to_z, of_z, w64, true, arith}
+use Rattle.std.proofs.Common.{◌≡◌, ◌<◌, ◌^◌, ◌∙◌, to_z, of_z, w64, true, arith}
 use Rattle.std.proofs.Math.Nat.{mod-eq_of_lt, add-mod_right}
 use Rattle.std.proofs.lemmas.Int.{ints}
 use Rattle.iw44_lifting.specs.Passes.{is_lifted}
 use Rattle.iw44_lifting.proofs.Grids.{sides}
-use Rattle.iw44_lifting.proofs.PassFacts.{Facts, facts, lifted_on_turns}
+use Rattle.iw44_lifting.proofs.PassFacts.{facts, lifted_on_turns}
 use Rattle.iw44_lifting.proofs.PassSteps.{row_begins, row_goes_on, row_ends, in_row_small}
 use Rattle.iw44_lifting.proofs.passes.Pass.lift_row.Goals as goal
 

@@ -1,4 +1,4 @@
-use Rattle.std.proofs.Common.{◌≡◌, ℕ, ◌-◌, ◌%◌}
+use Rattle.std.proofs.Common.{◌≡◌, ◌-◌, ◌%◌}
 use Rattle.iw44_lifting.proofs.PassSteps.{InRow}
 use Rattle.iw44_lifting.proofs.passes.Pass.lift_row.Given as goal
 

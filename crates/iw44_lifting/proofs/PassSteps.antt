@@ -3,10 +3,9 @@ use Rattle.std.proofs.Common.{◌≡◌, ◌≢◌, ℕ, ◌+◌, ◌*◌, ◌%�
 use Rattle.std.proofs.Math.Nat.{mod-le}
 use Rattle.std.proofs.lemmas.List.{length-set}
 use Rattle.std.proofs.lemmas.Bool.{cases_lt, cases_eq, eq-eqb, ne_eqb}
-use Rattle.iw44_blocks.specs.Lattice.{Lattice, IsLattice, value_at, with_value}
+use Rattle.iw44_blocks.specs.Lattice.{Lattice, IsLattice, value_at, with_value, IsWithin}
 use Rattle.iw44_lifting.specs.declared.passes.Pass.{Pass}
 use Rattle.iw44_lifting.specs.Passes.{is_lifted, new_value, row_passed, passed}
-use Rattle.iw44_blocks.specs.Lattice.{IsWithin}
 use Rattle.iw44_lifting.proofs.Grids.{value_given, value_changed, value_other, same_lattice}
 use Rattle.iw44_lifting.proofs.PassFacts.{Facts, Keeps, on_turns, new_value_same}
 use Rattle.iw44_lifting.proofs.StepSizes.{new_value_small}

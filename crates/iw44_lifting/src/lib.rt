@@ -14,5 +14,5 @@ mod samples;
 mod tests;
 mod transform;
 
-pub use laws::{values_stay_small, worked_grids, worked_lines};
+pub use laws::{lines_stay_apart, values_stay_small, worked_grids, worked_lines};
 pub use transform::inverse;

@@ -1,7 +1,6 @@
 //! One pass over a grid.
 ghost use Rattle.std.specs.Prelude.{◌≡◌, ◌%◌, ◌^◌, ◌<◌, ◌≤◌};
-ghost use Rattle.iw44_blocks.specs.Lattice.{IsLattice};
-ghost use Rattle.iw44_blocks.specs.Lattice.{IsWithin};
+ghost use Rattle.iw44_blocks.specs.Lattice.{IsLattice, IsWithin};
 ghost use Rattle.iw44_lifting.specs.Passes.{IsPass, IsSomePass, new_value, row_passed, passed, pass_over};
 
 use crate::neighbours::{Step, even_at, odd_at};

@@ -1,8 +1,7 @@
 //! The inverse transform of a grid.
 ghost use Rattle.std.specs.Prelude.{◌≡◌, ℕ, ◌+◌, ◌*◌, ◌^◌, ◌≤◌, ◌⊎◌};
-ghost use Rattle.iw44_blocks.specs.Lattice.{IsLattice};
-ghost use Rattle.iw44_lifting.specs.Lift.{scale_lifted, lifted};
 ghost use Rattle.iw44_blocks.specs.Lattice.{IsWithin};
+ghost use Rattle.iw44_lifting.specs.Lift.{scale_lifted, lifted};
 
 use crate::passes::{Lines, Pass};
 use iw44_blocks::Grid;

@@ -1,8 +1,18 @@
 -- A sample's new value by its place in a grid, where the samples of its line stand a step apart: some columns to the right
 -- in the line of a row, some rows upward in the line of a column.
-use Rattle.std.specs.Prelude.{ℕ, Bool, ◌+◌, ◌-◌, ◌*◌, ◌&&◌, nat_le, nat_lt, if◌then◌else◌, ℤ, pos, ◌+ℤ◌, Option, Some, None, is_some, unwrap_or}
+use Rattle.std.specs.Prelude.{ℕ, ◌^◌, ◌<◌, ◌≤◌, Bool, ◌+◌, ◌-◌, ◌*◌, ◌&&◌, nat_le, nat_lt, if◌then◌else◌, ℤ, pos, ◌+ℤ◌, Option, Some, None, is_some, unwrap_or}
 use Rattle.iw44_blocks.specs.Lattice.{Lattice, value_at}
+use Rattle.iw44_lifting.specs.declared.neighbours.Step.{Step}
 use Rattle.iw44_lifting.specs.Line.{even_value, inner_value, end_value}
+
+-- a place of a grid, and a step that the lines through it may have
+pub record IsPlace (grid : Lattice) (step : Step) (x y : ℕ) : Type 0 where
+  pub column : x < grid.width
+  pub row : y < grid.height
+  pub column_fits : x < 2 ^ 24
+  pub row_fits : y < 2 ^ 24
+  pub right : step.right ≤ 16
+  pub up : step.up ≤ 16
 
 -- the value so many steps before a place, if that is in the grid
 abbrev pub value_before : Lattice → ℕ → ℕ → ℕ → ℕ → ℕ → Option ℤ

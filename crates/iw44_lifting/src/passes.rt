@@ -1,6 +1,7 @@
 //! One pass over a grid.
 ghost use Rattle.std.specs.Prelude.{◌≡◌, ◌%◌, ◌^◌, ◌<◌, ◌≤◌};
 ghost use Rattle.iw44_blocks.specs.Lattice.{IsLattice, IsWithin};
+ghost use Rattle.iw44_lifting.specs.Step.{IsPlace};
 ghost use Rattle.iw44_lifting.specs.Passes.{IsPass, IsSomePass, new_value, row_passed, passed, pass_over};
 
 use crate::neighbours::{Step, even_at, odd_at};
@@ -68,12 +69,7 @@ impl Pass {
     /// What the sample in this column and row becomes.
     fn new_value(self, grid: &Grid, x: u32, y: u32) -> i64
         requires small { IsWithin (2 ^ 54) grid.now }
-        requires right { self.step.right ≤ 16 }
-        requires up { self.step.up ≤ 16 }
-        requires column { x < grid.now.width }
-        requires row { y < grid.now.height }
-        requires column_fits { x < 2 ^ 24 }
-        requires row_fits { y < 2 ^ 24 }
+        requires place { IsPlace grid.now self.step x y }
         ensures { result ≡ new_value self grid.now x y }
     {
         if self.odd {

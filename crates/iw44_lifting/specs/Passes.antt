@@ -1,8 +1,10 @@
 -- One pass of lifting over a grid: the even or the odd samples of all columns, or of all rows.
-use Rattle.std.specs.Prelude.{◌≡◌, ℕ, ◌*◌, ◌%◌, ◌≤◌, Bool, ◌&&◌, ◌==◌, ◌⊎◌, if◌then◌else◌, ℤ}
+use Rattle.std.specs.Prelude.{◌≡◌, ℕ, ◌*◌, ◌%◌, ◌≤◌, Bool, true, false, ◌&&◌, ◌==◌, ◌⊎◌, if◌then◌else◌, ℤ}
 use Rattle.iw44_blocks.specs.Lattice.{Lattice, value_at, lattice}
 use Rattle.iw44_lifting.specs.declared.passes.Lines.{Lines}
 use Rattle.iw44_lifting.specs.declared.passes.Lines.TheVariants.{Columns, Rows}
+use Rattle.iw44_lifting.specs.declared.passes.Samples.{Samples}
+use Rattle.iw44_lifting.specs.declared.passes.Samples.TheVariants.{Even, Odd}
 use Rattle.iw44_lifting.specs.declared.passes.Pass.{Pass}
 use Rattle.iw44_lifting.specs.Step.{even_at, odd_at}
 
@@ -41,9 +43,14 @@ row_pass scale odd = record {
   rows = record { first = 0; apart = scale };
 }
 
-abbrev pub pass_over : Lines → ℕ → Bool → Pass
-pass_over Columns scale odd = column_pass scale odd
-pass_over Rows scale odd = row_pass scale odd
+abbrev pub is_odd : Samples → Bool
+is_odd Even = false
+is_odd Odd = true
+
+-- the pass over these samples of these lines at a scale
+abbrev pub pass_over : Lines → Samples → ℕ → Pass
+pass_over Columns samples scale = column_pass scale (is_odd samples)
+pass_over Rows samples scale = row_pass scale (is_odd samples)
 
 -- what is true of each pass at a scale
 pub record IsPass (scale : ℕ) (pass : Pass) : Type 0 where

@@ -2,7 +2,7 @@
 ghost use Rattle.std.specs.Prelude.{◌≡◌, ◌%◌, ◌^◌, ◌<◌, ◌≤◌};
 ghost use Rattle.iw44_blocks.specs.Lattice.{IsLattice, IsWithin};
 ghost use Rattle.iw44_lifting.specs.Step.{IsPlace};
-ghost use Rattle.iw44_lifting.specs.Passes.{IsPass, IsSomePass, new_value, row_passed, passed, pass_over};
+ghost use Rattle.iw44_lifting.specs.Passes.{IsPass, IsSomePass, new_value, row_passed, passed, is_odd, pass_over};
 
 use crate::neighbours::{Step, even_at, odd_at};
 use iw44_blocks::Grid;
@@ -12,6 +12,24 @@ use iw44_blocks::Grid;
 pub(crate) enum Lines {
     Columns,
     Rows,
+}
+
+/// The samples of each line that a pass lifts.
+#[derive(Clone, Copy, Debug)]
+pub(crate) enum Samples {
+    Even,
+    Odd,
+}
+
+impl Samples {
+    fn is_odd(self) -> bool
+        ensures { result ≡ is_odd self }
+    {
+        match self {
+            Samples::Even => false,
+            Samples::Odd => true,
+        }
+    }
 }
 
 /// Which columns or rows a pass goes to: the first, and each one that stands so far apart from the one before.
@@ -31,11 +49,12 @@ pub(crate) struct Pass {
 }
 
 impl Pass {
-    /// The pass over the even or the odd samples of these lines at a scale.
-    pub fn over(lines: Lines, scale: u32, odd: bool) -> Pass
+    /// The pass over these samples of these lines at a scale.
+    pub fn over(lines: Lines, samples: Samples, scale: u32) -> Pass
         requires { scale ≤ 16 }
-        ensures { result ≡ pass_over lines scale odd }
+        ensures { result ≡ pass_over lines samples scale }
     {
+        let odd = samples.is_odd();
         let every = Turns {
             first: 0,
             apart: scale,

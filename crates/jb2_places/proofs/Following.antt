@@ -3,7 +3,7 @@ use Rattle.std.proofs.Common.{◌≡◌, ℕ, true, false, List, [], ◌∷◌, 
 use Rattle.std.proofs.lemmas.List.Sums.{fold_push}
 use Rattle.std.proofs.lemmas.List.Elements.{All-push}
 use Rattle.jb2_places.specs.declared.places.Spot.{Spot}
-use Rattle.jb2_places.specs.Place.{Placement, Placed, median, placed, placed_boxes, place, spot_at}
+use Rattle.jb2_places.specs.Place.{Placement, median, placed, placed_boxes, place, spot_at}
 use Rattle.jb2_places.specs.After.{Lead, lead_of, IsInput, IsAfter}
 
 abbrev pub first_of_row : ℤ → ℤ → ℤ → ℤ → Placement

@@ -2,8 +2,8 @@
 use Rattle.std.proofs.Common.{◌≡◌, ℕ, ◌+◌, ◌*◌, ◌<◌, ◌≤◌, ◌^◌, true, false, List, [], ◌∷◌, length, All, fold, get_or, ℤ, pos, ◌+ℤ◌, ◌-ℤ◌, FitsSigned, w32, arith, subst, sym}
 use Rattle.std.proofs.lemmas.Int.{ints, clamps}
 use Rattle.std.proofs.lemmas.List.Elements.{All-head, All-tail}
-use Rattle.jb2_places.specs.Place.{Placement, Placed, median, placed, placed_boxes}
-use Rattle.jb2_places.specs.After.{Lead, lead_of, IsInput, IsSize, IsAfter, HasRoom, Within, LeadsWithin, call_limit, far}
+use Rattle.jb2_places.specs.Place.{Placement, Placed, median, placed}
+use Rattle.jb2_places.specs.After.{Lead, lead_of, IsInput, IsSize, HasRoom, Within, LeadsWithin, far}
 
 -- a number within r is within each larger one
 pub within_more : (r s : ℕ) (z : ℤ) → r ≤ s → Within r z → Within s z
@@ -43,8 +43,8 @@ reach_of_box : (r h : ℕ) (before : List Placed) (box : Placement) → LeadsWit
     LeadsWithin (r + 2 ^ 32) (lead_of h (placed h before box ∷ before))
 reach_of_box r h before box so input =
     elim box.new_row as (λ new. LeadsWithin (r + 2 ^ 32) (lead_of h (placed h before (record { new_row = new; dx = box.dx; dy = box.dy; width = box.width; height = box.height }) ∷ before))) [
-      true ↦ reach_of_row r h before box.dx box.dy box.width box.height so input.dx input.dy input.width input.height
-    | false ↦ reach_of_same r h before box.dx box.dy box.width box.height so input.dx input.dy input.width input.height
+      | true ↦ reach_of_row r h before box.dx box.dy box.width box.height so input.dx input.dy input.width input.height
+      | false ↦ reach_of_same r h before box.dx box.dy box.width box.height so input.dx input.dy input.width input.height
     ]
 
 -- what reaches no further than r reaches no further than a larger number
@@ -67,7 +67,6 @@ reach_of_boxes (box ∷ boxes) r h before so inputs =
 
 -- with room left, the next box is placed from within 2 ^ 52
 pub reach_with_room : (lead : Lead) → HasRoom lead → LeadsWithin (2 ^ 52) lead
-unfolding call_limit
 reach_with_room lead (h, earlier, after, few) =
     subst (LeadsWithin (2 ^ 52)) (sym after.lead)
     (more_reach (2 ^ 32 + length earlier * 2 ^ 32) _ _ (omega arith) (reach_of_boxes earlier (2 ^ 32) h [] (reach_of_none h after.fits) after.inputs))

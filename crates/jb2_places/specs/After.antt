@@ -37,14 +37,13 @@ pub record IsAfter (image_height : ℕ) (earlier : List Placement) (places : Lea
   pub lead : places ≡ lead_of image_height (placed_boxes image_height earlier)
 
 -- so many boxes can be placed
-unfoldable pub call_limit : ℕ
+abbrev pub call_limit : ℕ
 call_limit = 1_048_576
 
 -- these places come after fewer placements than the limit
 abbrev pub HasRoom : Lead → Type 0
 HasRoom places =
     (image_height : ℕ) × (earlier : List Placement) × IsAfter image_height earlier places × (length earlier < call_limit)
-
 
 -- z is at most r from 0
 pub record Within (r : ℕ) (z : ℤ) : Type 0 where

@@ -1,5 +1,5 @@
 -- A line of five boxes in an image of height 100, the first box of the next line, and one further box.
-use Rattle.std.specs.Prelude.{ℕ, ℤ, pos, negsuc, true, false, List, [], ◌∷◌, take}
+use Rattle.std.specs.Prelude.{ℕ, pos, negsuc, true, false, List, [], ◌∷◌, take}
 use Rattle.jb2_places.specs.declared.places.Spot.{Spot}
 use Rattle.jb2_places.specs.Place.{Placement, place}
 

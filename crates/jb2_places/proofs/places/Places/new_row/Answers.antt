@@ -1,4 +1,4 @@
-use Rattle.std.proofs.Common.{ℕ, List, arith, ap, sym, subst, to_z, of_z, w64, ◌∙◌}
+use Rattle.std.proofs.Common.{arith, sym, subst, to_z, of_z, w64}
 use Rattle.std.proofs.lemmas.Int.{ints}
 use Rattle.jb2_places.specs.After.{HasRoom}
 use Rattle.jb2_places.proofs.Reaching.{reach_with_room, row_within}

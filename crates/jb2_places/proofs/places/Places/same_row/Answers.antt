@@ -1,4 +1,4 @@
-use Rattle.std.proofs.Common.{◌≡◌, ℕ, List, get_or, ℤ, pos, ◌+ℤ◌, SFits, to_z, of_z, w64, arith, rules, ap, sym, subst, ◌∙◌}
+use Rattle.std.proofs.Common.{◌≡◌, get_or, pos, ◌+ℤ◌, SFits, to_z, of_z, w64, arith, rules, ap, sym, subst, ◌∙◌}
 use Rattle.std.proofs.lemmas.Int.{ints, clamps, to_z-of_z}
 use Rattle.jb2_places.specs.After.{HasRoom}
 use Rattle.jb2_places.proofs.Reaching.{reach_with_room, same_within}

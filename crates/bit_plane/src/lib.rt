@@ -1,0 +1,4 @@
+//! Planes of black and white pixels, packed into words.
+#![tactic(auto)]
+
+mod words;

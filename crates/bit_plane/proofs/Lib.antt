@@ -1,3 +1,4 @@
 pub mod BitLemmas
 pub mod Setting
 pub mod RunSteps
+pub mod RowSteps

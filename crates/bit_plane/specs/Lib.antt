@@ -1,1 +1,4 @@
 pub mod Bits
+pub mod Pixels
+pub mod Packed
+pub mod Spans

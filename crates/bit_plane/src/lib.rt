@@ -1,4 +1,5 @@
 //! Planes of black and white pixels, packed into words.
 #![tactic(auto)]
 
+mod painting;
 mod words;

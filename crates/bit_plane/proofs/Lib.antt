@@ -2,3 +2,5 @@ pub mod BitLemmas
 pub mod Setting
 pub mod RunSteps
 pub mod RowSteps
+pub mod PixelLemmas
+pub mod PaintLemmas

@@ -2,4 +2,7 @@
 #![tactic(auto)]
 
 mod painting;
+mod planes;
 mod words;
+
+pub use planes::Plane;

@@ -1,7 +1,7 @@
 //! Painting: what of a shape falls into a plane, and its rows, word by word.
 ghost use Rattle.std.specs.Prelude.{◌≡◌, ℕ, ◌+◌, ◌*◌, ◌^◌, ◌<◌, ◌≤◌, ◌⊎◌, length, max};
 ghost use Rattle.bit_plane.specs.Bits.{bit};
-ghost use Rattle.bit_plane.specs.Spans.{IsSpan};
+ghost use Rattle.bit_plane.specs.Spans.{Meets};
 
 use crate::words::or_run;
 
@@ -14,27 +14,14 @@ pub struct Span {
     pub count: usize,
 }
 
-/// Where a shape that is moved so far meets a plane. What falls outside isn't walked over.
-pub fn overlap(offset: i64, shape: u32, plane: u32) -> Span
-    ensures { IsSpan offset shape plane result.from result.to result.count }
+/// Where a shape that is moved so far meets a plane, if anywhere. What falls outside isn't walked over.
+pub fn overlap(offset: i64, shape: u32, plane: u32) -> Option<Span>
+    ensures { Meets offset shape plane result }
 {
-    let shape = shape as usize;
-    let plane = plane as usize;
-    if offset >= 0 {
-        let to = offset as usize;
-        Span {
-            from: 0,
-            to,
-            count: shape.min(plane.saturating_sub(to)),
-        }
-    } else {
-        let from = offset.unsigned_abs() as usize;
-        Span {
-            from,
-            to: 0,
-            count: plane.min(shape.saturating_sub(from)),
-        }
-    }
+    let from = if offset < 0 { offset.unsigned_abs() as usize } else { 0 };
+    let to = if offset < 0 { 0 } else { offset as usize };
+    let count = (shape as usize).saturating_sub(from).min((plane as usize).saturating_sub(to));
+    if count > 0 { Some(Span { from, to, count }) } else { None }
 }
 
 /// Sets the pixels of so many rows that are set in another plane's rows.

@@ -4,3 +4,4 @@ pub mod RunSteps
 pub mod RowSteps
 pub mod PixelLemmas
 pub mod PaintLemmas
+pub mod InkLemmas

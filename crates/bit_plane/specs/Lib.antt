@@ -2,3 +2,5 @@ pub mod Bits
 pub mod Pixels
 pub mod Packed
 pub mod Spans
+pub mod Ink
+pub mod Columns

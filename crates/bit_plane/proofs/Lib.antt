@@ -5,3 +5,4 @@ pub mod RowSteps
 pub mod PixelLemmas
 pub mod PaintLemmas
 pub mod InkLemmas
+pub mod InkBoxes

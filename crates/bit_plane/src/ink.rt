@@ -1,6 +1,7 @@
 //! Ink boxes, by words.
 ghost use Rattle.std.specs.Prelude.{◌≡◌, ℕ, ◌+◌, ◌*◌, ◌^◌, ◌<◌, ◌≤◌, length, MatchOption, pos};
 ghost use Rattle.bit_plane.specs.Pixels.{area_limit};
+ghost use Rattle.bit_plane.specs.Ink.{no_ink};
 ghost use Rattle.bit_plane.specs.Columns.{IsInk, IsLeft, IsBehind, IsFirst, IsLast, IsClear};
 
 use crate::words::read_bits;
@@ -13,6 +14,26 @@ pub struct InkBox {
     pub right: i32,
     pub bottom: i32,
     pub top: i32,
+}
+
+/// The box of a plane without a black pixel.
+pub fn no_ink() -> InkBox
+    ensures { result ≡ no_ink }
+{
+    InkBox {
+        left: 0,
+        right: -1,
+        bottom: 0,
+        top: -1,
+    }
+}
+
+/// A column or a row as a signed number.
+pub fn signed(at: usize) -> i32
+    requires { at ≤ area_limit }
+    ensures { result ≡ pos at }
+{
+    at as i32
 }
 
 /// The first bit that is set, if any is.

@@ -1,7 +1,9 @@
 //! Planes of pixels.
 ghost use Rattle.std.specs.Prelude.{◌≡◌, ℕ, ◌+◌, ◌*◌, ◌<◌, ◌≤◌, IfOk, MatchOption, ℤ, pos, replicate};
 ghost use Rattle.bit_plane.specs.Pixels.{is_black, area_limit, blank, with_black, painted};
+ghost use Rattle.bit_plane.specs.Ink.{ink_box_of};
 
+use crate::ink::{InkBox, behind_ink, first_set, last_set, left_of_ink, no_ink, signed};
 use crate::painting::{or_rows, overlap};
 use crate::words::{is_set, or_bits};
 use std::alloc::{AllocError, Global};
@@ -66,6 +68,26 @@ impl Plane {
             return false;
         };
         is_set(&self.words, row * self.columns as usize + column)
+    }
+
+    /// The columns and rows between which all black pixels lie.
+    pub fn ink_box(&self) -> InkBox
+        ensures { result ≡ ink_box_of self.now }
+    {
+        let Some(first) = first_set(&self.words) else {
+            return no_ink();
+        };
+        let Some(last) = last_set(&self.words) else {
+            return no_ink();
+        };
+        let width = self.columns as usize;
+        let height = self.rows as usize;
+        InkBox {
+            left: signed(left_of_ink(&self.words, width, height)),
+            right: signed(behind_ink(&self.words, width, height)) - 1,
+            bottom: signed(first / width),
+            top: signed(last / width),
+        }
     }
 
     /// Makes a place black.

@@ -6,3 +6,5 @@ pub mod PixelLemmas
 pub mod PaintLemmas
 pub mod InkLemmas
 pub mod InkBoxes
+pub mod PixelLaws
+pub mod InkLaws

@@ -29,7 +29,7 @@ white_column plane (pos x) (negsuc y) apart = refl
 white_column plane (negsuc x) (pos y) apart = refl
 white_column plane (negsuc x) (negsuc y) apart = refl
 
-and_false : (t u : Bool) → u ≡ false → (t && u) ≡ false
+pub and_false : (t u : Bool) → u ≡ false → (t && u) ≡ false
 and_false true u e = e
 and_false false u e = refl
 
@@ -153,7 +153,7 @@ set_is w h x y old new p q inside outside = same_where w h _ _ (λ a b left belo
 
 -- ---- painting
 
-or_false : (s t : Bool) → t ≡ false → (s || t) ≡ s
+pub or_false : (s t : Bool) → t ≡ false → (s || t) ≡ s
 or_false true t e = refl
 or_false false t e = e
 

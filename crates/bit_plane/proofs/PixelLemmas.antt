@@ -16,7 +16,8 @@ use Rattle.bit_plane.proofs.BitLemmas.{bit-lt}
 abbrev pixel_list : ℕ → ℕ → (ℕ → ℕ → Bool) → List Bool
 pixel_list w h f = map (λ i. f (i % w) (i / w)) (range_with_len 0 (w * h))
 
-wide : (w h i : ℕ) → i < w * h → 0 < w
+-- a plane with a place has a column
+pub wide : (w h i : ℕ) → i < w * h → 0 < w
 wide zero h i p = omega arith
 wide (suc w) h i p = omega arith
 

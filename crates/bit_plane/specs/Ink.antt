@@ -1,7 +1,7 @@
 -- The ink box of a plane: the least and greatest columns and rows that have a black pixel.
-use Rattle.std.specs.Prelude.{ℕ, zero, suc, Bool, false, ◌||◌, pos, negsuc, if◌then◌else◌}
+use Rattle.std.specs.Prelude.{◌≡◌, ℕ, zero, suc, Bool, true, false, ◌||◌, ℤ, pos, negsuc, ◌≤ℤ◌, if◌then◌else◌}
 use Rattle.bit_plane.specs.declared.ink.InkBox.{InkBox}
-use Rattle.bit_plane.specs.Pixels.{Pixels, is_black_at}
+use Rattle.bit_plane.specs.Pixels.{Pixels, is_black, is_black_at}
 
 -- whether a number below n passes
 abbrev pub any_below : (ℕ → Bool) → ℕ → Bool
@@ -40,3 +40,19 @@ ink_box_of plane =
       top = pos (greatest_below (has_ink_row plane) plane.height);
     }
     else no_ink
+
+-- a column with a black pixel
+abbrev pub InkColumn : Pixels → ℤ → Type 0
+InkColumn plane x = (y : ℤ) × (is_black plane x y ≡ true)
+
+-- a row with a black pixel
+abbrev pub InkRow : Pixels → ℤ → Type 0
+InkRow plane y = (x : ℤ) × (is_black plane x y ≡ true)
+
+-- no black pixel lies outside of the box, and where there is one, one lies at each of the box's sides
+pub record IsInkBox (plane : Pixels) (box : InkBox) : Type 0 where
+  pub within : (x y : ℤ) → is_black plane x y ≡ true → (box.left ≤ℤ x) × (x ≤ℤ box.right) × (box.bottom ≤ℤ y) × (y ≤ℤ box.top)
+  pub left : (x y : ℤ) → is_black plane x y ≡ true → InkColumn plane box.left
+  pub right : (x y : ℤ) → is_black plane x y ≡ true → InkColumn plane box.right
+  pub bottom : (x y : ℤ) → is_black plane x y ≡ true → InkRow plane box.bottom
+  pub top : (x y : ℤ) → is_black plane x y ≡ true → InkRow plane box.top

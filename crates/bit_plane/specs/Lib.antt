@@ -4,3 +4,4 @@ pub mod Packed
 pub mod Spans
 pub mod Ink
 pub mod Columns
+pub mod Worked

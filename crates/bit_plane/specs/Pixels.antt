@@ -1,5 +1,5 @@
 -- Planes of pixels: a width, a height, and which pixels are black. Places count from 0 at the bottom left.
-use Rattle.std.specs.Prelude.{ℕ, ◌+◌, ◌*◌, ◌/◌, ◌%◌, ◌==◌, nat_lt, Bool, false, ◌&&◌, ◌||◌, List, map, slice_index_or, ℤ, pos, negsuc, ◌-ℤ◌}
+use Rattle.std.specs.Prelude.{◌≡◌, ℕ, ◌+◌, ◌*◌, ◌/◌, ◌%◌, ◌==◌, nat_lt, Bool, false, ◌&&◌, ◌||◌, List, length, map, slice_index_or, ℤ, pos, negsuc, ◌-ℤ◌}
 use Rattle.std.specs.List.{range_with_len}
 
 pub record Pixels : Type 0 where
@@ -27,6 +27,16 @@ abbrev pub is_black : Pixels → ℤ → ℤ → Bool
 is_black plane (pos x) (pos y) = is_black_at plane x y
 is_black plane (pos x) (negsuc y) = false
 is_black plane (negsuc x) y = false
+
+-- a plane has a pixel for each place
+abbrev pub IsPlane : Pixels → Type 0
+IsPlane plane = length plane.black ≡ plane.width * plane.height
+
+-- whether a place is (x, y)
+abbrev pub is_place : ℤ → ℤ → ℕ → ℕ → Bool
+is_place (pos a) (pos b) x y = a == x && b == y
+is_place (pos a) (negsuc b) x y = false
+is_place (negsuc a) b x y = false
 
 -- the plane of a size whose pixel (x, y) is black where the test says so
 abbrev pub pixels_where : ℕ → ℕ → (ℕ → ℕ → Bool) → Pixels

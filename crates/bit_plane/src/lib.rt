@@ -2,9 +2,11 @@
 #![tactic(auto)]
 
 mod ink;
+mod laws;
 mod painting;
 mod planes;
 mod words;
 
 pub use ink::InkBox;
+pub use laws::{ink_laws, paint_laws, pixel_laws, worked_boxes};
 pub use planes::Plane;

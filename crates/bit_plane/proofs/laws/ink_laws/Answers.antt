@@ -1,0 +1,8 @@
+use Rattle.bit_plane.proofs.InkLaws.{is_ink_box, white_box}
+use Rattle.bit_plane.proofs.laws.ink_laws.Goals as goal
+
+pub returns-clause-ends : goal.returns-clause-ends
+returns-clause-ends c = is_ink_box
+
+pub returns-clause-none : goal.returns-clause-none
+returns-clause-none c = white_box

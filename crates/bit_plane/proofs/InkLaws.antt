@@ -141,3 +141,6 @@ pub white_box : (plane : Pixels) → ((x y : ℤ) → is_black plane x y ≡ fal
 white_box plane white =
     cond-false (any_below (has_ink_column plane) plane.width) (inked plane) no_ink
     (any_false (has_ink_column plane) plane.width (λ x p. any_false (λ y. is_black_at plane x y) plane.height (λ y q. white (pos x) (pos y))))
+
+pub is_ink_box_at : (plane : Pixels) (box : InkBox) → box ≡ ink_box_of plane → IsInkBox plane box
+is_ink_box_at plane box e = subst (IsInkBox plane) (sym e) (is_ink_box plane)

@@ -142,3 +142,22 @@ painted_nothing plane shape left bottom x y white =
 pub painted_stays : (plane shape : Pixels) (left bottom x y : ℤ) → is_black plane x y ≡ true → is_black (painted plane shape left bottom) x y ≡ true
 painted_stays plane shape left bottom x y black =
     painted_is_black plane shape left bottom x y ∙ or_left (is_black plane x y) (is_inside plane x y && is_black shape (x -ℤ left) (y -ℤ bottom)) black
+
+-- ---- the same of what a call leaves
+
+pub blank_pixels : (plane : Pixels) (w h : ℕ) → plane ≡ blank w h → (x y : ℤ) → is_black plane x y ≡ false
+blank_pixels plane w h e x y = ap (λ made. is_black made x y) e ∙ blank_is w h x y
+
+pub set_pixels : (old new : Pixels) (x y : ℕ) → x < old.width → y < old.height → new ≡ with_black old x y →
+    (a b : ℤ) → is_black new a b ≡ (is_place a b x y || is_black old a b)
+set_pixels old new x y p q e a b = ap (λ plane. is_black plane a b) e ∙ set_is_black old x y a b p q
+
+pub painted_pixels : (old shape new : Pixels) (left bottom : ℤ) → new ≡ painted old shape left bottom →
+    (x y : ℤ) → is_black new x y ≡ (is_black old x y || (is_inside old x y && is_black shape (x -ℤ left) (y -ℤ bottom)))
+painted_pixels old shape new left bottom e x y = ap (λ plane. is_black plane x y) e ∙ painted_is_black old shape left bottom x y
+
+pub same_width : (plane other : Pixels) → plane ≡ other → plane.width ≡ other.width
+same_width plane other e = ap (λ (made : Pixels). made.width) e
+
+pub same_height : (plane other : Pixels) → plane ≡ other → plane.height ≡ other.height
+same_height plane other e = ap (λ (made : Pixels). made.height) e

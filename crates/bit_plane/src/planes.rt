@@ -1,7 +1,7 @@
 //! Planes of pixels.
-ghost use Rattle.std.specs.Prelude.{◌≡◌, ℕ, ◌+◌, ◌*◌, ◌<◌, ◌≤◌, IfOk, MatchOption, ℤ, pos, replicate};
-ghost use Rattle.bit_plane.specs.Pixels.{is_black, area_limit, blank, with_black, painted};
-ghost use Rattle.bit_plane.specs.Ink.{ink_box_of};
+ghost use Rattle.std.specs.Prelude.{◌≡◌, ℕ, ◌+◌, ◌*◌, ◌<◌, ◌≤◌, IfOk, MatchOption, ℤ, pos, ◌-ℤ◌, false, ◌&&◌, ◌||◌, replicate};
+ghost use Rattle.bit_plane.specs.Pixels.{is_black, is_inside, is_place, area_limit, blank, with_black, painted};
+ghost use Rattle.bit_plane.specs.Ink.{ink_box_of, IsInkBox};
 
 use crate::ink::{InkBox, behind_ink, first_set, last_set, left_of_ink, no_ink, signed};
 use crate::painting::{or_rows, overlap};
@@ -33,7 +33,8 @@ impl Plane {
     /// A white plane of this size in pixels.
     pub fn new(alloc: Global, width: u32, height: u32) -> Result<Plane, AllocError>
         requires { width * height ≤ area_limit }
-        ensures { IfOk result (λ plane. plane ≡ blank width height) }
+        ensures value { IfOk result (λ plane. plane ≡ blank width height) }
+        ensures white { IfOk result (λ plane. (x y : ℤ) → is_black plane x y ≡ false) }
     {
         let area = width as usize * height as usize;
         Ok(Plane {
@@ -72,7 +73,8 @@ impl Plane {
 
     /// The columns and rows between which all black pixels lie.
     pub fn ink_box(&self) -> InkBox
-        ensures { result ≡ ink_box_of self.now }
+        ensures value { result ≡ ink_box_of self.now }
+        ensures ends { IsInkBox self.now result }
     {
         let Some(first) = first_set(&self.words) else {
             return no_ink();
@@ -94,7 +96,10 @@ impl Plane {
     pub fn set(&mut self, x: u32, y: u32)
         requires column { x < self.old.width }
         requires row { y < self.old.height }
-        ensures { self.new ≡ with_black self.old x y }
+        ensures value { self.new ≡ with_black self.old x y }
+        ensures width { self.new.width ≡ self.old.width }
+        ensures height { self.new.height ≡ self.old.height }
+        ensures pixels { (a b : ℤ) → is_black self.new a b ≡ (is_place a b x y || is_black self.old a b) }
     {
         let at = y as usize * self.columns as usize + x as usize;
         or_bits(&mut self.words, at, 1, 1);
@@ -103,7 +108,11 @@ impl Plane {
     /// Paints a shape whose left bottom corner comes to stand at a place, wherever that is. What falls outside is
     /// dropped.
     pub fn paint(&mut self, shape: &Plane, left: i64, bottom: i64)
-        ensures { self.new ≡ painted self.old shape.now left bottom }
+        ensures value { self.new ≡ painted self.old shape.now left bottom }
+        ensures width { self.new.width ≡ self.old.width }
+        ensures height { self.new.height ≡ self.old.height }
+        ensures pixels { (x y : ℤ) → is_black self.new x y ≡
+            (is_black self.old x y || (is_inside self.old x y && is_black shape.now (x -ℤ left) (y -ℤ bottom))) }
     {
         let Some(columns) = overlap(left, shape.columns, self.columns) else {
             return;

@@ -5,6 +5,7 @@ use Rattle.bit_plane.specs.Pixels.{Pixels, painted}
 use Rattle.bit_plane.specs.Packed.{pixels_of, IsPacked}
 use Rattle.bit_plane.specs.Spans.{IsSpan, Misses}
 use Rattle.bit_plane.proofs.PaintLemmas.{rows_room, painted_apart_columns, painted_apart_rows, painted_is, packed_still}
+use Rattle.bit_plane.proofs.PixelLaws.{same_width, same_height, painted_pixels}
 use Rattle.bit_plane.proofs.planes.Plane.paint.Goals as goal
 
 pub or_rows-requires-clause-room : goal.or_rows-requires-clause-room
@@ -29,20 +30,34 @@ invariant_of-self c =
 pub returns-in_default : goal.returns-in_default
 returns-in_default c =
     let misses = subst (λ z. Misses z c.shape.inside.columns c.self.inside.columns) (to_z-of_z w64 c.args.left c.ranges.left) c.in_default.ensures in
-    sym c.self.view_is
-    ∙ painted_apart_columns c.self.inside.columns c.self.inside.rows c.shape.inside.columns c.shape.inside.rows
-      c.self.inside.words.items c.self.inside.words.items c.shape.inside.words.items c.args.left c.args.bottom misses (λ i. refl)
-    ∙ ap (λ plane. painted plane (pixels_of c.shape.inside.columns c.shape.inside.rows c.shape.inside.words.items) c.args.left c.args.bottom) c.self.view_is
-    ∙ ap (λ shape. painted c.args.self.now shape c.args.left c.args.bottom) c.shape.view_is
+    let value =
+      sym c.self.view_is
+      ∙ painted_apart_columns c.self.inside.columns c.self.inside.rows c.shape.inside.columns c.shape.inside.rows
+        c.self.inside.words.items c.self.inside.words.items c.shape.inside.words.items c.args.left c.args.bottom misses (λ i. refl)
+      ∙ ap (λ plane. painted plane (pixels_of c.shape.inside.columns c.shape.inside.rows c.shape.inside.words.items) c.args.left c.args.bottom) c.self.view_is
+      ∙ ap (λ shape. painted c.args.self.now shape c.args.left c.args.bottom) c.shape.view_is in
+    record {
+      value = value;
+      width = same_width _ (painted c.args.self.now c.args.shape.now c.args.left c.args.bottom) value;
+      height = same_height _ (painted c.args.self.now c.args.shape.now c.args.left c.args.bottom) value;
+      pixels = painted_pixels c.args.self.now c.args.shape.now _ c.args.left c.args.bottom value;
+    }
 
 pub returns-in_default-overlap : goal.returns-in_default-overlap
 returns-in_default-overlap c =
     let misses = subst (λ z. Misses z c.shape.inside.rows c.self.inside.rows) (to_z-of_z w64 c.args.bottom c.ranges.bottom) c.in_default-overlap.ensures in
-    sym c.self.view_is
-    ∙ painted_apart_rows c.self.inside.columns c.self.inside.rows c.shape.inside.columns c.shape.inside.rows
-      c.self.inside.words.items c.self.inside.words.items c.shape.inside.words.items c.args.left c.args.bottom misses (λ i. refl)
-    ∙ ap (λ plane. painted plane (pixels_of c.shape.inside.columns c.shape.inside.rows c.shape.inside.words.items) c.args.left c.args.bottom) c.self.view_is
-    ∙ ap (λ shape. painted c.args.self.now shape c.args.left c.args.bottom) c.shape.view_is
+    let value =
+      sym c.self.view_is
+      ∙ painted_apart_rows c.self.inside.columns c.self.inside.rows c.shape.inside.columns c.shape.inside.rows
+        c.self.inside.words.items c.self.inside.words.items c.shape.inside.words.items c.args.left c.args.bottom misses (λ i. refl)
+      ∙ ap (λ plane. painted plane (pixels_of c.shape.inside.columns c.shape.inside.rows c.shape.inside.words.items) c.args.left c.args.bottom) c.self.view_is
+      ∙ ap (λ shape. painted c.args.self.now shape c.args.left c.args.bottom) c.shape.view_is in
+    record {
+      value = value;
+      width = same_width _ (painted c.args.self.now c.args.shape.now c.args.left c.args.bottom) value;
+      height = same_height _ (painted c.args.self.now c.args.shape.now c.args.left c.args.bottom) value;
+      pixels = painted_pixels c.args.self.now c.args.shape.now _ c.args.left c.args.bottom value;
+    }
 
 pub returns : goal.returns
 returns c =
@@ -50,9 +65,16 @@ returns c =
     let rows = subst (λ z. IsSpan z c.shape.inside.rows c.self.inside.rows c.in-Some-overlap.rows) (to_z-of_z w64 c.args.bottom c.ranges.bottom) c.in-Some-overlap.ensures in
     let inside = rw (c.deref_mut.ensures.value, c.deref.ensures.value) at c.or_rows.ensures.inside in
     let outside = rw c.deref_mut.ensures.value at c.or_rows.ensures.outside in
-    ap (pixels_of c.self.inside.columns c.self.inside.rows) (with_items_is c.self.inside.words c.or_rows.new.words (omega arith))
-    ∙ painted_is c.self.inside.columns c.self.inside.rows c.shape.inside.columns c.shape.inside.rows
-      c.self.inside.words.items c.or_rows.new.words c.shape.inside.words.items c.args.left c.args.bottom
-      c.in-Some.columns c.in-Some-overlap.rows columns rows inside outside
-    ∙ ap (λ plane. painted plane (pixels_of c.shape.inside.columns c.shape.inside.rows c.shape.inside.words.items) c.args.left c.args.bottom) c.self.view_is
-    ∙ ap (λ shape. painted c.args.self.now shape c.args.left c.args.bottom) c.shape.view_is
+    let value =
+      ap (pixels_of c.self.inside.columns c.self.inside.rows) (with_items_is c.self.inside.words c.or_rows.new.words (omega arith))
+      ∙ painted_is c.self.inside.columns c.self.inside.rows c.shape.inside.columns c.shape.inside.rows
+        c.self.inside.words.items c.or_rows.new.words c.shape.inside.words.items c.args.left c.args.bottom
+        c.in-Some.columns c.in-Some-overlap.rows columns rows inside outside
+      ∙ ap (λ plane. painted plane (pixels_of c.shape.inside.columns c.shape.inside.rows c.shape.inside.words.items) c.args.left c.args.bottom) c.self.view_is
+      ∙ ap (λ shape. painted c.args.self.now shape c.args.left c.args.bottom) c.shape.view_is in
+    record {
+      value = value;
+      width = same_width _ (painted c.args.self.now c.args.shape.now c.args.left c.args.bottom) value;
+      height = same_height _ (painted c.args.self.now c.args.shape.now c.args.left c.args.bottom) value;
+      pixels = painted_pixels c.args.self.now c.args.shape.now _ c.args.left c.args.bottom value;
+    }

@@ -1,8 +1,8 @@
 -- Digits of numbers after shifts and masks, and bits of words.
-use Rattle.std.proofs.Common.{◌≡◌, ◌≢◌, ℕ, ◌+◌, ◌-◌, ◌*◌, ◌/◌, ◌%◌, ◌^◌, ◌<◌, ◌≤◌, ◌⊎◌, inl, inr, max, min, bit_and, bit_or, List, length, get_or, set, arith, refl, ap, sym, ◌∙◌}
-use Rattle.std.proofs.lemmas.Bool.{cases_lt, cases_eq}
-use Rattle.std.proofs.lemmas.Nat.{shr-shr, shl_whole, and_le_r, pow_pos, shr_split}
-use Rattle.std.proofs.lemmas.Nat.Bits.{bit_at_or, bit_at_and, bit_at-lt, bit_at_ones, bit_at_ones_above, bit_at_above, bit_at_cat_low, bit_at_cat_high, ones_shr}
+use Rattle.std.proofs.Common.{◌≡◌, ◌≢◌, ℕ, ◌+◌, ◌-◌, ◌*◌, ◌/◌, ◌%◌, ◌^◌, ◌<◌, ◌≤◌, inl, inr, max, min, bit_and, bit_or, List, length, get_or, set, arith, ap, sym, ◌∙◌}
+use Rattle.std.proofs.lemmas.Bool.{cases_lt}
+use Rattle.std.proofs.lemmas.Nat.{shr-shr, and_le_r, pow_pos, shr_split}
+use Rattle.std.proofs.lemmas.Nat.Bits.{bit_at_or, bit_at_and, bit_at-lt, bit_at_ones, bit_at_above, bit_at_cat_low, bit_at_cat_high, ones_shr}
 use Rattle.std.proofs.lemmas.List.{get_or-set_same, get_or-set_other}
 use Rattle.bit_plane.specs.Bits.{bit, digit}
 
@@ -106,14 +106,14 @@ read_two words at count i p q more fits =
     let both = digit-or low high i in
     let of_low = digit-shr first (at % 64) i in
     elim (cases_lt (at % 64 + i) 64) [
-      inl below ↦
-        let of_high = digit-shl_low second shift 64 i (omega arith) (omega arith) in
-        let is = bit_of words (at + i) (at / 64) (at % 64 + i) (omega arith) below in
-        omega arith
-    | inr past ↦
-        let none = digit_above first 64 (at % 64 + i) fits past in
-        let of_high = digit-shl_high second shift 64 i (omega arith) (omega arith) in
-        let same = ap (digit second) {x = i - shift} {y = at % 64 + i - 64} (omega arith) in
-        let is = bit_of words (at + i) (at / 64 + 1) (at % 64 + i - 64) (omega arith) (omega arith) in
-        omega arith
+      | inl below ↦
+          let of_high = digit-shl_low second shift 64 i (omega arith) (omega arith) in
+          let is = bit_of words (at + i) (at / 64) (at % 64 + i) (omega arith) below in
+          omega arith
+      | inr past ↦
+          let none = digit_above first 64 (at % 64 + i) fits past in
+          let of_high = digit-shl_high second shift 64 i (omega arith) (omega arith) in
+          let same = ap (digit second) {x = i - shift} {y = at % 64 + i - 64} (omega arith) in
+          let is = bit_of words (at + i) (at / 64 + 1) (at % 64 + i - 64) (omega arith) (omega arith) in
+          omega arith
     ]

@@ -1,8 +1,8 @@
 -- The ink box of packed words.
-use Rattle.std.proofs.Common.{◌≡◌, ℕ, zero, suc, ◌+◌, ◌-◌, ◌*◌, ◌/◌, ◌%◌, ◌<◌, ◌≤◌, inl, inr, Bool, true, false, ◌||◌, eqb, cond, List, pos, negsuc, ◌-ℤ◌, ℤ, arith, refl, ap, sym, ◌∙◌}
+use Rattle.std.proofs.Common.{◌≡◌, ℕ, zero, suc, ◌+◌, ◌-◌, ◌*◌, ◌/◌, ◌%◌, ◌<◌, ◌≤◌, inl, inr, Bool, true, false, List, pos, ◌-ℤ◌, ℤ, arith, refl, ap, sym, ◌∙◌}
 use Rattle.std.proofs.Math.Nat.{mul_comm}
 use Rattle.std.proofs.lemmas.Int.{ints}
-use Rattle.std.proofs.lemmas.Bool.{cases_lt, cases_eq, eq-eqb, ne_eqb, or_left, or_right, or_from, cond-true, cond-false}
+use Rattle.std.proofs.lemmas.Bool.{cases_lt, eq-eqb, ne_eqb, or_left, or_right, or_from, cond-true, cond-false}
 use Rattle.std.proofs.lemmas.Nat.{div_below, mod_below, div-add-mod', mul-le}
 use Rattle.bit_plane.specs.declared.ink.InkBox.{InkBox}
 use Rattle.bit_plane.specs.Bits.{bit}
@@ -18,8 +18,8 @@ pub any_true : (test : ℕ → Bool) (n k : ℕ) → k < n → test k ≡ true �
 any_true test zero k p e = absurd (omega arith)
 any_true test (suc n) k p e =
     elim (cases_lt k n) [
-      inl below ↦ or_left (any_below test n) (test n) (any_true test n k below e)
-    | inr here ↦ let same : n ≡ k = omega arith in or_right (any_below test n) (test n) (ap test same ∙ e)
+      | inl below ↦ or_left (any_below test n) (test n) (any_true test n k below e)
+      | inr here ↦ let same : n ≡ k = omega arith in or_right (any_below test n) (test n) (ap test same ∙ e)
     ]
 
 pub any_false : (test : ℕ → Bool) (n : ℕ) → ((k : ℕ) → k < n → test k ≡ false) → any_below test n ≡ false
@@ -30,20 +30,20 @@ pub least_is : (test : ℕ → Bool) (n k : ℕ) → k < n → test k ≡ true �
 least_is test zero k p e none = absurd (omega arith)
 least_is test (suc n) k p e none =
     elim (cases_lt k n) [
-      inl below ↦ cond-true (any_below test n) (least_below test n) n (any_true test n k below e) ∙ least_is test n k below e none
-    | inr here ↦
-        let same : n ≡ k = omega arith in
-        cond-false (any_below test n) (least_below test n) n (any_false test n (λ j q. none j (omega arith))) ∙ same
+      | inl below ↦ cond-true (any_below test n) (least_below test n) n (any_true test n k below e) ∙ least_is test n k below e none
+      | inr here ↦
+          let same : n ≡ k = omega arith in
+          cond-false (any_below test n) (least_below test n) n (any_false test n (λ j q. none j (omega arith))) ∙ same
     ]
 
 pub greatest_is : (test : ℕ → Bool) (n k : ℕ) → k < n → test k ≡ true → ((j : ℕ) → k < j → j < n → test j ≡ false) → greatest_below test n ≡ k
 greatest_is test zero k p e none = absurd (omega arith)
 greatest_is test (suc n) k p e none =
     elim (cases_lt k n) [
-      inl below ↦ cond-false (test n) n (greatest_below test n) (none n below (omega arith)) ∙ greatest_is test n k below e (λ j q r. none j q (omega arith))
-    | inr here ↦
-        let same : n ≡ k = omega arith in
-        cond-true (test n) n (greatest_below test n) (ap test same ∙ e) ∙ same
+      | inl below ↦ cond-false (test n) n (greatest_below test n) (none n below (omega arith)) ∙ greatest_is test n k below e (λ j q r. none j q (omega arith))
+      | inr here ↦
+          let same : n ≡ k = omega arith in
+          cond-true (test n) n (greatest_below test n) (ap test same ∙ e) ∙ same
     ]
 
 abbrev box : ℤ → ℤ → ℤ → ℤ → InkBox
@@ -107,9 +107,11 @@ module _ (w h : ℕ) (words : List ℕ) where
       (0 < behind) × (greatest_below (has_ink_column plane) w ≡ behind - 1)
   right_is behind x y is p q set =
       let some : 0 < behind = elim (cases_lt 0 behind) [ inl some ↦ some | inr none ↦ absurd (omega (arith, is.white x y (omega arith) p q)) ] in
-      let there = is.black (behind - 1) (omega arith) in
-      (some, greatest_is (has_ink_column plane) w (behind - 1) (omega (arith, is.within)) (column_true (behind - 1) there.0 (omega (arith, is.within)) there.1 there.2)
-        (λ j r s. column_false j s (λ y q. is.white j y (omega arith) s q)))
+      let there = is.black (behind - 1) (omega arith) in (
+        some,
+        greatest_is (has_ink_column plane) w (behind - 1) (omega (arith, is.within)) (column_true (behind - 1) there.0 (omega (arith, is.within)) there.1 there.2)
+            (λ j r s. column_false j s (λ y q. is.white j y (omega arith) s q)),
+      )
 
   pub bottom_is : (first : ℕ) → IsPacked w h words → IsFirst words first → least_below (has_ink_row plane) h ≡ first / w
   bottom_is first packed is =

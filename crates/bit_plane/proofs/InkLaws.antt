@@ -1,5 +1,5 @@
 -- The ink box is the least and greatest column and row with a black pixel.
-use Rattle.std.proofs.Common.{◌≡◌, ℕ, zero, suc, ◌<◌, ◌≤◌, inl, inr, Bool, true, false, ◌&&◌, ◌||◌, ltb, cond, get_or, ◌+◌, ◌*◌, ℤ, pos, negsuc, ◌≤ℤ◌, arith, refl, ap, sym, subst, ◌∙◌}
+use Rattle.std.proofs.Common.{◌≡◌, ℕ, zero, suc, ◌<◌, ◌≤◌, inl, inr, Bool, true, false, ◌&&◌, ltb, get_or, ◌+◌, ◌*◌, ℤ, pos, negsuc, ◌≤ℤ◌, arith, ap, sym, subst, ◌∙◌}
 use Rattle.std.proofs.lemmas.Int.{ints}
 use Rattle.std.proofs.lemmas.Bool.{cases_Bool, cases_lt, and_parts, ltb-true, or_cases, cond-true, cond-false, both_ways, false≢true}
 use Rattle.bit_plane.specs.declared.ink.InkBox.{InkBox}
@@ -11,68 +11,68 @@ any_some : (test : ℕ → Bool) (n : ℕ) → any_below test n ≡ true → (k 
 any_some test zero e = absurd (false≢true e)
 any_some test (suc n) e =
     elim (or_cases (any_below test n) (test n) e) [
-      inl earlier ↦ let found = any_some test n earlier in (found.0, omega (arith, found.1), found.2)
-    | inr last ↦ (n, omega arith, last)
+      | inl earlier ↦ let found = any_some test n earlier in (found.0, omega (arith, found.1), found.2)
+      | inr last ↦ (n, omega arith, last)
     ]
 
 least_passes : (test : ℕ → Bool) (n : ℕ) → any_below test n ≡ true → (test (least_below test n) ≡ true) × (least_below test n < n)
 least_passes test zero e = absurd (false≢true e)
 least_passes test (suc n) e =
     elim (cases_Bool (any_below test n)) [
-      inl earlier ↦
-        let least = cond-true (any_below test n) (least_below test n) n earlier in
-        let found = least_passes test n earlier in
-        (ap test least ∙ found.0, omega (arith, least, found.1))
-    | inr none ↦
-        let least = cond-false (any_below test n) (least_below test n) n none in
-        elim (or_cases (any_below test n) (test n) e) [
-          inl earlier ↦ absurd (both_ways (any_below test n) none earlier)
-        | inr last ↦ (ap test least ∙ last, omega (arith, least))
-        ]
+      | inl earlier ↦
+          let least = cond-true (any_below test n) (least_below test n) n earlier in
+          let found = least_passes test n earlier in
+          (ap test least ∙ found.0, omega (arith, least, found.1))
+      | inr none ↦
+          let least = cond-false (any_below test n) (least_below test n) n none in
+          elim (or_cases (any_below test n) (test n) e) [
+            | inl earlier ↦ absurd (both_ways (any_below test n) none earlier)
+            | inr last ↦ (ap test least ∙ last, omega (arith, least))
+          ]
     ]
 
 least_le : (test : ℕ → Bool) (n k : ℕ) → k < n → test k ≡ true → least_below test n ≤ k
 least_le test zero k p e = absurd (omega arith)
 least_le test (suc n) k p e =
     elim (cases_Bool (any_below test n)) [
-      inl earlier ↦
-        let least = cond-true (any_below test n) (least_below test n) n earlier in
-        let found = least_passes test n earlier in
-        elim (cases_lt k n) [
-          inl below ↦ omega (arith, least, least_le test n k below e)
-        | inr here ↦ omega (arith, least, found.1)
-        ]
-    | inr none ↦
-        let least = cond-false (any_below test n) (least_below test n) n none in
-        elim (cases_lt k n) [
-          inl below ↦ absurd (both_ways (any_below test n) none (any_true test n k below e))
-        | inr here ↦ omega (arith, least)
-        ]
+      | inl earlier ↦
+          let least = cond-true (any_below test n) (least_below test n) n earlier in
+          let found = least_passes test n earlier in
+          elim (cases_lt k n) [
+            | inl below ↦ omega (arith, least, least_le test n k below e)
+            | inr here ↦ omega (arith, least, found.1)
+          ]
+      | inr none ↦
+          let least = cond-false (any_below test n) (least_below test n) n none in
+          elim (cases_lt k n) [
+            | inl below ↦ absurd (both_ways (any_below test n) none (any_true test n k below e))
+            | inr here ↦ omega (arith, least)
+          ]
     ]
 
 greatest_passes : (test : ℕ → Bool) (n : ℕ) → any_below test n ≡ true → test (greatest_below test n) ≡ true
 greatest_passes test zero e = absurd (false≢true e)
 greatest_passes test (suc n) e =
     elim (cases_Bool (test n)) [
-      inl last ↦ ap test (cond-true (test n) n (greatest_below test n) last) ∙ last
-    | inr other ↦
-        elim (or_cases (any_below test n) (test n) e) [
-          inl earlier ↦ ap test (cond-false (test n) n (greatest_below test n) other) ∙ greatest_passes test n earlier
-        | inr last ↦ absurd (both_ways (test n) other last)
-        ]
+      | inl last ↦ ap test (cond-true (test n) n (greatest_below test n) last) ∙ last
+      | inr other ↦
+          elim (or_cases (any_below test n) (test n) e) [
+            | inl earlier ↦ ap test (cond-false (test n) n (greatest_below test n) other) ∙ greatest_passes test n earlier
+            | inr last ↦ absurd (both_ways (test n) other last)
+          ]
     ]
 
 le_greatest : (test : ℕ → Bool) (n k : ℕ) → k < n → test k ≡ true → k ≤ greatest_below test n
 le_greatest test zero k p e = absurd (omega arith)
 le_greatest test (suc n) k p e =
     elim (cases_Bool (test n)) [
-      inl last ↦ omega (arith, cond-true (test n) n (greatest_below test n) last)
-    | inr other ↦
-        let greatest = cond-false (test n) n (greatest_below test n) other in
-        elim (cases_lt k n) [
-          inl below ↦ omega (arith, greatest, le_greatest test n k below e)
-        | inr here ↦ let same : k ≡ n = omega arith in absurd (both_ways (test n) other (ap test (sym same) ∙ e))
-        ]
+      | inl last ↦ omega (arith, cond-true (test n) n (greatest_below test n) last)
+      | inr other ↦
+          let greatest = cond-false (test n) n (greatest_below test n) other in
+          elim (cases_lt k n) [
+            | inl below ↦ omega (arith, greatest, le_greatest test n k below e)
+            | inr here ↦ let same : k ≡ n = omega arith in absurd (both_ways (test n) other (ap test (sym same) ∙ e))
+          ]
     ]
 
 -- what a box says of a black pixel
@@ -113,7 +113,8 @@ holds plane x y black =
         omega (arith, ints, least_le (has_ink_column plane) plane.width x in_width column),
         omega (arith, ints, le_greatest (has_ink_column plane) plane.width x in_width column),
         omega (arith, ints, least_le (has_ink_row plane) plane.height y in_height row),
-        omega (arith, ints, le_greatest (has_ink_row plane) plane.height y in_height row));
+        omega (arith, ints, le_greatest (has_ink_row plane) plane.height y in_height row),
+      );
       left = ink_column plane (least_below (has_ink_column plane) plane.width) (least_passes (has_ink_column plane) plane.width columns).0;
       right = ink_column plane (greatest_below (has_ink_column plane) plane.width) (greatest_passes (has_ink_column plane) plane.width columns);
       bottom = ink_row plane (least_below (has_ink_row plane) plane.height) (least_passes (has_ink_row plane) plane.height rows).0;

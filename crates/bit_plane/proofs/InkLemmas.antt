@@ -1,13 +1,13 @@
 -- Steps of the walks over columns and words.
-use Rattle.std.proofs.Common.{◌≡◌, ℕ, suc, ◌+◌, ◌-◌, ◌*◌, ◌/◌, ◌%◌, ◌^◌, ◌<◌, ◌≤◌, inl, inr, max, bit_or, List, length, get_or, w64, arith, refl, ap, sym, ◌∙◌}
+use Rattle.std.proofs.Common.{◌≡◌, ℕ, suc, ◌+◌, ◌-◌, ◌*◌, ◌/◌, ◌%◌, ◌^◌, ◌<◌, ◌≤◌, inl, inr, bit_or, List, get_or, w64, arith, refl, ap, sym, ◌∙◌}
 use lib.Count.{count_leading_zeros}
 use Rattle.std.specs.Int.{trailing_zeros}
-use Rattle.std.proofs.lemmas.Bool.{cases_lt, cases_eq, cases_order}
+use Rattle.std.proofs.lemmas.Bool.{cases_lt, cases_eq}
 use Rattle.std.proofs.lemmas.Nat.{pow_pos, or_lt, leading_top, le-div, div_below}
 use Rattle.std.proofs.lemmas.Nat.Bits.{bit_at-trailing_zeros}
 use Rattle.bit_plane.specs.Bits.{bit, digit}
 use Rattle.bit_plane.specs.Columns.{IsInk, IsLeft, IsBehind, IsFirst, IsLast}
-use Rattle.bit_plane.proofs.BitLemmas.{digit-lt, digit-or, digit_above, bit_of, bit-lt}
+use Rattle.bit_plane.proofs.BitLemmas.{digit-lt, digit-or, digit_above, bit_of}
 
 -- ---- the ends of a word
 
@@ -42,12 +42,14 @@ one_digit n at low high =
 
 highest : (n : ℕ) → (n ≡ 0 → ⊥) → n < 2 ^ 64 → (at : ℕ) × Highest n at
 highest n some fits =
-    let top = leading_top 64 n (omega arith) fits in
-    (top.0, record {
-      counted = top.1;
-      set = one_digit n top.0 top.2 top.3;
-      above = λ i p. digit_above n (suc top.0) i top.3 (omega arith);
-    })
+    let top = leading_top 64 n (omega arith) fits in (
+      top.0,
+      record {
+        counted = top.1;
+        set = one_digit n top.0 top.2 top.3;
+        above = λ i p. digit_above n (suc top.0) i top.3 (omega arith);
+      },
+    )
 
 -- ---- the ends of a list of words
 
@@ -67,10 +69,10 @@ first_found words index none some fits =
     record {
       set = bit_of words (64 * index + trailing_zeros w64 word) index (trailing_zeros w64 word) (omega arith) low.small ∙ low.set;
       others = λ i before.
-        elim (cases_lt (i / 64) index) [
-          inl earlier ↦ clear_word words i (i / 64) refl (none (i / 64) earlier)
-        | inr same ↦ bit_of words i index (i % 64) (omega (arith, low.small)) (omega arith) ∙ low.below (i % 64) (omega (arith, low.small))
-        ];
+          elim (cases_lt (i / 64) index) [
+            | inl earlier ↦ clear_word words i (i / 64) refl (none (i / 64) earlier)
+            | inr same ↦ bit_of words i index (i % 64) (omega (arith, low.small)) (omega arith) ∙ low.below (i % 64) (omega (arith, low.small))
+          ];
     }
 
 pub last_found : (words : List ℕ) (index : ℕ) → ((k : ℕ) → index < k → get_or words k 0 ≡ 0) → (get_or words index 0 ≡ 0 → ⊥) → get_or words index 0 < 2 ^ 64 →
@@ -83,10 +85,10 @@ last_found words index none some fits =
     record {
       set = bit_of words (64 * index + (63 - count_leading_zeros 64 word)) index high.0 (omega arith) small ∙ high.1.set;
       others = λ i behind.
-        elim (cases_lt index (i / 64)) [
-          inl later ↦ clear_word words i (i / 64) refl (none (i / 64) later)
-        | inr same ↦ bit_of words i index (i % 64) (omega arith) (omega arith) ∙ high.1.above (i % 64) (omega arith)
-        ];
+          elim (cases_lt index (i / 64)) [
+            | inl later ↦ clear_word words i (i / 64) refl (none (i / 64) later)
+            | inr same ↦ bit_of words i index (i % 64) (omega arith) (omega arith) ∙ high.1.above (i % 64) (omega arith)
+          ];
     }
 
 -- ---- columns, row by row
@@ -103,17 +105,17 @@ pub ink_more : (words : List ℕ) (width x count y ink read : ℕ) → IsInk wor
 ink_more words width x count y ink read so fits is = record {
   below = or_lt count ink read so.below fits;
   black = λ i p e.
-    elim (cases_eq (digit ink i) 1) [
-      inl was ↦ let there = so.black i p was in (there.0, omega (arith, there.1), there.2)
-    | inr wasnt ↦ (y, omega arith, omega (arith, digit-or ink read i, digit-lt ink i, is i p))
-    ];
+      elim (cases_eq (digit ink i) 1) [
+        | inl was ↦ let there = so.black i p was in (there.0, omega (arith, there.1), there.2)
+        | inr wasnt ↦ (y, omega arith, omega (arith, digit-or ink read i, digit-lt ink i, is i p))
+      ];
   white = λ i p e b q.
-    elim (cases_lt b y) [
-      inl before ↦ so.white i p (omega (arith, digit-or ink read i)) b before
-    | inr here ↦
-        let row : b ≡ y = omega arith in
-        ap (λ n. bit words (n * width + x + i)) row ∙ sym (is i p) ∙ omega (arith, digit-or ink read i)
-    ];
+      elim (cases_lt b y) [
+        | inl before ↦ so.white i p (omega (arith, digit-or ink read i)) b before
+        | inr here ↦
+            let row : b ≡ y = omega arith in
+            ap (λ n. bit words (n * width + x + i)) row ∙ sym (is i p) ∙ omega (arith, digit-or ink read i)
+      ];
 }
 
 -- ---- column after column
@@ -144,18 +146,18 @@ column_black words width height x count ink i is p e =
 in_word : (ink count i : ℕ) → ink < 2 ^ count → digit ink i ≡ 1 → i < count
 in_word ink count i below set =
     elim (cases_lt i count) [
-      inl within ↦ within
-    | inr past ↦ absurd (omega (arith, digit_above ink count i below past))
+      | inl within ↦ within
+      | inr past ↦ absurd (omega (arith, digit_above ink count i below past))
     ]
 
 pub left_step : (words : List ℕ) (width height x count ink : ℕ) → WhiteBefore words width height x → IsInk words width x count height ink → ink ≡ 0 →
     WhiteBefore words width height (x + count)
 left_step words width height x count ink so is none = record {
   white = λ a y p q.
-    elim (cases_lt a x) [
-      inl before ↦ so.white a y before q
-    | inr here ↦ column_white words width height x count ink a y is here p (ap (λ n. digit n (a - x)) none ∙ digit-zero (a - x)) q
-    ];
+      elim (cases_lt a x) [
+        | inl before ↦ so.white a y before q
+        | inr here ↦ column_white words width height x count ink a y is here p (ap (λ n. digit n (a - x)) none ∙ digit-zero (a - x)) q
+      ];
 }
 
 pub left_found : (words : List ℕ) (width height x count ink : ℕ) → WhiteBefore words width height x → IsInk words width x count height ink → (ink ≡ 0 → ⊥) → ink < 2 ^ 64 →
@@ -166,10 +168,10 @@ left_found words width height x count ink so is some fits room =
     record {
       within = omega arith;
       white = λ a y p q.
-        elim (cases_lt a x) [
-          inl before ↦ so.white a y before q
-        | inr here ↦ column_white words width height x count ink a y is here (omega arith) (low.below (a - x) (omega arith)) q
-        ];
+          elim (cases_lt a x) [
+            | inl before ↦ so.white a y before q
+            | inr here ↦ column_white words width height x count ink a y is here (omega arith) (low.below (a - x) (omega arith)) q
+          ];
       black = λ _. column_black words width height x count ink (trailing_zeros w64 ink) is within low.set;
     }
 
@@ -184,10 +186,10 @@ pub behind_step : (words : List ℕ) (width height x count end ink : ℕ) → en
     WhiteFrom words width height x
 behind_step words width height x count end ink is_end so is none = record {
   white = λ a y p q r.
-    elim (cases_lt a end) [
-      inl here ↦ column_white words width height x count ink a y is p (omega arith) (ap (λ n. digit n (a - x)) none ∙ digit-zero (a - x)) r
-    | inr behind ↦ so.white a y behind q r
-    ];
+      elim (cases_lt a end) [
+        | inl here ↦ column_white words width height x count ink a y is p (omega arith) (ap (λ n. digit n (a - x)) none ∙ digit-zero (a - x)) r
+        | inr behind ↦ so.white a y behind q r
+      ];
 }
 
 pub behind_found : (words : List ℕ) (width height x count end ink : ℕ) → end ≡ x + count → end ≤ width → WhiteFrom words width height end → IsInk words width x count height ink →
@@ -200,14 +202,14 @@ behind_found words width height x count end ink is_end room so is some fits =
     record {
       within = omega arith;
       white = λ a y p q r.
-        elim (cases_lt a end) [
-          inl here ↦ column_white words width height x count ink a y is (omega arith) (omega arith) (high.1.above (a - x) (omega arith)) r
-        | inr behind ↦ so.white a y behind q r
-        ];
+          elim (cases_lt a end) [
+            | inl here ↦ column_white words width height x count ink a y is (omega arith) (omega arith) (high.1.above (a - x) (omega arith)) r
+            | inr behind ↦ so.white a y behind q r
+          ];
       black = λ a e.
-        let column : a ≡ x + top = omega arith in
-        let there = column_black words width height x count ink top is within high.1.set in
-        (there.0, there.1, ap (λ n. bit words (there.0 * width + n)) column ∙ there.2);
+          let column : a ≡ x + top = omega arith in
+          let there = column_black words width height x count ink top is within high.1.set in
+          (there.0, there.1, ap (λ n. bit words (there.0 * width + n)) column ∙ there.2);
     }
 
 pub behind_none : (words : List ℕ) (width height end : ℕ) → WhiteFrom words width height end → end ≡ 0 → IsBehind words width height 0

@@ -1,16 +1,15 @@
 -- What painting, setting and reading do to the pixels.
 use Rattle.std.proofs.Common.{◌≡◌, ℕ, zero, suc, ◌+◌, ◌-◌, ◌*◌, ◌/◌, ◌%◌, ◌<◌, ◌≤◌, ◌⊎◌, inl, inr, max, min, Bool, true, false, ◌&&◌, ◌||◌, eqb, ltb, IsTrue, ◌↔◌, List, length, get_or, replicate, ℤ, pos, negsuc, ◌-ℤ◌, arith, refl, ap, sym, ◌∙◌}
 use Rattle.std.proofs.Math.Nat.{mul_comm}
-use Rattle.std.proofs.lemmas.Bool.{cases_lt, cases_eq, cases_order, lt-ltb, le-ltb, eq-eqb, ne_eqb, or_left, true_from_ne_false, cases_Bool}
-use Rattle.std.proofs.lemmas.Bool.Decides.{nat_tests}
-use Rattle.std.proofs.lemmas.Nat.{mul-le, mul-add-lt, same_from_place, le-div, mod_below, div-add-mod'}
+use Rattle.std.proofs.lemmas.Bool.{cases_lt, cases_eq, cases_order, le-ltb, eq-eqb, ne_eqb, or_left}
+use Rattle.std.proofs.lemmas.Nat.{mul-le, same_from_place, le-div, mod_below, div-add-mod'}
 use Rattle.std.proofs.lemmas.List.{get_or-replicate, get_or_past, length-replicate}
 use Rattle.bit_plane.specs.declared.painting.Span.{Span}
 use Rattle.bit_plane.specs.Bits.{bit, digit}
-use Rattle.bit_plane.specs.Pixels.{Pixels, is_black, is_black_at, pixels_where, blank, with_black, painted, area_limit}
+use Rattle.bit_plane.specs.Pixels.{Pixels, is_black, is_black_at, blank, with_black, painted, area_limit}
 use Rattle.bit_plane.specs.Packed.{pixels_of, IsPacked}
 use Rattle.bit_plane.specs.Spans.{IsSpan, Misses, Falls}
-use Rattle.bit_plane.proofs.BitLemmas.{bit-lt, digit-lt}
+use Rattle.bit_plane.proofs.BitLemmas.{bit-lt}
 use Rattle.bit_plane.proofs.PixelLemmas.{same_where, black_where}
 
 -- ---- reading
@@ -22,8 +21,8 @@ false_and t u e = ap (λ s. s && u) e
 pub white_column : (plane : Pixels) (x y : ℤ) → ((a : ℕ) → a < plane.width → x ≡ pos a → ⊥) → is_black plane x y ≡ false
 white_column plane (pos x) (pos y) apart =
     elim (cases_lt x plane.width) [
-      inl within ↦ absurd (apart x within refl)
-    | inr past ↦ false_and (ltb x plane.width && ltb y plane.height) (get_or plane.black (y * plane.width + x) false) (false_and (ltb x plane.width) (ltb y plane.height) (le-ltb x plane.width past))
+      | inl within ↦ absurd (apart x within refl)
+      | inr past ↦ false_and (ltb x plane.width && ltb y plane.height) (get_or plane.black (y * plane.width + x) false) (false_and (ltb x plane.width) (ltb y plane.height) (le-ltb x plane.width past))
     ]
 white_column plane (pos x) (negsuc y) apart = refl
 white_column plane (negsuc x) (pos y) apart = refl
@@ -37,8 +36,8 @@ and_false false u e = refl
 pub white_row : (plane : Pixels) (x y : ℤ) → ((b : ℕ) → b < plane.height → y ≡ pos b → ⊥) → is_black plane x y ≡ false
 white_row plane (pos x) (pos y) apart =
     elim (cases_lt y plane.height) [
-      inl within ↦ absurd (apart y within refl)
-    | inr past ↦ false_and (ltb x plane.width && ltb y plane.height) (get_or plane.black (y * plane.width + x) false) (and_false (ltb x plane.width) (ltb y plane.height) (le-ltb y plane.height past))
+      | inl within ↦ absurd (apart y within refl)
+      | inr past ↦ false_and (ltb x plane.width && ltb y plane.height) (get_or plane.black (y * plane.width + x) false) (and_false (ltb x plane.width) (ltb y plane.height) (le-ltb y plane.height past))
     ]
 white_row plane (pos x) (negsuc y) apart = refl
 white_row plane (negsuc x) (pos y) apart = refl
@@ -68,10 +67,10 @@ pub bit-replicate : (n i : ℕ) → bit (replicate n 0) i ≡ 0
 unfolding bit digit
 bit-replicate n i =
     let none : get_or (replicate n 0) (i / 64) 0 ≡ 0 =
-      elim (cases_lt (i / 64) n) [
-        inl below ↦ get_or-replicate n (i / 64) 0 0 below
+    elim (cases_lt (i / 64) n) [
+      | inl below ↦ get_or-replicate n (i / 64) 0 0 below
       | inr past ↦ get_or_past (replicate n 0) (i / 64) 0 (omega (arith, length-replicate n (let z : ℕ = 0 in z)))
-      ] in
+    ] in
     ap (λ m. digit m (i % 64)) none ∙ omega arith
 
 pub blank_packed : (w h n : ℕ) (words : List ℕ) → words ≡ replicate n 0 → pixels_of w h words ≡ blank w h
@@ -117,19 +116,19 @@ none_or s t e = ap (λ u. u || t) e
 beside : (i j : ℕ) → (i ≡ j → ⊥) → (i < j) ⊎ (j + 1 ≤ i)
 beside i j apart =
     elim (cases_order i j) [
-      inl same ↦ absurd (apart same)
-    | inr other ↦ elim other [ inl below ↦ inl below | inr above ↦ inr (omega arith) ]
+      | inl same ↦ absurd (apart same)
+      | inr other ↦ elim other [ inl below ↦ inl below | inr above ↦ inr (omega arith) ]
     ]
 
 other_place : (a b x y w : ℕ) → (b * w + a ≡ y * w + x → ⊥) → (eqb a x && eqb b y) ≡ false
 other_place a b x y w apart =
     elim (cases_eq a x) [
-      inl column ↦
-        elim (cases_eq b y) [
-          inl row ↦ absurd (apart (ap (λ n. n * w + a) row ∙ ap (λ n. y * w + n) column))
-        | inr above ↦ and_false (eqb a x) (eqb b y) (ne_eqb b y above)
-        ]
-    | inr aside ↦ false_and (eqb a x) (eqb b y) (ne_eqb a x aside)
+      | inl column ↦
+          elim (cases_eq b y) [
+            | inl row ↦ absurd (apart (ap (λ n. n * w + a) row ∙ ap (λ n. y * w + n) column))
+            | inr above ↦ and_false (eqb a x) (eqb b y) (ne_eqb b y above)
+          ]
+      | inr aside ↦ false_and (eqb a x) (eqb b y) (ne_eqb a x aside)
     ]
 
 pub set_is : (w h x y : ℕ) (old new : List ℕ) → x < w → y < h →
@@ -140,15 +139,15 @@ unfolding digit
 set_is w h x y old new p q inside outside = same_where w h _ _ (λ a b left below.
     let was = black_packed w h old a b left below in
     elim (cases_eq (b * w + a) (y * w + x)) [
-      inl here ↦
-        let same = same_from_place b a y x w left p here in
-        let at : y * w + x + 0 ≡ b * w + a = omega arith in
-        let set : bit new (b * w + a) ≡ 1 = ap (bit new) (sym at) ∙ inside 0 (omega arith) ∙ omega (arith, bit-lt old (y * w + x + 0)) in
-        ap (λ n. eqb n 1) set
-        ∙ sym (or_left (eqb a x && eqb b y) (is_black_at (pixels_of w h old) a b) (both (eqb a x) (eqb b y) (eq-eqb a x same.1) (eq-eqb b y same.0)))
-    | inr other ↦
-        let kept = outside (b * w + a) (beside (b * w + a) (y * w + x) other) in
-        ap (λ n. eqb n 1) kept ∙ sym was ∙ sym (none_or (eqb a x && eqb b y) _ (other_place a b x y w other))
+      | inl here ↦
+          let same = same_from_place b a y x w left p here in
+          let at : y * w + x + 0 ≡ b * w + a = omega arith in
+          let set : bit new (b * w + a) ≡ 1 = ap (bit new) (sym at) ∙ inside 0 (omega arith) ∙ omega (arith, bit-lt old (y * w + x + 0)) in
+          ap (λ n. eqb n 1) set
+          ∙ sym (or_left (eqb a x && eqb b y) (is_black_at (pixels_of w h old) a b) (both (eqb a x) (eqb b y) (eq-eqb a x same.1) (eq-eqb b y same.0)))
+      | inr other ↦
+          let kept = outside (b * w + a) (beside (b * w + a) (y * w + x) other) in
+          ap (λ n. eqb n 1) kept ∙ sym was ∙ sym (none_or (eqb a x && eqb b y) _ (other_place a b x y w other))
     ])
 
 -- ---- painting
@@ -175,7 +174,7 @@ module _ (w h sw sh : ℕ) (old new other : List ℕ) (left bottom : ℤ) where
       ∙ either_bit (bit old (y * w + x)) (bit other (b * sw + a)) (bit-lt old (y * w + x)) (bit-lt other (b * sw + a))
       ∙ ap (λ t. t || eqb (bit other (b * sw + a)) 1) (sym (black_packed w h old x y p q))
       ∙ ap (λ t. is_black_at (pixels_of w h old) x y || t)
-        (sym (black_natural (pixels_of sw sh other) (pos x -ℤ left) (pos y -ℤ bottom) a b column row ∙ black_packed sw sh other a b r s))
+      (sym (black_natural (pixels_of sw sh other) (pos x -ℤ left) (pos y -ℤ bottom) a b column row ∙ black_packed sw sh other a b r s))
 
   pub painted_apart_columns : Misses left sw w → ((i : ℕ) → bit new i ≡ bit old i) → pixels_of w h new ≡ painted (pixels_of w h old) (pixels_of sw sh other) left bottom
   painted_apart_columns misses same = same_where w h _ _ (λ x y p q.
@@ -187,23 +186,22 @@ module _ (w h sw sh : ℕ) (old new other : List ℕ) (left bottom : ℤ) where
 
   module _ (columns rows : Span) (of_columns : IsSpan left sw w columns) (of_rows : IsSpan bottom sh h rows)
       (inside : (y x : ℕ) → y < rows.count → x < columns.count →
-        bit new ((rows.to + y) * w + (columns.to + x)) ≡ max (bit old ((rows.to + y) * w + (columns.to + x))) (bit other ((rows.from + y) * sw + (columns.from + x))))
+      bit new ((rows.to + y) * w + (columns.to + x)) ≡ max (bit old ((rows.to + y) * w + (columns.to + x))) (bit other ((rows.from + y) * sw + (columns.from + x))))
       (outside : (y x : ℕ) → x < w → ((y < rows.to) ⊎ (rows.to + rows.count ≤ y)) ⊎ ((x < columns.to) ⊎ (columns.to + columns.count ≤ x)) →
-        bit new (y * w + x) ≡ bit old (y * w + x)) where
-
+      bit new (y * w + x) ≡ bit old (y * w + x)) where
     beside_columns : (x y : ℕ) → x < w → y < h → (x < columns.to) ⊎ (columns.to + columns.count ≤ x) → Agrees x y
     beside_columns x y p q apart =
         agrees_apart x y p q (outside y x p (inr apart))
         (white_column (pixels_of sw sh other) (pos x -ℤ left) (pos y -ℤ bottom) (λ a within falls.
-          let there = of_columns.miss x a p within falls in
-          elim apart [ inl before ↦ absurd (omega arith) | inr behind ↦ absurd (omega arith) ]))
+        let there = of_columns.miss x a p within falls in
+        elim apart [ inl before ↦ absurd (omega arith) | inr behind ↦ absurd (omega arith) ]))
 
     beside_rows : (x y : ℕ) → x < w → y < h → (y < rows.to) ⊎ (rows.to + rows.count ≤ y) → Agrees x y
     beside_rows x y p q apart =
         agrees_apart x y p q (outside y x p (inl apart))
         (white_row (pixels_of sw sh other) (pos x -ℤ left) (pos y -ℤ bottom) (λ b within falls.
-          let there = of_rows.miss y b q within falls in
-          elim apart [ inl before ↦ absurd (omega arith) | inr behind ↦ absurd (omega arith) ]))
+        let there = of_rows.miss y b q within falls in
+        elim apart [ inl before ↦ absurd (omega arith) | inr behind ↦ absurd (omega arith) ]))
 
     within_both : (x y i j : ℕ) → x < w → y < h → i < columns.count → j < rows.count → columns.to + i ≡ x → rows.to + j ≡ y → Agrees x y
     within_both x y i j p q r s column row =
@@ -216,20 +214,20 @@ module _ (w h sw sh : ℕ) (old new other : List ℕ) (left bottom : ℤ) where
     agrees : (x y : ℕ) → x < w → y < h → Agrees x y
     agrees x y p q =
         elim (cases_lt x columns.to) [
-          inl before ↦ beside_columns x y p q (inl before)
-        | inr from_left ↦
-            elim (cases_lt x (columns.to + columns.count)) [
-              inr behind ↦ beside_columns x y p q (inr behind)
-            | inl to_right ↦
-                elim (cases_lt y rows.to) [
-                  inl below ↦ beside_rows x y p q (inl below)
-                | inr from_below ↦
-                    elim (cases_lt y (rows.to + rows.count)) [
-                      inr above ↦ beside_rows x y p q (inr above)
-                    | inl to_above ↦ within_both x y (x - columns.to) (y - rows.to) p q (omega arith) (omega arith) (omega arith) (omega arith)
+          | inl before ↦ beside_columns x y p q (inl before)
+          | inr from_left ↦
+              elim (cases_lt x (columns.to + columns.count)) [
+                | inr behind ↦ beside_columns x y p q (inr behind)
+                | inl to_right ↦
+                    elim (cases_lt y rows.to) [
+                      | inl below ↦ beside_rows x y p q (inl below)
+                      | inr from_below ↦
+                          elim (cases_lt y (rows.to + rows.count)) [
+                            | inr above ↦ beside_rows x y p q (inr above)
+                            | inl to_above ↦ within_both x y (x - columns.to) (y - rows.to) p q (omega arith) (omega arith) (omega arith) (omega arith)
+                          ]
                     ]
-                ]
-            ]
+              ]
         ]
 
     pub painted_is : pixels_of w h new ≡ painted (pixels_of w h old) (pixels_of sw sh other) left bottom
@@ -241,8 +239,8 @@ module _ (w h sw sh : ℕ) (old new other : List ℕ) (left bottom : ℤ) where
       area = packed.area;
       size = same ∙ packed.size;
       rest = λ i past.
-        let some : 0 < w = omega (arith, of_columns.some, of_columns.target) in
-        let split : i / w * w + i % w ≡ i = div-add-mod' i w in
-        let row : h ≤ i / w = le-div h i w some (omega (arith, mul_comm w h)) in
-        ap (bit new) (sym split) ∙ outside (i / w) (i % w) (mod_below i w some) (inl (inr (omega (arith, of_rows.target)))) ∙ ap (bit old) split ∙ packed.rest i past;
+          let some : 0 < w = omega (arith, of_columns.some, of_columns.target) in
+          let split : i / w * w + i % w ≡ i = div-add-mod' i w in
+          let row : h ≤ i / w = le-div h i w some (omega (arith, mul_comm w h)) in
+          ap (bit new) (sym split) ∙ outside (i / w) (i % w) (mod_below i w some) (inl (inr (omega (arith, of_rows.target)))) ∙ ap (bit old) split ∙ packed.rest i past;
     }

@@ -13,11 +13,11 @@ use Rattle.bit_plane.proofs.PaintLemmas.{and_false, or_false}
 black_where_at : (w h : ℕ) (f : ℕ → ℕ → Bool) (x y : ℕ) → is_black_at (pixels_where w h f) x y ≡ ((ltb x w && ltb y h) && f x y)
 black_where_at w h f x y =
     elim (cases_Bool (ltb x w && ltb y h)) [
-      inl inside ↦
-        let parts = and_parts (ltb x w) (ltb y h) inside in
-        black_where w h f x y (ltb-true x w parts.0) (ltb-true y h parts.1) ∙ sym (ap (λ t. t && f x y) inside)
-    | inr outside ↦
-        ap (λ t. t && get_or (pixels_where w h f).black (y * w + x) false) outside ∙ sym (ap (λ t. t && f x y) outside)
+      | inl inside ↦
+          let parts = and_parts (ltb x w) (ltb y h) inside in
+          black_where w h f x y (ltb-true x w parts.0) (ltb-true y h parts.1) ∙ sym (ap (λ t. t && f x y) inside)
+      | inr outside ↦
+          ap (λ t. t && get_or (pixels_where w h f).black (y * w + x) false) outside ∙ sym (ap (λ t. t && f x y) outside)
     ]
 
 pub blank_is : (w h : ℕ) (x y : ℤ) → is_black (blank w h) x y ≡ false
@@ -30,19 +30,19 @@ set_where : (w h x y a b : ℕ) (t : Bool) → x < w → y < h →
     ((ltb a w && ltb b h) && ((eqb a x && eqb b y) || ((ltb a w && ltb b h) && t))) ≡ ((eqb a x && eqb b y) || ((ltb a w && ltb b h) && t))
 set_where w h x y a b t p q =
     elim (cases_Bool (ltb a w && ltb b h)) [
-      inl inside ↦ ap (λ i. i && ((eqb a x && eqb b y) || ((ltb a w && ltb b h) && t))) inside
-    | inr outside ↦
-        let other : (eqb a x && eqb b y) ≡ false =
+      | inl inside ↦ ap (λ i. i && ((eqb a x && eqb b y) || ((ltb a w && ltb b h) && t))) inside
+      | inr outside ↦
+          let other : (eqb a x && eqb b y) ≡ false =
           elim (cases_Bool (eqb a x && eqb b y)) [
-            inl same ↦
-              let parts = and_parts (eqb a x) (eqb b y) same in
-              let column = eqb-true a x parts.0 in
-              let row = eqb-true b y parts.1 in
-              absurd (both_ways (ltb a w && ltb b h) outside (and_from (ltb a w) (ltb b h) (lt-ltb a w (omega arith)) (lt-ltb b h (omega arith))))
-          | inr different ↦ different
+            | inl same ↦
+                let parts = and_parts (eqb a x) (eqb b y) same in
+                let column = eqb-true a x parts.0 in
+                let row = eqb-true b y parts.1 in
+                absurd (both_ways (ltb a w && ltb b h) outside (and_from (ltb a w) (ltb b h) (lt-ltb a w (omega arith)) (lt-ltb b h (omega arith))))
+            | inr different ↦ different
           ] in
-        ap (λ i. i && ((eqb a x && eqb b y) || ((ltb a w && ltb b h) && t))) outside
-        ∙ sym (ap (λ s. s || ((ltb a w && ltb b h) && t)) other ∙ ap (λ i. i && t) outside)
+          ap (λ i. i && ((eqb a x && eqb b y) || ((ltb a w && ltb b h) && t))) outside
+          ∙ sym (ap (λ s. s || ((ltb a w && ltb b h) && t)) other ∙ ap (λ i. i && t) outside)
     ]
 
 pub set_is_black : (plane : Pixels) (x y : ℕ) (a b : ℤ) → x < plane.width → y < plane.height →
@@ -96,7 +96,7 @@ pub same_plane : (plane other : Pixels) → IsPlane plane → IsPlane other → 
 same_plane plane other whole other_whole wide high same =
     let area : other.width * other.height ≡ plane.width * plane.height = ap (λ n. n * other.height) (sym wide) ∙ ap (λ n. plane.width * n) (sym high) in
     let black : plane.black ≡ other.black = same_list plane.width plane.height plane.black other.black whole (other_whole ∙ area) (λ x y p q.
-      sym (black_inside plane x y p q) ∙ same (pos x) (pos y) ∙ black_inside other x y (omega arith) (omega arith) ∙ ap (λ n. get_or other.black (y * n + x) false) (sym wide)) in
+    sym (black_inside plane x y p q) ∙ same (pos x) (pos y) ∙ black_inside other x y (omega arith) (omega arith) ∙ ap (λ n. get_or other.black (y * n + x) false) (sym wide)) in
     made plane.width plane.height plane.black other.width other.height other.black wide high black
 
 -- ---- painting
@@ -137,7 +137,7 @@ pub painted_nothing : (plane shape : Pixels) (left bottom x y : ℤ) → ((a b :
 painted_nothing plane shape left bottom x y white =
     painted_is_black plane shape left bottom x y
     ∙ or_false (is_black plane x y) (is_inside plane x y && is_black shape (x -ℤ left) (y -ℤ bottom))
-      (and_false (is_inside plane x y) (is_black shape (x -ℤ left) (y -ℤ bottom)) (white (x -ℤ left) (y -ℤ bottom)))
+    (and_false (is_inside plane x y) (is_black shape (x -ℤ left) (y -ℤ bottom)) (white (x -ℤ left) (y -ℤ bottom)))
 
 pub painted_stays : (plane shape : Pixels) (left bottom x y : ℤ) → is_black plane x y ≡ true → is_black (painted plane shape left bottom) x y ≡ true
 painted_stays plane shape left bottom x y black =

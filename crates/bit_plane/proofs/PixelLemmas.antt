@@ -1,16 +1,12 @@
 -- Planes made of a test, and of packed words.
-use Rattle.std.proofs.Common.{◌≡◌, ◌≢◌, ℕ, suc, zero, ◌+◌, ◌-◌, ◌*◌, ◌/◌, ◌%◌, ◌^◌, ◌<◌, ◌≤◌, inl, inr, max, Bool, true, false, ◌&&◌, ◌||◌, eqb, ltb, IsTrue, ◌↔◌, List, length, get_or, map, replicate, ℤ, pos, negsuc, ◌-ℤ◌, arith, refl, ap, sym, ◌∙◌}
+use Rattle.std.proofs.Common.{◌≡◌, ℕ, suc, zero, ◌+◌, ◌*◌, ◌/◌, ◌%◌, ◌<◌, Bool, false, ◌&&◌, ltb, List, get_or, map, arith, ap, sym, ◌∙◌}
 use Rattle.std.specs.List.{range_with_len}
 use Rattle.std.proofs.Math.Nat.{mul_comm}
-use Rattle.std.proofs.lemmas.Bool.{cases_lt, lt-ltb, le-ltb, and_left, and_right, eq-eqb, ne_eqb}
-use Rattle.std.proofs.lemmas.Bool.Decides.{nat_tests}
+use Rattle.std.proofs.lemmas.Bool.{lt-ltb}
 use Rattle.std.proofs.lemmas.Nat.{div_below, mod_below, mul-add-lt, div-mul-add, mod-mul-add}
-use Rattle.std.proofs.lemmas.List.{same_lists, get_or-replicate, get_or_past, length-replicate}
+use Rattle.std.proofs.lemmas.List.{same_lists}
 use Rattle.std.proofs.lemmas.List.FromFn.{length-map-range_with_len, get_or-map-range_with_len}
-use Rattle.bit_plane.specs.Bits.{bit, digit}
-use Rattle.bit_plane.specs.Pixels.{Pixels, is_black, is_black_at, pixels_where, blank, with_black, painted}
-use Rattle.bit_plane.specs.Packed.{pixels_of}
-use Rattle.bit_plane.proofs.BitLemmas.{bit-lt}
+use Rattle.bit_plane.specs.Pixels.{is_black_at, pixels_where}
 
 -- the list of a plane's pixels
 abbrev pixel_list : ℕ → ℕ → (ℕ → ℕ → Bool) → List Bool
@@ -27,11 +23,11 @@ same_pixel_list w h f g same =
     let second = length-map-range_with_len (λ i. g (i % w) (i / w)) 0 (w * h) in
     same_lists (pixel_list w h f) (pixel_list w h g) (first ∙ sym second)
     (λ i d p.
-      let within : i < w * h = omega arith in
-      let some = wide w h i within in
-      get_or-map-range_with_len (λ i. f (i % w) (i / w)) 0 (w * h) i i d within (omega arith)
-      ∙ same (i % w) (i / w) (mod_below i w some) (div_below i w h some (omega (arith, mul_comm w h)))
-      ∙ sym (get_or-map-range_with_len (λ i. g (i % w) (i / w)) 0 (w * h) i i d within (omega arith)))
+    let within : i < w * h = omega arith in
+    let some = wide w h i within in
+    get_or-map-range_with_len (λ i. f (i % w) (i / w)) 0 (w * h) i i d within (omega arith)
+    ∙ same (i % w) (i / w) (mod_below i w some) (div_below i w h some (omega (arith, mul_comm w h)))
+    ∙ sym (get_or-map-range_with_len (λ i. g (i % w) (i / w)) 0 (w * h) i i d within (omega arith)))
 
 -- planes of tests that agree at each place are one
 pub same_where : (w h : ℕ) (f g : ℕ → ℕ → Bool) → ((x y : ℕ) → x < w → y < h → f x y ≡ g x y) → pixels_where w h f ≡ pixels_where w h g

@@ -1,8 +1,8 @@
 -- Bits that are set in one word.
-use Rattle.std.proofs.Common.{◌≡◌, ◌≢◌, ℕ, ◌+◌, ◌-◌, ◌*◌, ◌/◌, ◌%◌, ◌^◌, ◌<◌, ◌≤◌, ◌⊎◌, inl, inr, max, bit_or, List, length, get_or, set, arith, ap, sym, ◌∙◌}
-use Rattle.std.proofs.lemmas.Bool.{cases_lt, cases_eq}
+use Rattle.std.proofs.Common.{◌≡◌, ℕ, ◌+◌, ◌-◌, ◌*◌, ◌/◌, ◌%◌, ◌^◌, ◌<◌, ◌≤◌, ◌⊎◌, inl, inr, max, bit_or, List, length, get_or, set, arith, ap, sym, ◌∙◌}
+use Rattle.std.proofs.lemmas.Bool.{cases_eq}
 use Rattle.bit_plane.specs.Bits.{bit, digit}
-use Rattle.bit_plane.proofs.BitLemmas.{digit-lt, digit-or, digit_above, digit-shl_low, digit-shl_high, bit_of, bit-lt, bit-set_same, bit-set_other}
+use Rattle.bit_plane.proofs.BitLemmas.{digit-or, digit_above, digit-shl_low, digit-shl_high, bit_of, bit-lt, bit-set_same, bit-set_other}
 
 -- the words after `bits` were set from `at` on
 abbrev pub or_at : List ℕ → ℕ → ℕ → List ℕ
@@ -37,9 +37,9 @@ pub or_outside : (words : List ℕ) (at bits count i : ℕ) → (i < at) ⊎ (at
     bit (or_at words at bits) i ≡ bit words i
 or_outside words at bits count i apart word within some below =
     elim (cases_eq (i / 64) (at / 64)) [
-      inl same ↦
-        let written = in_word words at bits i (i % 64) (omega arith) (omega arith) (omega arith) in
-        let none = outside_word bits (at % 64) count (i % 64) (omega arith) (side_in_word at count i same word apart) below in
-        omega (arith, bit-lt words i)
-    | inr other ↦ bit-set_other words i (at / 64) _ other
+      | inl same ↦
+          let written = in_word words at bits i (i % 64) (omega arith) (omega arith) (omega arith) in
+          let none = outside_word bits (at % 64) count (i % 64) (omega arith) (side_in_word at count i same word apart) below in
+          omega (arith, bit-lt words i)
+      | inr other ↦ bit-set_other words i (at / 64) _ other
     ]

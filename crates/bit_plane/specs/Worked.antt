@@ -1,5 +1,5 @@
 -- Small planes, row after row from the bottom.
-use Rattle.std.specs.Prelude.{Bool, true, false, List, [], ◌∷◌, pos, ◌-ℤ◌}
+use Rattle.std.specs.Prelude.{true, false, [], ◌∷◌, pos, ◌-ℤ◌}
 use Rattle.bit_plane.specs.Pixels.{Pixels, blank, painted}
 use Rattle.bit_plane.specs.Ink.{ink_box_of}
 
@@ -9,8 +9,8 @@ dash = record {
   width = 4;
   height = 3;
   black = false ∷ false ∷ false ∷ false
-    ∷ false ∷ true ∷ true ∷ false
-    ∷ false ∷ false ∷ false ∷ false ∷ [];
+      ∷ false ∷ true ∷ true ∷ false
+      ∷ false ∷ false ∷ false ∷ false ∷ [];
 }
 
 -- 3 by 3: a pixel at the right, one at the left above it, and one at the top
@@ -19,8 +19,8 @@ corner = record {
   width = 3;
   height = 3;
   black = false ∷ false ∷ true
-    ∷ true ∷ false ∷ false
-    ∷ false ∷ true ∷ false ∷ [];
+      ∷ true ∷ false ∷ false
+      ∷ false ∷ true ∷ false ∷ [];
 }
 
 -- 1 by 4: the two pixels at the top

@@ -5,6 +5,8 @@ mod ink;
 mod laws;
 mod painting;
 mod planes;
+#[cfg(test)]
+mod tests;
 mod words;
 
 pub use ink::InkBox;

@@ -18,14 +18,31 @@ pub struct Span {
 pub fn overlap(offset: i64, shape: u32, plane: u32) -> Option<Span>
     ensures { Meets offset shape plane result }
 {
-    let from = if offset < 0 { offset.unsigned_abs() as usize } else { 0 };
+    let from = if offset < 0 {
+        offset.unsigned_abs() as usize
+    } else {
+        0
+    };
     let to = if offset < 0 { 0 } else { offset as usize };
-    let count = (shape as usize).saturating_sub(from).min((plane as usize).saturating_sub(to));
-    if count > 0 { Some(Span { from, to, count }) } else { None }
+    let count = (shape as usize)
+        .saturating_sub(from)
+        .min((plane as usize).saturating_sub(to));
+    if count > 0 {
+        Some(Span { from, to, count })
+    } else {
+        None
+    }
 }
 
 /// Sets the pixels of so many rows that are set in another plane's rows.
-pub fn or_rows(words: &mut [u64], width: usize, other: &[u64], other_width: usize, columns: Span, rows: Span)
+pub fn or_rows(
+    words: &mut [u64],
+    width: usize,
+    other: &[u64],
+    other_width: usize,
+    columns: Span,
+    rows: Span,
+)
     requires within { columns.to + columns.count ≤ width }
     requires other_within { columns.from + columns.count ≤ other_width }
     requires room { (rows.to + rows.count) * width ≤ 64 * length words.old }
@@ -36,7 +53,7 @@ pub fn or_rows(words: &mut [u64], width: usize, other: &[u64], other_width: usiz
     requires other_ends { (rows.from + rows.count) * other_width < 2 ^ 63 }
     ensures inside { (y x : ℕ) → y < rows.count → x < columns.count →
         bit words.new ((rows.to + y) * width + (columns.to + x)) ≡
-            max (bit words.old ((rows.to + y) * width + (columns.to + x))) (bit other.now ((rows.from + y) * other_width + (columns.from + x))) }
+        max (bit words.old ((rows.to + y) * width + (columns.to + x))) (bit other.now ((rows.from + y) * other_width + (columns.from + x))) }
     ensures outside { (y x : ℕ) → x < width →
         ((y < rows.to) ⊎ (rows.to + rows.count ≤ y)) ⊎ ((x < columns.to) ⊎ (columns.to + columns.count ≤ x)) →
         bit words.new (y * width + x) ≡ bit words.old (y * width + x) }

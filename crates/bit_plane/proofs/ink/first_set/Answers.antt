@@ -1,4 +1,4 @@
-use Rattle.std.proofs.Common.{◌≡◌, ℕ, ◌^◌, ◌<◌, inl, inr, get_or, length, arith, rules}
+use Rattle.std.proofs.Common.{◌^◌, ◌<◌, inl, inr, get_or, arith, rules}
 use Rattle.std.proofs.lemmas.Bool.{cases_lt}
 use Rattle.std.proofs.lemmas.List.{get_or_past}
 use Rattle.bit_plane.proofs.InkLemmas.{first_found, clear_words}
@@ -12,6 +12,6 @@ returns-then-word-ne0 c =
 pub returns : goal.returns
 returns c = clear_words c.args.words.now (λ k.
     elim (cases_lt k c.loop-index.index) [
-      inl before ↦ c.loop-index.invariant k before
-    | inr past ↦ get_or_past c.args.words.now k 0 (omega arith)
+      | inl before ↦ c.loop-index.invariant k before
+      | inr past ↦ get_or_past c.args.words.now k 0 (omega arith)
     ])

@@ -1,4 +1,4 @@
-use Rattle.std.proofs.Common.{◌≡◌, ℕ, ◌-◌, ◌^◌, ◌<◌, get_or, arith, rules}
+use Rattle.std.proofs.Common.{◌-◌, ◌^◌, ◌<◌, get_or, arith, rules}
 use Rattle.bit_plane.proofs.InkLemmas.{last_found, clear_words}
 use Rattle.bit_plane.proofs.ink.last_set.Goals as goal
 

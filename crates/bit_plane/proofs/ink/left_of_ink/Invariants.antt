@@ -1,5 +1,4 @@
-use Rattle.std.proofs.Common.{◌≡◌, ℕ, ◌+◌, ◌-◌, ◌*◌, ◌<◌, ◌≤◌}
-use Rattle.bit_plane.specs.Bits.{bit}
+use Rattle.std.proofs.Common.{◌-◌, ◌≤◌}
 use Rattle.bit_plane.proofs.InkLemmas.{WhiteBefore}
 use Rattle.bit_plane.proofs.ink.left_of_ink.Given as goal
 

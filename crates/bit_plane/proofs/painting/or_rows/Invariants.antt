@@ -1,4 +1,3 @@
-use Rattle.std.proofs.Common.{ℕ}
 use Rattle.bit_plane.proofs.RowSteps.{RowsRan}
 use Rattle.bit_plane.proofs.painting.or_rows.Given as goal
 

@@ -1,4 +1,3 @@
-use Rattle.std.proofs.Common.{arith}
 use Rattle.bit_plane.proofs.Setting.{or_inside, or_outside}
 use Rattle.bit_plane.proofs.words.or_bits.Goals as goal
 

@@ -1,5 +1,4 @@
-use Rattle.std.proofs.Common.{◌≡◌, ℕ, ◌+◌, ◌-◌, ◌<◌, ◌≤◌, ◌⊎◌, max, length}
-use Rattle.bit_plane.specs.Bits.{bit}
+use Rattle.std.proofs.Common.{◌-◌, ◌≤◌}
 use Rattle.bit_plane.proofs.RunSteps.{Ran}
 use Rattle.bit_plane.proofs.words.or_run.Given as goal
 

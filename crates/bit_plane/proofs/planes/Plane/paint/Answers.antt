@@ -1,7 +1,7 @@
-use Rattle.std.proofs.Common.{ℕ, ◌+◌, length, ap, sym, subst, refl, ◌∙◌, arith, w64}
+use Rattle.std.proofs.Common.{◌+◌, ap, sym, subst, refl, ◌∙◌, arith, w64}
 use Rattle.std.proofs.lemmas.Int.{to_z-of_z}
 use Rattle.std.proofs.lemmas.List.{with_items_is}
-use Rattle.bit_plane.specs.Pixels.{Pixels, painted}
+use Rattle.bit_plane.specs.Pixels.{painted}
 use Rattle.bit_plane.specs.Packed.{pixels_of, IsPacked}
 use Rattle.bit_plane.specs.Spans.{IsSpan, Misses}
 use Rattle.bit_plane.proofs.PaintLemmas.{rows_room, painted_apart_columns, painted_apart_rows, painted_is, packed_still}
@@ -24,18 +24,18 @@ invariant_of-self c =
     let outside = rw c.deref_mut.ensures.value at c.or_rows.ensures.outside in
     subst (IsPacked c.self.inside.columns c.self.inside.rows) (sym (with_items_is c.self.inside.words c.or_rows.new.words (omega arith)))
     (packed_still c.self.inside.columns c.self.inside.rows c.shape.inside.columns c.shape.inside.rows
-      c.self.inside.words.items c.or_rows.new.words c.shape.inside.words.items c.args.left c.args.bottom
-      c.in-Some.columns c.in-Some-overlap.rows columns rows inside outside c.self.invariant (omega arith))
+    c.self.inside.words.items c.or_rows.new.words c.shape.inside.words.items c.args.left c.args.bottom
+    c.in-Some.columns c.in-Some-overlap.rows columns rows inside outside c.self.invariant (omega arith))
 
 pub returns-in_default : goal.returns-in_default
 returns-in_default c =
     let misses = subst (λ z. Misses z c.shape.inside.columns c.self.inside.columns) (to_z-of_z w64 c.args.left c.ranges.left) c.in_default.ensures in
     let value =
-      sym c.self.view_is
-      ∙ painted_apart_columns c.self.inside.columns c.self.inside.rows c.shape.inside.columns c.shape.inside.rows
-        c.self.inside.words.items c.self.inside.words.items c.shape.inside.words.items c.args.left c.args.bottom misses (λ i. refl)
-      ∙ ap (λ plane. painted plane (pixels_of c.shape.inside.columns c.shape.inside.rows c.shape.inside.words.items) c.args.left c.args.bottom) c.self.view_is
-      ∙ ap (λ shape. painted c.args.self.now shape c.args.left c.args.bottom) c.shape.view_is in
+    sym c.self.view_is
+    ∙ painted_apart_columns c.self.inside.columns c.self.inside.rows c.shape.inside.columns c.shape.inside.rows
+    c.self.inside.words.items c.self.inside.words.items c.shape.inside.words.items c.args.left c.args.bottom misses (λ i. refl)
+    ∙ ap (λ plane. painted plane (pixels_of c.shape.inside.columns c.shape.inside.rows c.shape.inside.words.items) c.args.left c.args.bottom) c.self.view_is
+    ∙ ap (λ shape. painted c.args.self.now shape c.args.left c.args.bottom) c.shape.view_is in
     record {
       value = value;
       width = same_width _ (painted c.args.self.now c.args.shape.now c.args.left c.args.bottom) value;
@@ -47,11 +47,11 @@ pub returns-in_default-overlap : goal.returns-in_default-overlap
 returns-in_default-overlap c =
     let misses = subst (λ z. Misses z c.shape.inside.rows c.self.inside.rows) (to_z-of_z w64 c.args.bottom c.ranges.bottom) c.in_default-overlap.ensures in
     let value =
-      sym c.self.view_is
-      ∙ painted_apart_rows c.self.inside.columns c.self.inside.rows c.shape.inside.columns c.shape.inside.rows
-        c.self.inside.words.items c.self.inside.words.items c.shape.inside.words.items c.args.left c.args.bottom misses (λ i. refl)
-      ∙ ap (λ plane. painted plane (pixels_of c.shape.inside.columns c.shape.inside.rows c.shape.inside.words.items) c.args.left c.args.bottom) c.self.view_is
-      ∙ ap (λ shape. painted c.args.self.now shape c.args.left c.args.bottom) c.shape.view_is in
+    sym c.self.view_is
+    ∙ painted_apart_rows c.self.inside.columns c.self.inside.rows c.shape.inside.columns c.shape.inside.rows
+    c.self.inside.words.items c.self.inside.words.items c.shape.inside.words.items c.args.left c.args.bottom misses (λ i. refl)
+    ∙ ap (λ plane. painted plane (pixels_of c.shape.inside.columns c.shape.inside.rows c.shape.inside.words.items) c.args.left c.args.bottom) c.self.view_is
+    ∙ ap (λ shape. painted c.args.self.now shape c.args.left c.args.bottom) c.shape.view_is in
     record {
       value = value;
       width = same_width _ (painted c.args.self.now c.args.shape.now c.args.left c.args.bottom) value;
@@ -66,12 +66,12 @@ returns c =
     let inside = rw (c.deref_mut.ensures.value, c.deref.ensures.value) at c.or_rows.ensures.inside in
     let outside = rw c.deref_mut.ensures.value at c.or_rows.ensures.outside in
     let value =
-      ap (pixels_of c.self.inside.columns c.self.inside.rows) (with_items_is c.self.inside.words c.or_rows.new.words (omega arith))
-      ∙ painted_is c.self.inside.columns c.self.inside.rows c.shape.inside.columns c.shape.inside.rows
-        c.self.inside.words.items c.or_rows.new.words c.shape.inside.words.items c.args.left c.args.bottom
-        c.in-Some.columns c.in-Some-overlap.rows columns rows inside outside
-      ∙ ap (λ plane. painted plane (pixels_of c.shape.inside.columns c.shape.inside.rows c.shape.inside.words.items) c.args.left c.args.bottom) c.self.view_is
-      ∙ ap (λ shape. painted c.args.self.now shape c.args.left c.args.bottom) c.shape.view_is in
+    ap (pixels_of c.self.inside.columns c.self.inside.rows) (with_items_is c.self.inside.words c.or_rows.new.words (omega arith))
+    ∙ painted_is c.self.inside.columns c.self.inside.rows c.shape.inside.columns c.shape.inside.rows
+    c.self.inside.words.items c.or_rows.new.words c.shape.inside.words.items c.args.left c.args.bottom
+    c.in-Some.columns c.in-Some-overlap.rows columns rows inside outside
+    ∙ ap (λ plane. painted plane (pixels_of c.shape.inside.columns c.shape.inside.rows c.shape.inside.words.items) c.args.left c.args.bottom) c.self.view_is
+    ∙ ap (λ shape. painted c.args.self.now shape c.args.left c.args.bottom) c.shape.view_is in
     record {
       value = value;
       width = same_width _ (painted c.args.self.now c.args.shape.now c.args.left c.args.bottom) value;

@@ -28,16 +28,20 @@ pub fn read_bits(words: &[u64], at: usize, count: usize) -> u64
     bits & (u64::MAX >> (64 - count))
 }
 
-/// Sets the bits from a place on that are set in the lowest bits of a word. All lie in one word.
+/// Sets the bits from a place on that are set in the lowest bits of a word. They lie in one word or in two.
 pub fn or_bits(words: &mut [u64], at: usize, bits: u64, count: usize)
-    requires word { at % 64 + count ≤ 64 }
-    requires within { at + count ≤ 64 * length words.old }
     requires some { 0 < count }
+    requires word { count ≤ 64 }
+    requires within { at + count ≤ 64 * length words.old }
     requires below { bits < 2 ^ count }
     ensures inside { (i : ℕ) → i < count → bit words.new (at + i) ≡ max (bit words.old (at + i)) (digit bits i) }
     ensures outside { (i : ℕ) → (i < at) ⊎ (at + count ≤ i) → bit words.new i ≡ bit words.old i }
 {
-    words[at / 64] |= bits << (at % 64);
+    let shift = at % 64;
+    words[at / 64] |= bits << shift;
+    if shift + count > 64 {
+        words[at / 64 + 1] |= bits >> (64 - shift);
+    }
 }
 
 /// Sets so many bits from a place on that are set in the other words from another place on.
@@ -51,10 +55,9 @@ pub fn or_run(words: &mut [u64], to: usize, other: &[u64], from: usize, count: u
 {
     let mut done = 0;
     while done < count {
-        let at = to + done;
-        let step = (64 - at % 64).min(count - done);
+        let step = (count - done).min(64);
         let bits = read_bits(other, from + done, step);
-        or_bits(words, at, bits, step);
+        or_bits(words, to + done, bits, step);
         done += step;
     }
 }

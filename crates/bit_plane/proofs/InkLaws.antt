@@ -4,7 +4,7 @@ use Rattle.std.proofs.lemmas.Int.{ints}
 use Rattle.std.proofs.lemmas.Bool.{cases_Bool, cases_lt, and_parts, ltb-true, or_cases, cond-true, cond-false, both_ways, false≢true}
 use Rattle.bit_plane.specs.declared.ink.InkBox.{InkBox}
 use Rattle.bit_plane.specs.Pixels.{Pixels, is_black, is_black_at}
-use Rattle.bit_plane.specs.Ink.{any_below, least_below, greatest_below, has_ink_column, has_ink_row, no_ink, ink_box_of, InkColumn, InkRow, IsInkBox}
+use Rattle.bit_plane.specs.Ink.{any_below, least_below, greatest_below, has_ink_column, has_ink_row, no_ink, ink_box_of, InkColumn, InkRow, IsInkBox, IsWithin}
 use Rattle.bit_plane.proofs.InkBoxes.{any_true, any_false}
 
 any_some : (test : ℕ → Bool) (n : ℕ) → any_below test n ≡ true → (k : ℕ) × (k < n) × (test k ≡ true)
@@ -74,6 +74,24 @@ le_greatest test (suc n) k p e =
             | inr here ↦ let same : k ≡ n = omega arith in absurd (both_ways (test n) other (ap test (sym same) ∙ e))
           ]
     ]
+
+greatest_lt : (test : ℕ → Bool) (n : ℕ) → any_below test n ≡ true → greatest_below test n < n
+greatest_lt test zero e = absurd (false≢true e)
+greatest_lt test (suc n) e =
+    elim (cases_Bool (test n)) [
+      | inl last ↦ omega (arith, cond-true (test n) n (greatest_below test n) last)
+      | inr other ↦
+          elim (or_cases (any_below test n) (test n) e) [
+            | inl earlier ↦ omega (arith, cond-false (test n) n (greatest_below test n) other, greatest_lt test n earlier)
+            | inr last ↦ absurd (both_ways (test n) other last)
+          ]
+    ]
+
+-- the ends of the numbers below n that pass
+ends : (test : ℕ → Bool) (n : ℕ) → any_below test n ≡ true → (least_below test n ≤ greatest_below test n) × (greatest_below test n < n)
+ends test n e =
+    let least = least_passes test n e in
+    (le_greatest test n (least_below test n) least.1 least.0, greatest_lt test n e)
 
 -- what a box says of a black pixel
 record Holds (plane : Pixels) (x y : ℕ) (box : InkBox) : Type 0 where
@@ -145,3 +163,38 @@ white_box plane white =
 
 pub is_ink_box_at : (plane : Pixels) (box : InkBox) → box ≡ ink_box_of plane → IsInkBox plane box
 is_ink_box_at plane box e = subst (IsInkBox plane) (sym e) (is_ink_box plane)
+
+-- where a column has ink, a row has
+ink_rows : (plane : Pixels) → any_below (has_ink_column plane) plane.width ≡ true → any_below (has_ink_row plane) plane.height ≡ true
+ink_rows plane e =
+    let column = any_some (has_ink_column plane) plane.width e in
+    let pixel = any_some (λ y. is_black_at plane column.0 y) plane.height column.2 in
+    any_true (has_ink_row plane) plane.height pixel.0 pixel.1 (any_true (λ x. is_black_at plane x pixel.0) plane.width column.0 column.1 pixel.2)
+
+pub box_within : (plane : Pixels) → IsWithin plane (ink_box_of plane)
+box_within plane =
+    elim (cases_Bool (any_below (has_ink_column plane) plane.width)) [
+      | inl some ↦
+          let columns = ends (has_ink_column plane) plane.width some in
+          let rows = ends (has_ink_row plane) plane.height (ink_rows plane some) in
+          subst (IsWithin plane) (sym (cond-true (any_below (has_ink_column plane) plane.width) (inked plane) no_ink some)) (record {
+            left = omega (arith, ints);
+            right = omega (arith, ints, columns.1);
+            width = omega (arith, ints, columns.0);
+            bottom = omega (arith, ints);
+            top = omega (arith, ints, rows.1);
+            height = omega (arith, ints, rows.0);
+          })
+      | inr none ↦
+          subst (IsWithin plane) (sym (cond-false (any_below (has_ink_column plane) plane.width) (inked plane) no_ink none)) (record {
+            left = omega (arith, ints);
+            right = omega (arith, ints);
+            width = omega (arith, ints);
+            bottom = omega (arith, ints);
+            top = omega (arith, ints);
+            height = omega (arith, ints);
+          })
+    ]
+
+pub box_within_at : (plane : Pixels) (box : InkBox) → box ≡ ink_box_of plane → IsWithin plane box
+box_within_at plane box e = subst (IsWithin plane) (sym e) (box_within plane)

@@ -1,5 +1,5 @@
 -- The ink box of a plane: the least and greatest columns and rows that have a black pixel.
-use Rattle.std.specs.Prelude.{◌≡◌, ℕ, zero, suc, Bool, true, false, ◌||◌, ℤ, pos, negsuc, ◌≤ℤ◌, if◌then◌else◌}
+use Rattle.std.specs.Prelude.{◌≡◌, ℕ, zero, suc, Bool, true, false, ◌||◌, ℤ, pos, negsuc, ◌+ℤ◌, ◌≤ℤ◌, ◌<ℤ◌, if◌then◌else◌}
 use Rattle.bit_plane.specs.declared.ink.InkBox.{InkBox}
 use Rattle.bit_plane.specs.Pixels.{Pixels, is_black, is_black_at}
 
@@ -56,3 +56,12 @@ pub record IsInkBox (plane : Pixels) (box : InkBox) : Type 0 where
   pub right : (x y : ℤ) → is_black plane x y ≡ true → InkColumn plane box.right
   pub bottom : (x y : ℤ) → is_black plane x y ≡ true → InkRow plane box.bottom
   pub top : (x y : ℤ) → is_black plane x y ≡ true → InkRow plane box.top
+
+-- a box lies within the plane, and its width and height are at least 0
+pub record IsWithin (plane : Pixels) (box : InkBox) : Type 0 where
+  pub left : pos 0 ≤ℤ box.left
+  pub right : box.right <ℤ pos plane.width
+  pub width : box.left ≤ℤ (box.right +ℤ pos 1)
+  pub bottom : pos 0 ≤ℤ box.bottom
+  pub top : box.top <ℤ pos plane.height
+  pub height : box.bottom ≤ℤ (box.top +ℤ pos 1)

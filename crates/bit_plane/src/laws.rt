@@ -1,7 +1,7 @@
 //! Laws and worked values of the definitions, as clauses of functions that do nothing.
 ghost use Rattle.std.specs.Prelude.{◌≡◌, ℕ, ◌<◌, ◌*◌, Bool, true, false, ◌&&◌, ◌||◌, [], ◌∷◌, ℤ, pos, negsuc, ◌-ℤ◌};
 ghost use Rattle.bit_plane.specs.Pixels.{Pixels, IsPlane, is_inside, is_black, is_place, pixels_where, blank, with_black, painted};
-ghost use Rattle.bit_plane.specs.Ink.{IsInkBox, ink_box_of, no_ink};
+ghost use Rattle.bit_plane.specs.Ink.{IsInkBox, IsWithin, ink_box_of, no_ink};
 ghost use Rattle.bit_plane.specs.Worked.{dash, corner, post, copy};
 
 /// What is black in planes that are made: nothing of a blank one, a place more, the union with what is painted.
@@ -32,9 +32,10 @@ pub fn paint_laws()
         is_black (painted plane shape left bottom) x y ≡ true }
 {}
 
-/// The ink box is the least and greatest column and row with a black pixel.
+/// The ink box is the least and greatest column and row with a black pixel, and lies within the plane.
 pub fn ink_laws()
     ensures ends { (plane : Pixels) → IsInkBox plane (ink_box_of plane) }
+    ensures inside { (plane : Pixels) → IsWithin plane (ink_box_of plane) }
     ensures none { (plane : Pixels) → ((x y : ℤ) → is_black plane x y ≡ false) → ink_box_of plane ≡ no_ink }
 {}
 

@@ -1,7 +1,7 @@
 //! Planes of pixels.
 ghost use Rattle.std.specs.Prelude.{◌≡◌, ℕ, ◌+◌, ◌*◌, ◌<◌, ◌≤◌, IfOk, MatchOption, ℤ, pos, ◌-ℤ◌, false, ◌&&◌, ◌||◌, replicate};
 ghost use Rattle.bit_plane.specs.Pixels.{is_black, is_inside, is_place, area_limit, blank, with_black, painted};
-ghost use Rattle.bit_plane.specs.Ink.{ink_box_of, IsInkBox};
+ghost use Rattle.bit_plane.specs.Ink.{ink_box_of, IsInkBox, IsWithin};
 
 use crate::ink::{InkBox, behind_ink, first_set, last_set, left_of_ink, no_ink, signed};
 use crate::painting::{or_rows, overlap};
@@ -75,6 +75,7 @@ impl Plane {
     pub fn ink_box(&self) -> InkBox
         ensures value { result ≡ ink_box_of self.now }
         ensures ends { IsInkBox self.now result }
+        ensures inside { IsWithin self.now result }
     {
         let Some(first) = first_set(&self.words) else {
             return no_ink();

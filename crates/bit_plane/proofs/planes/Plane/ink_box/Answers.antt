@@ -2,7 +2,7 @@ use Rattle.std.proofs.Common.{ap, ◌∙◌, arith, pos, ◌-ℤ◌, to_z, of_z,
 use Rattle.std.proofs.lemmas.Int.{ints}
 use Rattle.bit_plane.specs.Ink.{ink_box_of}
 use Rattle.bit_plane.proofs.InkBoxes.{clear_is, width_small, box_is}
-use Rattle.bit_plane.proofs.InkLaws.{is_ink_box_at}
+use Rattle.bit_plane.proofs.InkLaws.{is_ink_box_at, box_within_at}
 use Rattle.bit_plane.proofs.planes.Plane.ink_box.Goals as goal
 
 pub returns-in_default : goal.returns-in_default
@@ -10,7 +10,7 @@ returns-in_default c =
     let value =
     c.no_ink.ensures ∙ clear_is c.self.inside.columns c.self.inside.rows c.self.inside.words.items (rw c.deref.ensures.value at c.in_default.ensures)
     ∙ ap ink_box_of c.self.view_is in
-    record { value = value; ends = is_ink_box_at c.args.self.now _ value }
+    record { value = value; ends = is_ink_box_at c.args.self.now _ value; inside = box_within_at c.args.self.now _ value }
 
 pub signed-requires : goal.signed-requires
 signed-requires c =
@@ -34,4 +34,4 @@ returns c =
     c.self.invariant first last left behind
     (omega (arith, ints)) (omega (arith, ints)) (omega (arith, ints)) (omega (arith, ints))
     ∙ ap ink_box_of c.self.view_is in
-    record { value = value; ends = is_ink_box_at c.args.self.now _ value }
+    record { value = value; ends = is_ink_box_at c.args.self.now _ value; inside = box_within_at c.args.self.now _ value }

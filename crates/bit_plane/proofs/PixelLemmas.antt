@@ -6,7 +6,7 @@ use Rattle.std.proofs.lemmas.Bool.{lt-ltb}
 use Rattle.std.proofs.lemmas.Nat.{div_below, mod_below, mul-add-lt, div-mul-add, mod-mul-add}
 use Rattle.std.proofs.lemmas.List.{same_lists}
 use Rattle.std.proofs.lemmas.List.FromFn.{length-map-range_with_len, get_or-map-range_with_len}
-use Rattle.bit_plane.specs.Pixels.{is_black_at, pixels_where}
+use Rattle.bit_plane.specs.Pixels.{is_black_at, pixels_where, IsPlane}
 
 -- the list of a plane's pixels
 abbrev pixel_list : ℕ → ℕ → (ℕ → ℕ → Bool) → List Bool
@@ -43,3 +43,7 @@ black_where w h f x y p q =
     ∙ ap (λ t. t && get_or (pixel_list w h f) (y * w + x) false) (lt-ltb y h q)
     ∙ get_or-map-range_with_len (λ i. f (i % w) (i / w)) 0 (w * h) (y * w + x) (y * w + x) false index (omega arith)
     ∙ ap (λ n. f n ((y * w + x) / w)) column ∙ ap (f x) row
+
+-- a plane made by a test has a pixel for each place
+pub whole_where : (w h : ℕ) (f : ℕ → ℕ → Bool) → IsPlane (pixels_where w h f)
+whole_where w h f = length-map-range_with_len (λ i. f (i % w) (i / w)) 0 (w * h)

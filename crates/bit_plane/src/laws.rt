@@ -14,7 +14,9 @@ pub fn pixel_laws()
     ensures painted { (plane shape : Pixels) (left bottom x y : ℤ) →
         is_black (painted plane shape left bottom) x y ≡ (is_black plane x y || (is_inside plane x y && is_black shape (x -ℤ left) (y -ℤ bottom))) }
 
-    // Planes of one size with the same black pixels are the same.
+    // A plane that is made by a test has a pixel for each place, and planes of one size with the same black pixels are
+    // the same.
+    ensures whole { (width height : ℕ) (test : ℕ → ℕ → Bool) → IsPlane (pixels_where width height test) }
     ensures same { (plane other : Pixels) → IsPlane plane → IsPlane other → plane.width ≡ other.width → plane.height ≡ other.height →
         ((x y : ℤ) → is_black plane x y ≡ is_black other x y) → plane ≡ other }
 {}

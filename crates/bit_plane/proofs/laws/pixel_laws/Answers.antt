@@ -1,4 +1,4 @@
-use Rattle.bit_plane.proofs.PixelLemmas.{black_where}
+use Rattle.bit_plane.proofs.PixelLemmas.{black_where, whole_where}
 use Rattle.bit_plane.proofs.PixelLaws.{blank_is, set_is_black, painted_is_black, same_plane}
 use Rattle.bit_plane.proofs.laws.pixel_laws.Goals as goal
 
@@ -13,6 +13,9 @@ returns-clause-set c = set_is_black
 
 pub returns-clause-painted : goal.returns-clause-painted
 returns-clause-painted c = painted_is_black
+
+pub returns-clause-whole : goal.returns-clause-whole
+returns-clause-whole c = whole_where
 
 pub returns-clause-same : goal.returns-clause-same
 returns-clause-same c = same_plane

@@ -1,0 +1,14 @@
+//! Places of marks: where a box stands in the image, by the boxes that were placed before it.
+//!
+//! Marks are placed as text is written: the first of a row by the first of the row before, each further one by the
+//! right side of the mark before it and the median of three bottoms. `specs/Place.antt` computes all of this from the
+//! list of earlier placements. `Places` keeps six numbers of it.
+#![tactic(auto)]
+
+mod laws;
+mod places;
+#[cfg(test)]
+mod tests;
+
+pub use laws::{medians, rows, worked_places};
+pub use places::{Places, Spot};

@@ -1,5 +1,5 @@
 -- Words are a command exactly where they are its first word and then its pages.
-use Rattle.std.proofs.Common.{◌≡◌, ◌≢◌, ℕ, ◌<◌, ◌≤◌, Bool, true, false, cond, Result, Ok, Err, List, [], ◌∷◌, length, codes, refl, sym, ap, ◌∙◌, subst, arith}
+use Rattle.std.proofs.Common.{◌≡◌, ℕ, ◌≤◌, Bool, true, false, cond, Result, Ok, Err, List, [], ◌∷◌, length, codes, refl, sym, ap, ◌∙◌, subst, arith}
 use Rattle.std.specs.Str.{bytes_eq}
 use Rattle.std.proofs.lemmas.List.Elements.{All-nil}
 use Rattle.std.proofs.lemmas.Slice.Eq.{bytes_eq-Decides}
@@ -7,7 +7,7 @@ use Rattle.viewer_words.specs.declared.commands.Command.{Command}
 use Rattle.viewer_words.specs.declared.commands.Command.TheVariants.{Draw, Info}
 use Rattle.viewer_words.specs.declared.commands.TableChoice.{TableChoice}
 use Rattle.viewer_words.specs.declared.commands.TableChoice.TheVariants.{Djvu}
-use Rattle.viewer_words.specs.Words.{is_page_word, page_limit, pages_behind, pages_of, command_of, words_of}
+use Rattle.viewer_words.specs.Words.{is_page_word, pages_of, command_of, words_of}
 use Rattle.viewer_words.specs.Laws.{IsPageList, IsWritten}
 use Rattle.viewer_words.proofs.Pages.{IsGood, IsTaken, taken, good_taken}
 

@@ -4,7 +4,6 @@ use Rattle.std.specs.List.{list_any, starts_with}
 use Rattle.djvu_base.specs.Name.{is_name}
 use Rattle.viewer_words.specs.declared.commands.Command.{Command}
 use Rattle.viewer_words.specs.declared.commands.Command.TheVariants.{Draw, Info}
-use Rattle.viewer_words.specs.declared.commands.TableChoice.{TableChoice}
 use Rattle.viewer_words.specs.declared.commands.TableChoice.TheVariants.{Djvu}
 
 -- how many pages a command may name

@@ -28,7 +28,7 @@ pub enum Command {
 pub enum TableChoice {
     /// The table with which DjVu files are written.
     Djvu,
-    /// The table in which all decisions have one chance.
+    /// The table of one state, which no decision changes.
     Flat,
     /// The table in the folder's file of this name.
     File(Name),
@@ -37,7 +37,7 @@ pub enum TableChoice {
 /// Why words are no command.
 #[derive(Debug, Drop, Error)]
 pub enum WordsError {
-    /// The first word that doesn't fit, by its number from 0. Where a word is missing, this is the number of words.
+    /// The number, from 0, of the first word that doesn't fit. Where a word is missing, this is the number of words.
     #[error("a word doesn't fit")]
     Refused(usize),
     /// There was no memory for the command.

@@ -3,8 +3,8 @@
 //! `read_words` says which command words are, or which word doesn't fit; so far `draw PAGE [PAGE ..]` and
 //! `info PAGE [PAGE ..]`. The calls that end with `_line` make the bytes of one line each, with its newline.
 //!
-//! `specs/` has the definitions: `Words` (what words say), `Laws` (what they are, in other words) and `Lines` (each
-//! line, as bytes).
+//! `specs/` has the definitions: `Words` (what words say), `Answers` (what an answer says of that), `Laws` (what
+//! commands and refused words are, in other words) and `Lines` (each line, as bytes).
 #![tactic(auto)]
 
 mod commands;

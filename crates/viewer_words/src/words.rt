@@ -15,8 +15,8 @@ const PAGE_LIMIT: usize = 1_024;
 ///
 /// # Errors
 ///
-/// `Refused` exactly with the number of the first word that doesn't fit. There may be no memory for the command, and
-/// then also where a word doesn't fit.
+/// `Refused` with the number of the first word that doesn't fit, and only where one doesn't. `OutOfMemory` may come for
+/// any words.
 pub fn read_words(alloc: Global, words: &[Items<u8>]) -> Result<Command, WordsError>
     ensures command { IfOk result (λ command. words_of words.now ≡ Ok command) }
     ensures refused { (number : ℕ) → IsErrOf result (WordsError.Refused number) → words_of words.now ≡ Err number }

@@ -1,7 +1,7 @@
-use Rattle.std.proofs.Common.{◌≡◌, ℕ, ◌+◌, ◌++◌, List, Err, Ok, suc, take, sym, ◌∙◌, ap, subst, arith}
+use Rattle.std.proofs.Common.{◌≡◌, ◌+◌, ◌++◌, Err, Ok, suc, take, sym, subst, arith}
 use Rattle.viewer_words.specs.Words.{words_of}
 use Rattle.viewer_words.specs.Laws.{CanBegin}
-use Rattle.viewer_words.proofs.Refusing.{IsRefusedAt, refused_at}
+use Rattle.viewer_words.proofs.Refusing.{refused_at}
 use Rattle.viewer_words.proofs.laws.refused_words.Goals as goal
 
 pub returns-clause-within : goal.returns-clause-within

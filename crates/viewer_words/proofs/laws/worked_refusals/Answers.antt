@@ -1,5 +1,5 @@
 use lib.Utf8.{encode}
-use Rattle.std.proofs.Common.{◌≡◌, ◌+◌, ◌≤◌, false, ◌&&◌, not, length, Err, refl, ap, arith}
+use Rattle.std.proofs.Common.{◌≡◌, ◌+◌, false, ◌&&◌, not, length, Err, refl, ap, arith}
 use Rattle.std.specs.Str.{chars, is_utf8}
 use Rattle.std.proofs.lemmas.Bool.{le-ltb, and_left}
 use Rattle.viewer_words.specs.Words.{page_limit, has_room, is_page_word, is_among, fits_behind}

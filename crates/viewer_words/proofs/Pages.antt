@@ -4,7 +4,7 @@ use Rattle.std.specs.List.{AllPairs, AllPass}
 use Rattle.std.specs.Str.{bytes_eq}
 use Rattle.std.proofs.Math.ListN.{get_or-append}
 use Rattle.std.proofs.Math.Seq.{get_or-append_seam}
-use Rattle.std.proofs.lemmas.Bool.{both_ways, false_from_ne_true, not-true, ltb-true, lt-ltb, and_parts, and_from}
+use Rattle.std.proofs.lemmas.Bool.{both_ways, false_from_ne_true, not-true, ltb-true, lt-ltb, le-ltb, and_parts, and_from, and_left}
 use Rattle.std.proofs.lemmas.List.{append-nil}
 use Rattle.std.proofs.lemmas.List.Elements.{All-push}
 use Rattle.std.proofs.lemmas.List.Folds.{list_any_at, list_any_none}
@@ -78,13 +78,23 @@ good_fits pages words word good =
     let other : not (is_among pages word) ≡ true = ap not (other_from pages word (good_other pages words word good)) in
     and_from (has_room pages && is_page_word word) (not (is_among pages word)) (and_from (has_room pages) (is_page_word word) (lt-ltb (length pages) page_limit room) (good_word pages words word good)) other
 
--- good pages are taken
-pub good_taken : (pages words : List (List ℕ)) → IsGood (pages ++ words) → pages_behind pages words ≡ Ok (pages ++ words)
-good_taken pages [] good = ap Ok (sym (append-nil pages))
-good_taken pages (word ∷ words) good =
-    let split : (pages ++ word ∷ []) ++ words ≡ pages ++ (word ∷ words) = append_assoc pages (word ∷ []) words in
-    let fits : fits_behind pages word ≡ true = good_fits pages words word good in
-    rw fits (good_taken (pages ++ word ∷ []) words (subst IsGood (sym split) good) ∙ ap Ok split)
+-- good pages are taken, and what follows them is behind them
+pub good_behind : (pages front words : List (List ℕ)) → IsGood (pages ++ front) → pages_behind pages (front ++ words) ≡ pages_behind (pages ++ front) words
+good_behind pages [] words good = ap (λ (ps : List (List ℕ)). pages_behind ps words) (sym (append-nil pages))
+good_behind pages (page ∷ front) words good =
+    let split : (pages ++ page ∷ []) ++ front ≡ pages ++ (page ∷ front) = append_assoc pages (page ∷ []) front in
+    let fits : fits_behind pages page ≡ true = good_fits pages front page good in
+    rw fits (good_behind (pages ++ page ∷ []) front words (subst IsGood (sym split) good) ∙ ap (λ (ps : List (List ℕ)). pages_behind ps words) split)
+
+pub good_taken : (pages : List (List ℕ)) → IsGood pages → pages_behind [] pages ≡ Ok pages
+good_taken pages good = ap (pages_behind []) (sym (append-nil pages)) ∙ good_behind [] pages [] good
+
+-- no page has room behind as many as a command may name
+pub full_behind : (pages words : List (List ℕ)) (word : List ℕ) → length pages ≡ page_limit → pages_behind pages (word ∷ words) ≡ Err (length pages + 1)
+full_behind pages words word e =
+    let full : has_room pages ≡ false = le-ltb (length pages) page_limit (omega (arith, e)) in
+    let unfit : fits_behind pages word ≡ false = and_left (has_room pages && is_page_word word) (not (is_among pages word)) (and_left (has_room pages) (is_page_word word) full) in
+    rw unfit refl
 
 -- where words are refused: the pages before the word fit, and nothing that begins with them and the word does
 pub record IsRefused (pages words : List (List ℕ)) (number : ℕ) : Type 0 where

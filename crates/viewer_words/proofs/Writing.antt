@@ -1,5 +1,5 @@
 -- Words are a command exactly where they are its first word and then its pages.
-use Rattle.std.proofs.Common.{◌≡◌, ℕ, ◌≤◌, Bool, true, false, cond, Result, Ok, Err, List, [], ◌∷◌, length, codes, refl, sym, ap, ◌∙◌, subst, arith}
+use Rattle.std.proofs.Common.{◌≡◌, ℕ, ◌+◌, ◌≤◌, Bool, true, false, cond, Result, Ok, Err, List, [], ◌∷◌, ◌++◌, length, codes, refl, sym, ap, ◌∙◌, subst, arith}
 use Rattle.std.specs.Str.{bytes_eq}
 use Rattle.std.proofs.lemmas.List.Elements.{All-nil}
 use Rattle.std.proofs.lemmas.Slice.Eq.{bytes_eq-Decides}
@@ -7,12 +7,15 @@ use Rattle.viewer_words.specs.declared.commands.Command.{Command}
 use Rattle.viewer_words.specs.declared.commands.Command.TheVariants.{Draw, Info}
 use Rattle.viewer_words.specs.declared.commands.TableChoice.{TableChoice}
 use Rattle.viewer_words.specs.declared.commands.TableChoice.TheVariants.{Djvu}
-use Rattle.viewer_words.specs.Words.{is_page_word, pages_of, command_of, words_of}
+use Rattle.viewer_words.specs.Words.{is_page_word, page_limit, pages_of, command_of, words_of}
 use Rattle.viewer_words.specs.Laws.{IsPageList, IsWritten}
-use Rattle.viewer_words.proofs.Pages.{IsGood, IsTaken, taken, good_taken}
+use Rattle.viewer_words.proofs.Pages.{IsGood, IsTaken, taken, good_behind, good_taken, full_behind}
 
 no_pages_good : IsGood []
 no_pages_good = record { few = omega arith; words = All-nil (λ w. is_page_word w ≡ true); distinct = λ i j d h k. absurd (omega arith) }
+
+listed_good : (pages : List (List ℕ)) → IsPageList pages → IsGood pages
+listed_good pages listed = record { few = listed.few; words = listed.words; distinct = listed.distinct }
 
 record IsRead (words pages : List (List ℕ)) : Type 0 where
   same : pages ≡ words
@@ -27,7 +30,7 @@ pages_read (word ∷ words) pages e =
 
 pages_listed : (pages : List (List ℕ)) → IsPageList pages → pages_of pages ≡ Ok pages
 pages_listed [] listed = let some : 1 ≤ 0 = listed.some in absurd (omega arith)
-pages_listed (page ∷ pages) listed = good_taken [] (page ∷ pages) (record { few = listed.few; words = listed.words; distinct = listed.distinct })
+pages_listed (page ∷ pages) listed = good_taken (page ∷ pages) (listed_good (page ∷ pages) listed)
 
 drawn : (word : List ℕ) (words : List (List ℕ)) (command : Command) (read : Result (List (List ℕ)) ℕ) → word ≡ codes "draw" → pages_of words ≡ read → command_of (Draw Djvu) read ≡ Ok command → IsWritten (word ∷ words) command
 drawn word words command (Ok pages) first e made =
@@ -62,3 +65,11 @@ written_read words (Draw table pages) written =
     let drawing : TableChoice → Result Command ℕ = λ choice. Ok (Draw choice pages) in
     ap words_of written.0 ∙ ap (command_of (Draw Djvu)) (pages_listed pages written.2) ∙ ap drawing (sym written.1)
 written_read words (Info pages) written = ap words_of written.0 ∙ ap (command_of Info) (pages_listed pages written.1)
+
+pages_full : (pages words : List (List ℕ)) (word : List ℕ) → IsPageList pages → length pages ≡ page_limit → pages_of (pages ++ (word ∷ words)) ≡ Err (length pages + 1)
+pages_full [] words word listed e = let some : 1 ≤ 0 = listed.some in absurd (omega arith)
+pages_full (page ∷ pages) words word listed e = good_behind [] (page ∷ pages) (word ∷ words) (listed_good (page ∷ pages) listed) ∙ full_behind (page ∷ pages) words word e
+
+-- a page behind as many as a command may name is refused
+pub full_refused : (pages words : List (List ℕ)) (word : List ℕ) → IsPageList pages → length pages ≡ page_limit → words_of (codes "draw" ∷ (pages ++ (word ∷ words))) ≡ Err (length pages + 1)
+full_refused pages words word listed e = ap (command_of (Draw Djvu)) (pages_full pages words word listed e)

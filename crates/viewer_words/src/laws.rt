@@ -4,8 +4,8 @@ ghost use Rattle.djvu_base.specs.declared.faults.FaultKind.TheVariants.{Truncate
 ghost use Rattle.viewer_words.specs.declared.commands.Command.{Command};
 ghost use Rattle.viewer_words.specs.declared.commands.Command.TheVariants.{Draw, Info};
 ghost use Rattle.viewer_words.specs.declared.commands.TableChoice.TheVariants.{Djvu};
-ghost use Rattle.viewer_words.specs.Words.{words_of, pages_behind, page_limit};
-ghost use Rattle.viewer_words.specs.Laws.{IsWritten, CanBegin};
+ghost use Rattle.viewer_words.specs.Words.{words_of, page_limit};
+ghost use Rattle.viewer_words.specs.Laws.{IsPageList, IsWritten, CanBegin};
 ghost use Rattle.viewer_words.specs.Lines.{notice_line, fault_line, form_line, chunk_line, words_line, folder_line, newline};
 
 /// Words are a command exactly where they are its first word and then its pages: 1 to 1,024 of them, each a name that
@@ -32,7 +32,7 @@ pub fn worked_refusals()
     ensures dashes { words_of (codes "draw" ∷ codes "p" ∷ codes "--" ∷ []) ≡ Err 2 }
     ensures no_name { words_of (codes "info" ∷ codes "p" ∷ codes "a/b" ∷ codes "--" ∷ []) ≡ Err 2 }
     ensures twice { words_of (codes "draw" ∷ codes "p" ∷ codes "p" ∷ []) ≡ Err 2 }
-    ensures too_many { (pages words : List (List ℕ)) (word : List ℕ) → length pages ≡ 1024 → pages_behind pages (word ∷ words) ≡ Err 1025 }
+    ensures too_many { (pages words : List (List ℕ)) (word : List ℕ) → IsPageList pages → length pages ≡ 1024 → words_of (codes "draw" ∷ (pages ++ (word ∷ words))) ≡ Err 1025 }
 {}
 
 /// Words that are commands, and how many pages one may name.

@@ -1,0 +1,9 @@
+use Rattle.std.proofs.Common.{◌≡◌, [], length, drop}
+use Rattle.viewer_words.specs.Words.{pages_behind}
+use Rattle.viewer_words.proofs.words.read_pages.Given as goal
+
+abbrev pub invariant-loop-word : goal.invariant-loop-word
+invariant-loop-word l = record {
+  left : pages_behind l.pages.items (drop l.word-index l.words) ≡ pages_behind [] l.words;
+  count : length l.pages.items ≡ l.word-index;
+}

@@ -1,0 +1,56 @@
+//! Laws of the definitions, and worked values of them: each is a clause of a function that does nothing.
+ghost use Rattle.std.specs.Prelude.{◌≡◌, ℕ, ◌+◌, ◌<◌, ◌≤◌, ◌↔◌, ◌++◌, List, [], ◌∷◌, length, take, Ok, Err, codes};
+ghost use Rattle.djvu_base.specs.declared.faults.FaultKind.TheVariants.{Truncated, CyclicInclude};
+ghost use Rattle.viewer_words.specs.declared.commands.Command.{Command};
+ghost use Rattle.viewer_words.specs.declared.commands.Command.TheVariants.{Draw, Info};
+ghost use Rattle.viewer_words.specs.declared.commands.TableChoice.TheVariants.{Djvu};
+ghost use Rattle.viewer_words.specs.Words.{words_of, page_limit};
+ghost use Rattle.viewer_words.specs.Laws.{IsPageList, IsWritten, CanBegin};
+ghost use Rattle.viewer_words.specs.Lines.{notice_line, fault_line, form_line, chunk_line, words_line, folder_line, newline};
+
+/// Words are a command exactly where they are its first word and then its pages: 1 to 1,024 of them, each a name that
+/// doesn't begin with `--`, and none twice.
+pub fn written_commands()
+    ensures { (words : List (List ℕ)) (command : Command) → (words_of words ≡ Ok command) ↔ IsWritten words command }
+{}
+
+/// A refused number is that of the first word that doesn't fit: some command begins with the words before it, and none
+/// with these and it. Where no word has that number, it is the number of words.
+pub fn refused_words()
+    ensures within { (words : List (List ℕ)) (number : ℕ) → words_of words ≡ Err number → number ≤ length words }
+    ensures words_before { (words : List (List ℕ)) (number : ℕ) → words_of words ≡ Err number → CanBegin (take number words) }
+    ensures refused_word { (words : List (List ℕ)) (number : ℕ) → words_of words ≡ Err number → number < length words → ¬ CanBegin (take (number + 1) words) }
+{}
+
+/// Words that are no command, and by which word.
+pub fn worked_refusals()
+    ensures none { words_of [] ≡ Err 0 }
+    ensures other_command { words_of (codes "show" ∷ codes "p" ∷ []) ≡ Err 0 }
+    ensures option_first { words_of (codes "--table" ∷ codes "draw" ∷ codes "p" ∷ []) ≡ Err 0 }
+    ensures no_page { words_of (codes "draw" ∷ []) ≡ Err 1 }
+    ensures option { words_of (codes "draw" ∷ codes "--table" ∷ codes "flat" ∷ codes "p" ∷ []) ≡ Err 1 }
+    ensures dashes { words_of (codes "draw" ∷ codes "p" ∷ codes "--" ∷ []) ≡ Err 2 }
+    ensures no_name { words_of (codes "info" ∷ codes "p" ∷ codes "a/b" ∷ codes "--" ∷ []) ≡ Err 2 }
+    ensures twice { words_of (codes "draw" ∷ codes "p" ∷ codes "p" ∷ []) ≡ Err 2 }
+    ensures too_many { (pages words : List (List ℕ)) (word : List ℕ) → IsPageList pages → length pages ≡ 1024 → words_of (codes "draw" ∷ (pages ++ (word ∷ words))) ≡ Err 1025 }
+{}
+
+/// Words that are commands, and how many pages one may name.
+pub fn worked_commands()
+    ensures limit { page_limit ≡ 1024 }
+    ensures one { words_of (codes "draw" ∷ codes "p" ∷ []) ≡ Ok (Draw Djvu (codes "p" ∷ [])) }
+    ensures two { words_of (codes "draw" ∷ codes "q" ∷ codes "p" ∷ []) ≡ Ok (Draw Djvu (codes "q" ∷ codes "p" ∷ [])) }
+    ensures one_dash { words_of (codes "draw" ∷ codes "-p" ∷ []) ≡ Ok (Draw Djvu (codes "-p" ∷ [])) }
+    ensures like_a_command { words_of (codes "info" ∷ codes "draw" ∷ codes "info" ∷ []) ≡ Ok (Info (codes "draw" ∷ codes "info" ∷ [])) }
+{}
+
+/// A line of each kind.
+pub fn worked_lines()
+    ensures notice { notice_line (codes "p") 1 6437475000 ≡ codes "p: chunk 1 sum 6437475000" ++ newline }
+    ensures fault { fault_line (codes "p") (record { kind = Truncated; place = record { file = 0; offset = 0 } }) (codes "p" ∷ []) ≡ codes "p: truncated p 0" ++ newline }
+    ensures other_file { fault_line (codes "p") (record { kind = CyclicInclude; place = record { file = 1; offset = 16 } }) (codes "a" ∷ codes "b" ∷ codes "p" ∷ []) ≡ codes "p: cyclic-include b 16" ++ newline }
+    ensures form { form_line (codes "p") (codes "DJVU") 34 ≡ codes "p: form DJVU 34" ++ newline }
+    ensures chunk { chunk_line (codes "p") (codes "INFO") 16 10 ≡ codes "p: chunk INFO 16 10" ++ newline }
+    ensures words { words_line 2 ≡ codes "words 2" ++ 0x0A ∷ [] }
+    ensures names { folder_line 1025 ≡ codes "folder 1025" ++ 0x0A ∷ [] }
+{}

@@ -1,0 +1,98 @@
+//! The lines of reports, as bytes.
+ghost use Rattle.std.specs.Prelude.{◌≡◌, ◌<◌, IfOk, length};
+ghost use Rattle.viewer_words.specs.Lines.{notice_line, name_at, fault_line, form_line, chunk_line, words_line, folder_line};
+
+use djvu_base::{Fault, Name};
+use std::alloc::{AllocError, Global};
+
+/// The line of a drawing: of which page it is, after how many of its chunks, and the sum of its samples.
+pub fn notice_line(alloc: Global, name: &Name, chunks: u32, sum: u64) -> Result<Vec<u8>, AllocError>
+    ensures { IfOk result (λ line. line.items ≡ notice_line name.now chunks sum) }
+{
+    let end = format!(in alloc; ": chunk {chunks} sum {sum}\n")?;
+    let mut line = Vec::from_slice(alloc, name.bytes())?;
+    line.extend_from_slice(end.as_bytes())?;
+    Ok(line)
+}
+
+/// The line of a refused page: its fault, the name of the file that has the fault, and the offset there in bytes. The
+/// fault's file is given by its number among the folder's names.
+pub fn fault_line(
+    alloc: Global,
+    name: &Name,
+    fault: &Fault,
+    names: &[Name],
+) -> Result<Vec<u8>, AllocError>
+    requires { fault.now.place.file < length names.now }
+    ensures { IfOk result (λ line. line.items ≡ fault_line name.now fault.now names.now) }
+{
+    let offset = fault.place.offset;
+    let place = format!(in alloc; " {offset}\n")?;
+    let mut line = Vec::from_slice(alloc, name.bytes())?;
+    line.extend_from_slice(b": ".as_slice())?;
+    line.extend_from_slice(fault.kind.word().as_bytes())?;
+    line.extend_from_slice(b" ".as_slice())?;
+    line.extend_from_slice(name_at(names, fault.place.file))?;
+    line.extend_from_slice(place.as_bytes())?;
+    Ok(line)
+}
+
+/// The name of the file of this number.
+fn name_at(names: &[Name], number: u32) -> &[u8]
+    requires { number < length names.now }
+    ensures { result.now ≡ name_at names.now number }
+{
+    names[number as usize].bytes()
+}
+
+/// The line of a file's FORM: its kind, as its four bytes stand, and its length in bytes.
+pub fn form_line(
+    alloc: Global,
+    name: &Name,
+    kind: [u8; 4],
+    length: u32,
+) -> Result<Vec<u8>, AllocError>
+    ensures { IfOk result (λ line. line.items ≡ form_line name.now kind length) }
+{
+    let end = format!(in alloc; " {length}\n")?;
+    let mut line = Vec::from_slice(alloc, name.bytes())?;
+    line.extend_from_slice(b": form ".as_slice())?;
+    line.extend_from_slice(kind.as_slice())?;
+    line.extend_from_slice(end.as_bytes())?;
+    Ok(line)
+}
+
+/// The line of a chunk: its identifier, as its four bytes stand, its offset in the file and the length of its data, both
+/// in bytes.
+pub fn chunk_line(
+    alloc: Global,
+    name: &Name,
+    id: [u8; 4],
+    offset: u32,
+    length: u32,
+) -> Result<Vec<u8>, AllocError>
+    ensures { IfOk result (λ line. line.items ≡ chunk_line name.now id offset length) }
+{
+    let end = format!(in alloc; " {offset} {length}\n")?;
+    let mut line = Vec::from_slice(alloc, name.bytes())?;
+    line.extend_from_slice(b": chunk ".as_slice())?;
+    line.extend_from_slice(id.as_slice())?;
+    line.extend_from_slice(end.as_bytes())?;
+    Ok(line)
+}
+
+/// The line of a run that is refused for its words: the number of the word that doesn't fit.
+pub fn words_line(alloc: Global, number: usize) -> Result<Vec<u8>, AllocError>
+    ensures { IfOk result (λ line. line.items ≡ words_line number) }
+{
+    let line = format!(in alloc; "words {number}\n")?;
+    Ok(line.into_bytes())
+}
+
+/// The line of a run that is refused for its folder: how many names it has.
+pub fn folder_line(alloc: Global, count: usize) -> Result<Vec<u8>, AllocError>
+    ensures { IfOk result (λ line. line.items ≡ folder_line count) }
+{
+    let line = format!(in alloc; "folder {count}\n")?;
+    Ok(line.into_bytes())
+}

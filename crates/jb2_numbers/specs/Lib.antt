@@ -1,0 +1,4 @@
+pub mod Roots
+pub mod Contexts
+pub mod Number
+pub mod Reader

@@ -1,2 +1,4 @@
+pub mod Decoding
 pub mod Keys
 pub mod Sound
+pub mod Stepping

@@ -4,11 +4,13 @@ use Rattle.std.specs.Prelude.{Some, None, nat_lt, nat_le, int_le, IsTrue, if◌t
 use Rattle.std.proofs.lemmas.Grind.{common_steps}
 use Rattle.std.proofs.Math.Nat.{pow-suc, mul-le-mul_right}
 use Rattle.std.proofs.Math.Pow.{pow_mono}
+use Rattle.jb2_numbers.specs.declared.roots.Root.{Root}
+use Rattle.jb2_numbers.specs.declared.contexts.Path.{Path}
 use Rattle.jb2_numbers.specs.declared.phases.Side.{Side}
 use Rattle.jb2_numbers.specs.declared.phases.Phase.{Phase}
 use Rattle.jb2_numbers.specs.declared.phases.Phase.TheVariants.{Sign, Doubling, Halving, Known}
 use Rattle.jb2_numbers.specs.Number.{at_least, opposite, side_of, number_of, halved, settled, next_phase, implied_by, implied}
-use Rattle.jb2_numbers.specs.Reader.{is_sound, is_bounded, limit, allows, allows_by, is_known}
+use Rattle.jb2_numbers.specs.Reader.{Reader, IsSound, is_sound, is_bounded, limit, allows, allows_by, is_known}
 
 pub record DoublingFacts (count cutoff : ℕ) : Type 0 where
   pub some : 1 ≤ count
@@ -263,3 +265,23 @@ few_before count (Sign low high) decision sound allowed = sign_few count low hig
 few_before count (Doubling side cutoff) decision sound allowed = let facts = doubling_facts count side cutoff sound in omega (arith, facts.few)
 few_before count (Halving side cutoff range) decision sound allowed = let facts = halving_facts count side cutoff range sound in few_decisions count range facts.some facts.few
 few_before count (Known value) decision sound allowed = absurd (cc)
+
+sound_part : (path : Path) (phase : Phase) → IsSound path phase → IsTrue (is_sound path.count phase)
+sound_part path phase sound = grind (arith, common_steps)
+
+few_at : (path : Path) (phase : Phase) (decision : Bool) → IsSound path phase → IsTrue (allows phase decision) → path.count < 36
+few_at path phase decision sound allowed = few_before path.count phase decision (sound_part path phase sound) allowed
+
+-- the same of a reader
+pub few_read : (root : Root) (path : Path) (phase : Phase) (reader : Reader) (decision : Bool) → record { root = root; path = path; phase = phase } ≡ reader → IsSound path phase →
+    IsTrue (allows reader.phase decision) → reader.path.count < 36
+few_read root path phase reader decision same sound allowed =
+    let P : Reader → Type 0 = λ (r : Reader). IsTrue (allows r.phase decision) → r.path.count < 36 in
+    subst P same (λ a. few_at path phase decision sound a) allowed
+
+pub few_inside : (root : Root) (path : Path) (phase : Phase) (reader : Reader) (decision : Bool) → record { root = root; path = path; phase = phase } ≡ reader → IsSound path phase →
+    IsTrue (allows reader.phase decision) → path.count < 63
+few_inside root path phase reader decision same sound allowed =
+    let count : path.count ≡ reader.path.count = ap (λ (r : Reader). r.path.count) same in
+    let few : reader.path.count < 36 = few_read root path phase reader decision same sound allowed in
+    omega arith

@@ -93,7 +93,7 @@ pub record Stops (key : Key) (contexts : Numbers) (zp : Decoder) (stop : NumberS
   pub answers : (payload : List ℕ) (place : Option Interval) (given : Decision) → Fed payload place zp → decision_of stop ≡ Some given →
     (outcome_of zp.table (Adaptive (state_at contexts key)) payload zp.ended place).answer ≡ given
   pub same : states_of contexts' ≡ states_of contexts
-  pub stop : is_stop stop ≡ true
+  pub kind : is_stop stop ≡ true
 
 -- where a reading ends: no decision follows, and this is the answer
 pub record Ends (wanted : Wanted) (chunk : Chunk) (reading : Reading) (end : NumberStep) : Type 0 where

@@ -1,8 +1,8 @@
 //! The reader of a number.
-ghost use Rattle.std.specs.Prelude.{◌≡◌, ◌≢◌, ◌+◌, ◌-◌, ◌<◌, ◌≤ℤ◌, ℕ, ℤ, [], length, Bool, Option, Some, None, negsuc, pos, IsTrue, IfSome};
+ghost use Rattle.std.specs.Prelude.{◌≡◌, ◌≢◌, ◌+◌, ◌-◌, ◌<◌, ◌≤ℤ◌, ℕ, ℤ, [], length, Bool, false, Some, None, negsuc, pos, IsTrue};
 ghost use Rattle.jb2_numbers.specs.Contexts.{AreBelow, with_decision};
-ghost use Rattle.jb2_numbers.specs.Number.{Wanted, Chunk, Reading, next_phase, step, steps, read_on, answer_at};
-ghost use Rattle.jb2_numbers.specs.Reader.{Reads, Stands, Ends, allows};
+ghost use Rattle.jb2_numbers.specs.Number.{Wanted, Chunk, Reading, next_phase, implied, step, steps, read_on, answer_at};
+ghost use Rattle.jb2_numbers.specs.Reader.{Reads, Stands, Ends, allows, is_known};
 
 use crate::contexts::{Key, NumberContexts, Path};
 use crate::phases::Phase;
@@ -68,5 +68,102 @@ impl NumberReader {
     {
         self.phase = self.phase.next(self.path.count, decision);
         self.path = self.path.with_decision(decision);
+    }
+
+    /// One decision further; or the answer, where there is none.
+    fn step<M: Meter>(
+        &mut self,
+        contexts: &mut NumberContexts,
+        zp: &mut ZpDecoder,
+        meter: &mut M,
+    ) -> Option<NumberStep>
+        requires { AreBelow (length zp.old.table) contexts.old }
+        ensures goes { result ≡ None → (wanted : Wanted) (chunk : Chunk) (before : ℕ) (reading : Reading) →
+            Stands wanted chunk before reading self.old contexts.old zp.old (M.count meter.old) →
+            Stands wanted chunk before (step wanted chunk reading) self.new contexts.new zp.new (M.count meter.new) }
+        ensures stays { (end : NumberStep) (wanted : Wanted) (chunk : Chunk) (before : ℕ) (reading : Reading) → result ≡ Some end →
+            Stands wanted chunk before reading self.old contexts.old zp.old (M.count meter.old) →
+            Stands wanted chunk before reading self.new contexts.new zp.new (M.count meter.new) }
+        ensures ends { (end : NumberStep) (wanted : Wanted) (chunk : Chunk) (before : ℕ) (reading : Reading) → result ≡ Some end → end ≢ NumberStep.OutOfMemory →
+            Stands wanted chunk before reading self.old contexts.old zp.old (M.count meter.old) → Ends wanted chunk reading end }
+        ensures one { result ≡ None → self.new.path.count ≡ self.old.path.count + 1 }
+        ensures few { result ≡ None → self.old.path.count < 36 }
+        ensures below { AreBelow (length zp.new.table) contexts.new }
+        ensures table { zp.new.table ≡ zp.old.table }
+        ensures ended { zp.new.ended ≡ zp.old.ended }
+    {
+        if let Phase::Known(value) = self.phase {
+            return Some(NumberStep::Number(value));
+        }
+        let Some(decision) = self.phase.implied() else {
+            return self.step_coded(contexts, zp, meter);
+        };
+        self.take(decision);
+        None
+    }
+
+    /// One coded decision further, or what keeps it from being decoded.
+    fn step_coded<M: Meter>(
+        &mut self,
+        contexts: &mut NumberContexts,
+        zp: &mut ZpDecoder,
+        meter: &mut M,
+    ) -> Option<NumberStep>
+        requires unknown { is_known self.old.phase ≡ false }
+        requires coded { implied self.old.phase ≡ None }
+        requires below { AreBelow (length zp.old.table) contexts.old }
+        ensures goes { result ≡ None → (wanted : Wanted) (chunk : Chunk) (before : ℕ) (reading : Reading) →
+            Stands wanted chunk before reading self.old contexts.old zp.old (M.count meter.old) →
+            Stands wanted chunk before (step wanted chunk reading) self.new contexts.new zp.new (M.count meter.new) }
+        ensures stays { (end : NumberStep) (wanted : Wanted) (chunk : Chunk) (before : ℕ) (reading : Reading) → result ≡ Some end →
+            Stands wanted chunk before reading self.old contexts.old zp.old (M.count meter.old) →
+            Stands wanted chunk before reading self.new contexts.new zp.new (M.count meter.new) }
+        ensures ends { (end : NumberStep) (wanted : Wanted) (chunk : Chunk) (before : ℕ) (reading : Reading) → result ≡ Some end → end ≢ NumberStep.OutOfMemory →
+            Stands wanted chunk before reading self.old contexts.old zp.old (M.count meter.old) → Ends wanted chunk reading end }
+        ensures one { result ≡ None → self.new.path.count ≡ self.old.path.count + 1 }
+        ensures few { result ≡ None → self.old.path.count < 36 }
+        ensures below { AreBelow (length zp.new.table) contexts.new }
+        ensures table { zp.new.table ≡ zp.old.table }
+        ensures ended { zp.new.ended ≡ zp.old.ended }
+    {
+        let key = Key {
+            root: self.root,
+            path: self.path,
+        };
+        match contexts.decode(key, zp, meter) {
+            Ok(bit) => {
+                self.take(bit);
+                None
+            }
+            Err(stop) => Some(stop),
+        }
+    }
+
+    /// Reads on.
+    pub fn advance<M: Meter>(
+        &mut self,
+        contexts: &mut NumberContexts,
+        zp: &mut ZpDecoder,
+        meter: &mut M,
+    ) -> NumberStep
+        requires { AreBelow (length zp.old.table) contexts.old }
+        ensures answer { (wanted : Wanted) (chunk : Chunk) (before : ℕ) (reading : Reading) → result ≢ NumberStep.OutOfMemory →
+            Stands wanted chunk before reading self.old contexts.old zp.old (M.count meter.old) →
+            result ≡ answer_at wanted chunk (read_on wanted chunk reading) }
+        ensures stands { (wanted : Wanted) (chunk : Chunk) (before : ℕ) (reading : Reading) → result ≢ NumberStep.OutOfMemory →
+            Stands wanted chunk before reading self.old contexts.old zp.old (M.count meter.old) →
+            Stands wanted chunk before (read_on wanted chunk reading) self.new contexts.new zp.new (M.count meter.new) }
+        ensures out_of_memory { (wanted : Wanted) (chunk : Chunk) (before : ℕ) (reading : Reading) → result ≡ NumberStep.OutOfMemory →
+            Stands wanted chunk before reading self.old contexts.old zp.old (M.count meter.old) →
+            ((count : ℕ) × Stands wanted chunk before (steps count wanted chunk reading) self.new contexts.new zp.new (M.count meter.new)) }
+        ensures below { AreBelow (length zp.new.table) contexts.new }
+        ensures table { zp.new.table ≡ zp.old.table }
+        ensures ended { zp.new.ended ≡ zp.old.ended }
+    {
+        'decisions: loop {
+            if let Some(answer) = self.step(contexts, zp, meter) {
+                return answer;
+            }
+        }
     }
 }

@@ -165,3 +165,10 @@ pub read_on-ended : (wanted : Wanted) (chunk : Chunk) (reading : Reading) (n : �
     read_on wanted chunk reading ≡ steps n wanted chunk reading
 unfolding most_decisions
 read_on-ended wanted chunk reading n few last = steps_ended wanted chunk reading 36 n few last
+
+-- no step yet
+pub stands_first : (wanted : Wanted) (chunk : Chunk) (before : ℕ) (reading : Reading) (reader : Reader) (contexts : Numbers) (zp : Decoder) (count : ℕ) → Stands wanted chunk before reading reader contexts zp count →
+    Stands wanted chunk before (steps (reader.path.count - reader.path.count) wanted chunk reading) reader contexts zp count
+stands_first wanted chunk before reading reader contexts zp count stands =
+    let none : reader.path.count - reader.path.count ≡ 0 = omega arith in
+    subst (λ (k : ℕ). Stands wanted chunk before (steps k wanted chunk reading) reader contexts zp count) (sym none) stands

@@ -1,4 +1,4 @@
-use Rattle.std.proofs.Common.{◌≡◌, ◌-◌, ℕ, length}
+use Rattle.std.proofs.Common.{◌≡◌, ◌≤◌, ◌-◌, ℕ, length}
 use Rattle.jb2_numbers.specs.Contexts.{AreBelow}
 use Rattle.jb2_numbers.specs.Number.{Wanted, Chunk, Reading, steps}
 use Rattle.jb2_numbers.specs.Reader.{Stands}
@@ -8,7 +8,9 @@ abbrev pub invariant-decisions : goal.invariant-decisions
 invariant-decisions g l = record {
   stands : (wanted : Wanted) (chunk : Chunk) (before : ℕ) (reading : Reading) →
     Stands wanted chunk before reading l.initial.self l.initial.contexts l.initial.zp (g.M.Meter.count l.initial.meter) →
-    ((count : ℕ) × Stands wanted chunk before (steps count wanted chunk reading) l.self l.contexts l.zp (g.M.Meter.count l.meter));
+    Stands wanted chunk before (steps (l.self.path.count - l.initial.self.path.count) wanted chunk reading) l.self l.contexts l.zp (g.M.Meter.count l.meter);
+  more : l.initial.self.path.count ≤ l.self.path.count;
+  few : l.self.path.count - l.initial.self.path.count ≤ 36;
   below : AreBelow (length l.zp.table) l.contexts;
   table : l.zp.table ≡ l.initial.zp.table;
   ended : l.zp.ended ≡ l.initial.zp.ended;

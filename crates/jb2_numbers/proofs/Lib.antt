@@ -1,4 +1,5 @@
 pub mod Decoding
 pub mod Keys
+pub mod Names
 pub mod Sound
 pub mod Stepping

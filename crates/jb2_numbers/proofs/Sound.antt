@@ -9,8 +9,8 @@ use Rattle.jb2_numbers.specs.declared.contexts.Path.{Path}
 use Rattle.jb2_numbers.specs.declared.phases.Side.{Side}
 use Rattle.jb2_numbers.specs.declared.phases.Phase.{Phase}
 use Rattle.jb2_numbers.specs.declared.phases.Phase.TheVariants.{Sign, Doubling, Halving, Known}
-use Rattle.jb2_numbers.specs.Number.{at_least, opposite, side_of, number_of, halved, settled, next_phase, implied_by, implied}
-use Rattle.jb2_numbers.specs.Reader.{Reader, IsSound, is_sound, is_bounded, limit, allows, allows_by, is_known}
+use Rattle.jb2_numbers.specs.Number.{at_least, opposite, side_of, number_of, halved, settled, next_phase, implied_by, implied, allows, allows_by}
+use Rattle.jb2_numbers.specs.Reader.{Reader, IsSound, is_sound, is_bounded, limit, is_known}
 
 pub record DoublingFacts (count cutoff : ℕ) : Type 0 where
   pub some : 1 ≤ count

@@ -1,6 +1,6 @@
 -- Numbers of JB2 by the path of their decisions (DjVu 3 reference, JB2). A decision says whether the number is at least
 -- a cutoff.
-use Rattle.std.specs.Prelude.{ℕ, zero, suc, ◌+◌, ◌-◌, ◌*◌, ◌/◌, ◌==◌, ℤ, pos, negsuc, Bool, true, false, not, min, List, [], ◌∷◌, Option, Some, None, nat_le, if◌then◌else◌}
+use Rattle.std.specs.Prelude.{ℕ, zero, suc, ◌+◌, ◌-◌, ◌*◌, ◌/◌, ◌==◌, ℤ, pos, negsuc, Bool, true, false, not, min, List, [], ◌∷◌, Option, Some, None, nat_le, IsTrue, ⊤, if◌then◌else◌}
 use Rattle.zp_table.specs.declared.rows.Row.{Row}
 use Rattle.zp_decoder.specs.declared.decoder.Decision.{Decision}
 use Rattle.zp_decoder.specs.declared.decoder.Decision.TheVariants as decision
@@ -152,3 +152,28 @@ answer_at wanted chunk reading = answer_in wanted chunk reading (phase_after wan
 abbrev pub ticked : ℕ → ℕ → ℕ
 ticked zero count = count
 ticked (suc ticks) count = min (ticked ticks count + 1) 0xffff_ffff_ffff_ffff
+
+-- what a reading from here on answers, and how many decisions of the number were coded then
+abbrev pub answer_and_coded : Wanted → Chunk → Reading → NumberStep × ℕ
+answer_and_coded wanted chunk reading = (answer_at wanted chunk (read_on wanted chunk reading), (read_on wanted chunk reading).coded)
+
+abbrev pub wanted : Root → ℤ → ℤ → Wanted
+wanted root low high = record { root = root; low = low; high = high }
+
+abbrev pub chunk : List Row → List ℕ → Bool → Chunk
+chunk table payload ended = record { table = table; payload = payload; ended = ended }
+
+-- decisions that the bounds allow, each in its phase
+abbrev pub allows_by : ℤ → ℤ → ℕ → Bool → Bool
+allows_by low high cutoff true = at_least high cutoff
+allows_by low high cutoff false = not (at_least low cutoff)
+
+abbrev pub allows : Phase → Bool → Bool
+allows (Sign low high) decision = allows_by low high 0 decision
+allows (Doubling side cutoff) decision = allows_by side.low side.high cutoff decision
+allows (Halving side cutoff range) decision = allows_by side.low side.high cutoff decision
+allows (Known value) decision = false
+
+abbrev pub ArePossible : Wanted → List Bool → Type 0
+ArePossible wanted [] = ⊤
+ArePossible wanted (decision ∷ decisions) = ArePossible wanted decisions × IsTrue (allows (phase_after wanted decisions) decision)

@@ -1,5 +1,5 @@
 -- How a reader of numbers, the contexts and a decoder stand to the definition.
-use Rattle.std.specs.Prelude.{Option, Some, None, ◌≡◌, ℕ, ◌+◌, ◌*◌, ◌/◌, ◌^◌, ◌==◌, ℤ, Bool, true, false, not, ◌&&◌, List, nat_lt, nat_le, int_le, IsTrue}
+use Rattle.std.specs.Prelude.{Option, Some, None, ◌≡◌, ℕ, ◌+◌, ◌*◌, ◌/◌, ◌^◌, ◌==◌, ℤ, Bool, true, false, not, ◌&&◌, List, [], refl, nat_lt, nat_le, int_le, IsTrue}
 use Rattle.zp_decoder.specs.declared.decoder.Decision.{Decision}
 use Rattle.zp_decoder.specs.declared.decoder.Decision.TheVariants as decision
 use Rattle.zp_decoder.specs.Decision.{Adaptive, Interval, outcome_of}
@@ -13,7 +13,7 @@ use Rattle.jb2_numbers.specs.declared.phases.Side.{Side}
 use Rattle.jb2_numbers.specs.declared.phases.Phase.{Phase}
 use Rattle.jb2_numbers.specs.declared.phases.Phase.TheVariants.{Sign, Doubling, Halving, Known}
 use Rattle.jb2_numbers.specs.Contexts.{Numbers, Name, states_of, state_at, path_of, key_of, store}
-use Rattle.jb2_numbers.specs.Number.{Wanted, Chunk, Reading, at_least, opposite, phase_after, step, answer_at, ticked}
+use Rattle.jb2_numbers.specs.Number.{Wanted, Chunk, Reading, at_least, opposite, phase_after, begun, chunk, step, answer_at, ticked}
 
 -- what only the reader itself reads
 pub record Reader : Type 0 where
@@ -47,17 +47,6 @@ is_sound count (Sign low high) = (count == 0) && is_bounded low high && is_bound
 is_sound count (Doubling side cutoff) = nat_le 1 count && nat_le count 18 && (cutoff + 1 == 2 ^ count) && is_bounded side.low side.high
 is_sound count (Halving side cutoff range) = nat_le 2 range && nat_le range cutoff && nat_le (cutoff + range) (2 ^ 19) && nat_le (range * 2 ^ count) (2 ^ 36) && is_bounded side.low side.high
 is_sound count (Known value) = nat_le count 36
-
--- a decision that the bounds allow
-abbrev pub allows_by : ℤ → ℤ → ℕ → Bool → Bool
-allows_by low high cutoff true = at_least high cutoff
-allows_by low high cutoff false = not (at_least low cutoff)
-
-abbrev pub allows : Phase → Bool → Bool
-allows (Sign low high) decision = allows_by low high 0 decision
-allows (Doubling side cutoff) decision = allows_by side.low side.high cutoff decision
-allows (Halving side cutoff range) decision = allows_by side.low side.high cutoff decision
-allows (Known value) decision = false
 
 abbrev pub is_known : Phase → Bool
 is_known (Sign low high) = false
@@ -99,3 +88,8 @@ pub record Stops (key : Key) (contexts : Numbers) (zp : Decoder) (stop : NumberS
 pub record Ends (wanted : Wanted) (chunk : Chunk) (reading : Reading) (end : NumberStep) : Type 0 where
   pub last : step wanted chunk reading ≡ reading
   pub answer : answer_at wanted chunk reading ≡ end
+
+-- a number that was begun stands at the definition's start, whatever the decoder and the contexts were used for before
+pub stands_begun : (wanted : Wanted) (payload : List ℕ) (place : Option Interval) (reader : Reader) (contexts : Numbers) (zp : Decoder) (count : ℕ) → Reads wanted [] reader → Fed payload place zp →
+    Stands wanted (chunk zp.table payload zp.ended) count (begun (states_of contexts) place) reader contexts zp count
+stands_begun wanted payload place reader contexts zp count reads fed = record { reads = reads; states = refl; fed = fed; table = refl; ended = refl; ticks = refl }

@@ -2,10 +2,12 @@
 #![tactic(auto)]
 
 mod contexts;
+mod laws;
 mod phases;
 mod reader;
 mod roots;
 
 pub use contexts::NumberContexts;
+pub use laws::{names_differ, ticks_add_up, worked_numbers};
 pub use reader::{NumberReader, NumberStep};
 pub use roots::Root;

@@ -1,7 +1,7 @@
 //! What is known of a number before its next decision.
 ghost use Rattle.std.specs.Prelude.{◌≡◌, ◌+◌, ◌*◌, ◌/◌, ◌<◌, ◌≤◌, IsTrue};
-ghost use Rattle.jb2_numbers.specs.Number.{at_least, opposite, side_of, number_of, halved, settled, next_phase, implied_by, implied};
-ghost use Rattle.jb2_numbers.specs.Reader.{allows, is_sound};
+ghost use Rattle.jb2_numbers.specs.Number.{at_least, opposite, side_of, number_of, halved, settled, next_phase, implied_by, implied, allows};
+ghost use Rattle.jb2_numbers.specs.Reader.{is_sound};
 
 /// The sign of a number, and the bounds of its size: a negative number is `-size - 1`.
 #[derive(Clone, Copy, Debug)]

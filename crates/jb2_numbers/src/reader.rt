@@ -1,8 +1,8 @@
 //! The reader of a number.
 ghost use Rattle.std.specs.Prelude.{◌≡◌, ◌≢◌, ◌+◌, ◌-◌, ◌<◌, ◌≤ℤ◌, ℕ, ℤ, [], length, Bool, false, Some, None, negsuc, pos, IsTrue};
 ghost use Rattle.jb2_numbers.specs.Contexts.{AreBelow, with_decision};
-ghost use Rattle.jb2_numbers.specs.Number.{Wanted, Chunk, Reading, next_phase, implied, step, steps, read_on, answer_at};
-ghost use Rattle.jb2_numbers.specs.Reader.{Reads, Stands, Ends, allows, is_known};
+ghost use Rattle.jb2_numbers.specs.Number.{Wanted, Chunk, Reading, next_phase, implied, allows, step, steps, read_on, answer_at};
+ghost use Rattle.jb2_numbers.specs.Reader.{Reads, Stands, Ends, is_known};
 
 use crate::contexts::{Key, NumberContexts, Path};
 use crate::phases::Phase;

@@ -1,0 +1,38 @@
+//! Laws and worked values of the definitions, as clauses of functions that do nothing.
+ghost use Rattle.std.specs.Prelude.{◌≡◌, ◌↔◌, ◌+◌, ◌≤◌, ◌≤ℤ◌, ℕ, ℤ, pos, negsuc, Bool, true, false, List, [], ◌∷◌, length, min, Option, Some, None, IsTrue};
+ghost use Rattle.zp_table.specs.Listing.{flat_rows};
+ghost use Rattle.zp_decoder.specs.Decision.{Interval};
+ghost use Rattle.jb2_numbers.specs.declared.roots.Root.{Root};
+ghost use Rattle.jb2_numbers.specs.declared.reader.NumberStep.TheVariants as answer;
+ghost use Rattle.jb2_numbers.specs.Contexts.{Name, name, is_same, at_start};
+ghost use Rattle.jb2_numbers.specs.Number.{Wanted, wanted, Chunk, chunk, Reading, begun, steps, read_on, answer_at, answer_and_coded, ticked};
+
+/// With the table `flat`, in which each coded decision is a bit of the input inverted: the answer, and how many decisions
+/// are coded.
+pub fn worked_numbers()
+    // The decisions are 1 0 0, then 1 0 1, and 0 0 for a negative number.
+    ensures one { answer_and_coded (wanted Root.ShapeWidth (pos 0) (pos 262142)) (chunk flat_rows (0x7F ∷ []) true) (begun at_start None) ≡ (answer.Number (pos 1), 3) }
+    ensures two { answer_and_coded (wanted Root.ShapeWidth (pos 0) (pos 262142)) (chunk flat_rows (0x5F ∷ []) true) (begun at_start None) ≡ (answer.Number (pos 2), 3) }
+    ensures negative { answer_and_coded (wanted Root.NewRowX (negsuc 262142) (pos 262142)) (chunk flat_rows (0xFF ∷ []) true) (begun at_start None) ≡ (answer.Number (negsuc 0), 2) }
+
+    // Type 11 of 0 to 11 is 1111, and width 31 is 11111000000.
+    ensures eleven { answer_and_coded (wanted Root.RecordType (pos 0) (pos 11)) (chunk flat_rows (0x0F ∷ []) true) (begun at_start None) ≡ (answer.Number (pos 11), 4) }
+    ensures thirty_one { answer_and_coded (wanted Root.ShapeWidth (pos 0) (pos 262142)) (chunk flat_rows (0x07 ∷ 0xFF ∷ []) true) (begun at_start None) ≡ (answer.Number (pos 31), 11) }
+
+    // A range of one value, even before a byte arrived.
+    ensures alone { answer_and_coded (wanted Root.Match (pos 0) (pos 0)) (chunk flat_rows [] false) (begun at_start None) ≡ (answer.Number (pos 0), 0) }
+
+    // Four bytes determine one decision. Of an empty chunk 176 decisions can be decided.
+    ensures needs_bytes { answer_and_coded (wanted Root.ShapeWidth (pos 0) (pos 262142)) (chunk flat_rows (0x00 ∷ 0x00 ∷ 0x00 ∷ 0x00 ∷ []) false) (begun at_start None) ≡ (answer.NeedBytes, 1) }
+{}
+
+/// Two names are the same exactly where root and decisions are.
+pub fn names_differ()
+    ensures same { (a b : Name) → IsTrue (is_same a b) ↔ (a ≡ b) }
+    ensures parts { (a b : Name) → (a ≡ b) ↔ ((a.root ≡ b.root) × (a.decisions ≡ b.decisions)) }
+{}
+
+/// So many ticks raise a count by so many, up to 2 ^ 64 - 1.
+pub fn ticks_add_up()
+    ensures { (ticks count : ℕ) → count ≤ 0xffff_ffff_ffff_ffff → ticked ticks count ≡ min (count + ticks) 0xffff_ffff_ffff_ffff }
+{}

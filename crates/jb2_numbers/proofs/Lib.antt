@@ -1,4 +1,6 @@
+pub mod Bounds
 pub mod Decoding
+pub mod Ending
 pub mod Keys
 pub mod Names
 pub mod Sound

@@ -285,3 +285,9 @@ few_inside root path phase reader decision same sound allowed =
     let count : path.count ≡ reader.path.count = ap (λ (r : Reader). r.path.count) same in
     let few : reader.path.count < 36 = few_read root path phase reader decision same sound allowed in
     omega arith
+
+pub halving_few : (count : ℕ) (side : Side) (cutoff range : ℕ) → IsTrue (is_sound count (Halving side cutoff range)) → count ≤ 36
+halving_few count side cutoff range sound =
+    let facts = halving_facts count side cutoff range sound in
+    let few = few_decisions count range facts.some facts.few in
+    omega (arith, few)

@@ -35,20 +35,20 @@ key_of_reader : (wanted : Wanted) (decisions : List Bool) (reader : Reader) → 
 unfolding Reads
 key_of_reader wanted decisions reader reads = λ i. record { root = (reads.0) i; path = (reads.1) i }
 
-step_in_implied : (wanted : Wanted) (chunk : Chunk) (reading : Reading) (phase : Phase) (bit : Bool) → implied phase ≡ Some bit → step_in wanted chunk reading phase ≡ with_implied reading bit
+pub step_in_implied : (wanted : Wanted) (chunk : Chunk) (reading : Reading) (phase : Phase) (bit : Bool) → implied phase ≡ Some bit → step_in wanted chunk reading phase ≡ with_implied reading bit
 step_in_implied wanted chunk reading (Sign low high) bit e = ap (with_next wanted chunk reading) e
 step_in_implied wanted chunk reading (Doubling side cutoff) bit e = ap (with_next wanted chunk reading) e
 step_in_implied wanted chunk reading (Halving side cutoff range) bit e = ap (with_next wanted chunk reading) e
 step_in_implied wanted chunk reading (Known value) bit e = absurd (cc)
 
-step_in_coded : (wanted : Wanted) (chunk : Chunk) (reading : Reading) (phase : Phase) → is_known phase ≡ false → implied phase ≡ None →
+pub step_in_coded : (wanted : Wanted) (chunk : Chunk) (reading : Reading) (phase : Phase) → is_known phase ≡ false → implied phase ≡ None →
     step_in wanted chunk reading phase ≡ with_coded reading (name_at wanted reading) (next_coded wanted chunk reading) (next_coded wanted chunk reading).answer
 step_in_coded wanted chunk reading (Sign low high) unknown e = ap (with_next wanted chunk reading) e
 step_in_coded wanted chunk reading (Doubling side cutoff) unknown e = ap (with_next wanted chunk reading) e
 step_in_coded wanted chunk reading (Halving side cutoff range) unknown e = ap (with_next wanted chunk reading) e
 step_in_coded wanted chunk reading (Known value) unknown e = absurd (cc)
 
-answer_in_coded : (wanted : Wanted) (chunk : Chunk) (reading : Reading) (phase : Phase) → is_known phase ≡ false → answer_in wanted chunk reading phase ≡ answer_without (next_coded wanted chunk reading).answer
+pub answer_in_coded : (wanted : Wanted) (chunk : Chunk) (reading : Reading) (phase : Phase) → is_known phase ≡ false → answer_in wanted chunk reading phase ≡ answer_without (next_coded wanted chunk reading).answer
 answer_in_coded wanted chunk reading (Sign low high) unknown = refl
 answer_in_coded wanted chunk reading (Doubling side cutoff) unknown = refl
 answer_in_coded wanted chunk reading (Halving side cutoff range) unknown = refl

@@ -1,5 +1,5 @@
 -- How a reader of numbers, the contexts and a decoder stand to the definition.
-use Rattle.std.specs.Prelude.{Option, Some, None, ◌≡◌, ℕ, ◌+◌, ◌*◌, ◌/◌, ◌^◌, ◌==◌, ℤ, Bool, true, false, not, ◌&&◌, List, [], refl, nat_lt, nat_le, int_le, IsTrue}
+use Rattle.std.specs.Prelude.{Option, Some, None, ◌≡◌, ℕ, ◌+◌, ◌*◌, ◌/◌, ◌^◌, ◌==◌, ◌≤ℤ◌, ℤ, pos, negsuc, Bool, true, false, not, ◌&&◌, List, [], refl, nat_lt, nat_le, int_le, IsTrue}
 use Rattle.zp_decoder.specs.declared.decoder.Decision.{Decision}
 use Rattle.zp_decoder.specs.declared.decoder.Decision.TheVariants as decision
 use Rattle.zp_decoder.specs.Decision.{Adaptive, Interval, outcome_of}
@@ -37,6 +37,11 @@ pub record Stands (wanted : Wanted) (chunk : Chunk) (before : ℕ) (reading : Re
 -- the bounds of numbers are from -262,143 to 262,142
 unfoldable pub limit : ℕ
 limit = 262143
+
+pub record AreBounds (low high : ℤ) : Type 0 where
+  pub order : low ≤ℤ high
+  pub least : negsuc 262142 ≤ℤ low
+  pub most : high ≤ℤ pos 262142
 
 abbrev pub is_bounded : ℤ → ℤ → Bool
 is_bounded low high = int_le low high && not (at_least high limit)

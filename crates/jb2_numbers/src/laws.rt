@@ -1,11 +1,13 @@
 //! Laws and worked values of the definitions, as clauses of functions that do nothing.
-ghost use Rattle.std.specs.Prelude.{◌≡◌, ◌↔◌, ◌+◌, ◌≤◌, ◌≤ℤ◌, ℕ, ℤ, pos, negsuc, Bool, true, false, List, [], ◌∷◌, length, min, Option, Some, None, IsTrue};
+ghost use Rattle.std.specs.Prelude.{◌≡◌, ◌↔◌, ◌+◌, ◌≤◌, ◌≤ℤ◌, ℕ, ℤ, pos, negsuc, Bool, true, false, List, [], ◌∷◌, length, min, Option, Some, None, int_le, IsTrue};
 ghost use Rattle.zp_table.specs.Listing.{flat_rows};
 ghost use Rattle.zp_decoder.specs.Decision.{Interval};
 ghost use Rattle.jb2_numbers.specs.declared.roots.Root.{Root};
 ghost use Rattle.jb2_numbers.specs.declared.reader.NumberStep.TheVariants as answer;
+ghost use Rattle.jb2_numbers.specs.declared.phases.Phase.TheVariants.{Known};
 ghost use Rattle.jb2_numbers.specs.Contexts.{Name, name, is_same, at_start};
-ghost use Rattle.jb2_numbers.specs.Number.{Wanted, wanted, Chunk, chunk, Reading, begun, steps, read_on, answer_at, answer_and_coded, ticked};
+ghost use Rattle.jb2_numbers.specs.Number.{Wanted, wanted, Chunk, chunk, Reading, begun, steps, read_on, answer_at, answer_and_coded, ticked, phase_after, step, ArePossible};
+ghost use Rattle.jb2_numbers.specs.Reader.{AreBounds};
 
 /// With the table `flat`, in which each coded decision is a bit of the input inverted: the answer, and how many decisions
 /// are coded.
@@ -35,4 +37,21 @@ pub fn names_differ()
 /// So many ticks raise a count by so many, up to 2 ^ 64 - 1.
 pub fn ticks_add_up()
     ensures { (ticks count : ℕ) → count ≤ 0xffff_ffff_ffff_ffff → ticked ticks count ≡ min (count + ticks) 0xffff_ffff_ffff_ffff }
+{}
+
+/// A number that is known lies from its low bound to its high one, whatever was decoded, so long as each decision was
+/// implied or coded.
+pub fn numbers_lie_within()
+    ensures { (number : Wanted) (decisions : List Bool) (value : ℤ) → ArePossible number decisions → phase_after number decisions ≡ Known value →
+        IsTrue (int_le number.low value) × IsTrue (int_le value number.high) }
+{}
+
+/// A number has at most 36 decisions. Read on, it is known then, or the next decision is coded and isn't decided.
+pub fn numbers_end()
+    ensures few { (number : Wanted) (from : Chunk) (states : Name → ℕ) (place : Option Interval) (count : ℕ) → AreBounds number.low number.high →
+        length (steps count number from (begun states place)).decisions ≤ 36 }
+    ensures possible { (number : Wanted) (from : Chunk) (states : Name → ℕ) (place : Option Interval) (count : ℕ) → AreBounds number.low number.high →
+        ArePossible number (steps count number from (begun states place)).decisions }
+    ensures last { (number : Wanted) (from : Chunk) (states : Name → ℕ) (place : Option Interval) → AreBounds number.low number.high →
+        step number from (read_on number from (begun states place)) ≡ read_on number from (begun states place) }
 {}

@@ -39,11 +39,25 @@ pub fn ticks_add_up()
     ensures { (ticks count : ℕ) → count ≤ 0xffff_ffff_ffff_ffff → ticked ticks count ≡ min (count + ticks) 0xffff_ffff_ffff_ffff }
 {}
 
-/// A number that is known lies from its low bound to its high one, whatever was decoded, so long as each decision was
-/// implied or coded.
+/// A number that is answered lies from its low bound to its high one: whatever was decoded, so long as each decision is
+/// one that the bounds allow.
 pub fn numbers_lie_within()
-    ensures { (number : Wanted) (decisions : List Bool) (value : ℤ) → ArePossible number decisions → phase_after number decisions ≡ Known value →
+    ensures answered { (number : Wanted) (from : Chunk) (states : Name → ℕ) (place : Option Interval) (value : ℤ) → AreBounds number.low number.high →
+        answer_at number from (read_on number from (begun states place)) ≡ answer.Number value → IsTrue (int_le number.low value) × IsTrue (int_le value number.high) }
+    ensures known { (number : Wanted) (decisions : List Bool) (value : ℤ) → ArePossible number decisions → phase_after number decisions ≡ Known value →
         IsTrue (int_le number.low value) × IsTrue (int_le value number.high) }
+{}
+
+/// A number whose two bounds are one is that bound, and codes nothing.
+pub fn one_value_codes_nothing()
+    ensures answer { (number : Wanted) (from : Chunk) (states : Name → ℕ) (place : Option Interval) → AreBounds number.low number.high → number.low ≡ number.high →
+        answer_at number from (read_on number from (begun states place)) ≡ answer.Number number.low }
+    ensures nothing { (number : Wanted) (from : Chunk) (states : Name → ℕ) (place : Option Interval) → number.low ≡ number.high →
+        (read_on number from (begun states place)).coded ≡ 0 }
+    ensures states_stay { (number : Wanted) (from : Chunk) (states : Name → ℕ) (place : Option Interval) → number.low ≡ number.high →
+        (read_on number from (begun states place)).states ≡ states }
+    ensures place_stays { (number : Wanted) (from : Chunk) (states : Name → ℕ) (place : Option Interval) → number.low ≡ number.high →
+        (read_on number from (begun states place)).place ≡ place }
 {}
 
 /// A number has at most 36 decisions. Read on, it is known then, or the next decision is coded and isn't decided.

@@ -8,6 +8,9 @@ mod reader;
 mod roots;
 
 pub use contexts::NumberContexts;
-pub use laws::{names_differ, ticks_add_up, worked_numbers};
+pub use laws::{
+    names_differ, numbers_end, numbers_lie_within, one_value_codes_nothing, ticks_add_up,
+    worked_numbers,
+};
 pub use reader::{NumberReader, NumberStep};
 pub use roots::Root;

@@ -6,6 +6,8 @@ mod laws;
 mod phases;
 mod reader;
 mod roots;
+#[cfg(test)]
+mod tests;
 
 pub use contexts::NumberContexts;
 pub use laws::{

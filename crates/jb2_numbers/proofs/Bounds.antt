@@ -1,6 +1,6 @@
 -- A number that is known lies within its bounds.
-use Rattle.std.proofs.Common.{◌≡◌, ◌≤◌, ◌<◌, ◌+◌, ◌-◌, ◌*◌, ◌/◌, ◌^◌, ◌==◌, ℕ, zero, suc, ℤ, pos, negsuc, add-one, Bool, true, false, not, List, [], ◌∷◌, refl, sym, ap, subst, ◌∙◌, arith}
-use Rattle.std.specs.Prelude.{nat_lt, nat_le, int_le, IsTrue, if◌then◌else◌}
+use Rattle.std.proofs.Common.{◌≡◌, ◌≤◌, ◌<◌, ◌+◌, ◌-◌, ◌*◌, ◌/◌, ◌^◌, ◌==◌, ℕ, zero, suc, ℤ, pos, negsuc, Bool, true, false, not, List, [], ◌∷◌, refl, sym, subst, ◌∙◌, arith}
+use Rattle.std.specs.Prelude.{int_le, IsTrue}
 use Rattle.std.proofs.lemmas.Grind.{common_steps}
 use Rattle.std.proofs.lemmas.Nat.{pow_pos}
 use Rattle.std.proofs.Math.Nat.{pow-suc}
@@ -90,7 +90,7 @@ settled_by wanted side cutoff range zero power twice holds reached missed =
     let one : range ≡ 1 = power in
     let cut : cutoff ≡ 1 = omega (arith, one, twice) in
     subst (λ (r : ℕ). Keeps wanted (settled side cutoff r)) (sym one)
-      (holds.within 0 (reached_at side.high (cutoff / 2) 0 (omega (arith, cut)) reached) (missed_at side.low cutoff (0 + 1) (omega (arith, cut)) missed))
+    (holds.within 0 (reached_at side.high (cutoff / 2) 0 (omega (arith, cut)) reached) (missed_at side.low cutoff (0 + 1) (omega (arith, cut)) missed))
 settled_by wanted side cutoff range (suc exponent) power twice holds reached missed =
     let double : range ≡ 2 ^ exponent * 2 = power ∙ pow-suc 2 exponent in
     let some : 0 < 2 ^ exponent = pow_pos exponent in
@@ -125,7 +125,7 @@ halved_true : (wanted : Wanted) (side : Side) (cutoff range half exponent : ℕ)
 halved_true wanted side cutoff range half zero power twice is holds room reached missed =
     let one : half ≡ 1 = power in
     subst (λ (r : ℕ). Keeps wanted (halved side cutoff r true)) (sym one)
-      (holds.within cutoff reached (missed_at side.low (cutoff + range / 2) (cutoff + 1) (omega (arith, one, is)) missed))
+    (holds.within cutoff reached (missed_at side.low (cutoff + range / 2) (cutoff + 1) (omega (arith, one, is)) missed))
 halved_true wanted side cutoff range half (suc exponent) power twice is holds room reached missed =
     let double : half ≡ 2 ^ exponent * 2 = power ∙ pow-suc 2 exponent in
     let some : 0 < 2 ^ exponent = pow_pos exponent in
@@ -144,7 +144,7 @@ halved_false : (wanted : Wanted) (side : Side) (cutoff range half exponent : ℕ
 halved_false wanted side cutoff range half zero power twice is holds room reached missed =
     let one : half ≡ 1 = power in
     subst (λ (r : ℕ). Keeps wanted (halved side cutoff r false)) (sym one)
-      (holds.within (cutoff - 1) (reached_at side.high (cutoff - range / 2) (cutoff - 1) (omega (arith, one, is)) reached) (missed_at side.low cutoff (cutoff - 1 + 1) (omega (arith, one, twice, room)) missed))
+    (holds.within (cutoff - 1) (reached_at side.high (cutoff - range / 2) (cutoff - 1) (omega (arith, one, is)) reached) (missed_at side.low cutoff (cutoff - 1 + 1) (omega (arith, one, twice, room)) missed))
 halved_false wanted side cutoff range half (suc exponent) power twice is holds room reached missed =
     let double : half ≡ 2 ^ exponent * 2 = power ∙ pow-suc 2 exponent in
     let some : 0 < 2 ^ exponent = pow_pos exponent in

@@ -7,7 +7,7 @@ use Rattle.zp_decoder.specs.Decoder.{Decoder, Fed}
 use Rattle.jb2_numbers.specs.declared.roots.Root.{Root}
 use Rattle.jb2_numbers.specs.declared.contexts.Key.{Key}
 use Rattle.jb2_numbers.specs.Contexts.{Numbers, Name, name, key_of, state_at, states_of, store}
-use Rattle.jb2_numbers.specs.Reader.{Decides}
+use Rattle.jb2_numbers.specs.Steps.{Decides}
 
 pub decides_from : (key : Key) (contexts : Numbers) (zp : Decoder) (bit : Bool) (room contexts' : Numbers) (zp' : Decoder) (state next : ℕ) → state ≡ state_at contexts key →
     ((payload : List ℕ) (place : Option Interval) → Fed payload place zp → decision.Bit bit ≡ (outcome_of zp.table (Adaptive state) payload zp.ended place).answer) →
@@ -20,7 +20,7 @@ decides_from key contexts zp bit room contexts' zp' state next is answered fed m
   answers = λ payload place h. sym (subst (λ (s : ℕ). decision.Bit bit ≡ (outcome_of zp.table (Adaptive s) payload zp.ended place).answer) is (answered payload place h));
   feeds = λ payload place h. subst (λ (s : ℕ). Fed payload (outcome_of zp.table (Adaptive s) payload zp.ended place).place zp') is (fed payload place h);
   stores = λ payload place at h k.
-    stored at.root at.decisions k
-    ∙ (ap (λ (s : Name → ℕ). store s at next) same
-    ∙ ap (store (states_of contexts) at) (subst (λ (s : ℕ). next ≡ (outcome_of zp.table (Adaptive s) payload zp.ended place).state) is (moved payload place h)));
+      stored at.root at.decisions k
+      ∙ (ap (λ (s : Name → ℕ). store s at next) same
+      ∙ ap (store (states_of contexts) at) (subst (λ (s : ℕ). next ≡ (outcome_of zp.table (Adaptive s) payload zp.ended place).state) is (moved payload place h)));
 }

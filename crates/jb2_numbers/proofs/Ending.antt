@@ -1,17 +1,18 @@
 -- Which step comes, and that no number has more than 36 of them.
-use Rattle.std.proofs.Common.{◌≡◌, ◌≤◌, ◌<◌, ◌+◌, ◌/◌, ◌==◌, ℕ, zero, suc, ℤ, pos, negsuc, add-one, rules, ◌≤ℤ◌, Bool, true, false, List, [], ◌∷◌, length, refl, sym, ap, subst, ◌∙◌, inl, inr, arith}
-use Rattle.std.specs.Prelude.{◌⊎◌, Option, Some, None, int_le, IsTrue, if◌then◌else◌}
+use Rattle.std.proofs.Common.{◌≡◌, ◌≤◌, ◌+◌, ◌/◌, ◌==◌, ℕ, zero, suc, ℤ, pos, negsuc, add-one, rules, ◌≤ℤ◌, Bool, true, false, List, [], ◌∷◌, length, refl, sym, ap, subst, ◌∙◌, inl, inr, arith}
+use Rattle.std.specs.Prelude.{◌⊎◌, Option, Some, None, int_le, IsTrue}
 use Rattle.std.proofs.lemmas.Grind.{common_steps}
 use Rattle.zp_decoder.specs.declared.decoder.Decision.{Decision}
 use Rattle.zp_decoder.specs.declared.decoder.Decision.TheVariants as decision
-use Rattle.zp_decoder.specs.Decision.{Interval, Outcome}
+use Rattle.zp_decoder.specs.Decision.{Interval}
 use Rattle.jb2_numbers.specs.declared.phases.Side.{Side}
 use Rattle.jb2_numbers.specs.declared.phases.Phase.{Phase}
 use Rattle.jb2_numbers.specs.declared.phases.Phase.TheVariants.{Sign, Doubling, Halving, Known}
 use Rattle.jb2_numbers.specs.declared.reader.NumberStep.TheVariants as answer
 use Rattle.jb2_numbers.specs.Contexts.{Name}
-use Rattle.jb2_numbers.specs.Number.{Wanted, Chunk, Reading, at_least, opposite, side_of, settled, halved, next_phase, implied, implied_by, allows, phase_after, begun, name_at, next_coded, with_implied, with_coded, step_in, step, steps, most_decisions, read_on, answer_without, answer_in, answer_at, ArePossible}
-use Rattle.jb2_numbers.specs.Reader.{is_sound, is_known, limit, AreBounds}
+use Rattle.jb2_numbers.specs.Number.{Wanted, Chunk, Reading, at_least, opposite, settled, halved, next_phase, implied, implied_by, allows, phase_after, begun, name_at, next_coded, with_implied, with_coded, step_in, step, steps, most_decisions, read_on, answer_without, answer_in, answer_at, ArePossible}
+use Rattle.jb2_numbers.specs.Reader.{AreBounds}
+use Rattle.jb2_numbers.specs.Steps.{is_sound, is_known, limit}
 use Rattle.jb2_numbers.proofs.Sound.{next_sound, allowed_implied, allowed_coded, few_before, halving_few}
 use Rattle.jb2_numbers.proofs.Stepping.{step_in_implied, step_in_coded}
 use Rattle.jb2_numbers.proofs.Bounds.{within_bounds}
@@ -22,7 +23,7 @@ data Comes (wanted : Wanted) (chunk : Chunk) (reading : Reading) : Type 0 where
   waits : implied (phase_after wanted reading.decisions) ≡ None → is_known (phase_after wanted reading.decisions) ≡ false → step wanted chunk reading ≡ reading → Comes wanted chunk reading
   implies : (bit : Bool) → implied (phase_after wanted reading.decisions) ≡ Some bit → step wanted chunk reading ≡ with_implied reading bit → Comes wanted chunk reading
   codes : (bit : Bool) → is_known (phase_after wanted reading.decisions) ≡ false → implied (phase_after wanted reading.decisions) ≡ None →
-    step wanted chunk reading ≡ with_coded reading (name_at wanted reading) (next_coded wanted chunk reading) (decision.Bit bit) → Comes wanted chunk reading
+      step wanted chunk reading ≡ with_coded reading (name_at wanted reading) (next_coded wanted chunk reading) (decision.Bit bit) → Comes wanted chunk reading
 
 by_answer : (wanted : Wanted) (chunk : Chunk) (reading : Reading) (given : Decision) → (next_coded wanted chunk reading).answer ≡ given →
     is_known (phase_after wanted reading.decisions) ≡ false → implied (phase_after wanted reading.decisions) ≡ None → Comes wanted chunk reading
@@ -115,9 +116,9 @@ longer wanted chunk states place (suc count) =
     elim (longer wanted chunk states place count) [
       | inl same ↦ inl (ap (step wanted chunk) same)
       | inr e ↦ elim (longer_by wanted chunk (steps count wanted chunk (begun states place)) count e (comes wanted chunk (steps count wanted chunk (begun states place)))) [
-          | inl same ↦ inl (ap (step wanted chunk) same)
-          | inr f ↦ inr f
-        ]
+        | inl same ↦ inl (ap (step wanted chunk) same)
+        | inr f ↦ inr f
+      ]
     ]
 
 full_ends : (wanted : Wanted) (chunk : Chunk) (reading : Reading) → length reading.decisions ≡ 36 → Goes wanted reading → Comes wanted chunk reading → step wanted chunk reading ≡ reading
@@ -160,7 +161,7 @@ pub answer_within : (wanted : Wanted) (chunk : Chunk) (states : Name → ℕ) (p
 answer_within wanted chunk states place value bounds answered =
     let reading : Reading = read_on wanted chunk (begun states place) in
     within_bounds wanted reading.decisions value (possible_after wanted chunk states place most_decisions bounds)
-      (known_answer wanted chunk reading (phase_after wanted reading.decisions) (next_coded wanted chunk reading).answer value refl answered)
+    (known_answer wanted chunk reading (phase_after wanted reading.decisions) (next_coded wanted chunk reading).answer value refl answered)
 
 -- bounds that are one
 

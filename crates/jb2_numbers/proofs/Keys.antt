@@ -1,5 +1,5 @@
 -- The order of the keys, and what a map by keys says of the states by names.
-use Rattle.std.proofs.Common.{◌≡◌, ◌<◌, ◌+◌, ◌*◌, ◌&&◌, ◌==◌, ℕ, zero, suc, Bool, true, false, cond, List, [], ◌∷◌, refl, sym, ap, ap₂, subst, ◌∙◌, not, arith}
+use Rattle.std.proofs.Common.{◌≡◌, ◌<◌, ◌+◌, ◌*◌, ◌&&◌, ◌==◌, ℕ, Bool, true, false, cond, List, [], ◌∷◌, refl, sym, ap, ap₂, subst, ◌∙◌, not, arith}
 use Rattle.std.specs.Prelude.{Option, Some, None, unwrap_or, is_some, if◌then◌else◌, IsTrue}
 use Rattle.std.proofs.lemmas.Grind.{common_steps}
 use Rattle.std.specs.declared.cmp.Ordering.{Ordering}
@@ -11,9 +11,8 @@ use Rattle.std.specs.BTreeMap.{BTreeMap, get, get_by}
 use Rattle.jb2_numbers.specs.declared.roots.Root.{Root}
 use Rattle.jb2_numbers.specs.declared.roots.Root.TheVariants.{RecordType, InheritedCount, ImageSize, Match, ShapeWidth, ShapeHeight, WidthDifference, HeightDifference, AbsoluteLeft, AbsoluteTop, NewRowX, NewRowY, SameRowX, SameRowY, CommentLength, CommentByte}
 use Rattle.jb2_numbers.specs.declared.contexts.Key.{Key}
-use Rattle.jb2_numbers.specs.declared.contexts.Path.{Path}
 use Rattle.jb2_numbers.specs.Roots.{is_same_root}
-use Rattle.jb2_numbers.specs.Contexts.{Numbers, Name, is_same, is_same_bit, are_same, is_same_path, is_same_key, with_decision, path_of, key_of, state_at, states_of, store, has_room, AreBelow}
+use Rattle.jb2_numbers.specs.Contexts.{Numbers, Name, is_same, are_same, is_same_path, is_same_key, with_decision, path_of, key_of, state_at, states_of, store, has_room, AreBelow}
 use Rattle.jb2_numbers.specs.contracts.contexts.KeyOrd as key
 use Rattle.jb2_numbers.specs.contracts.roots.RootOrd as root
 
@@ -52,7 +51,7 @@ pub key_cmp-same : (a b : Key) → is_eq (key_cmp a b) ≡ is_same_key a b
 key_cmp-same a b =
     is_eq-then ((root.TheImpl.cmp-value).it a.root b.root) (ordering_then (nat_cmp a.path.count b.path.count) (nat_cmp a.path.bits b.path.bits))
     ∙ ap₂ ◌&&◌ (root_cmp a.root b.root)
-      (is_eq-then (nat_cmp a.path.count b.path.count) (nat_cmp a.path.bits b.path.bits) ∙ ap₂ ◌&&◌ (is_eq-nat a.path.count b.path.count) (is_eq-nat a.path.bits b.path.bits))
+    (is_eq-then (nat_cmp a.path.count b.path.count) (nat_cmp a.path.bits b.path.bits) ∙ ap₂ ◌&&◌ (is_eq-nat a.path.count b.path.count) (is_eq-nat a.path.bits b.path.bits))
 
 pub lookup_same : (a : Key) (es : List (Key × ℕ)) → lookup (λ b. is_eq (key_cmp a b)) es ≡ lookup (is_same_key a) es
 lookup_same a es = ap (λ (test : Key → Bool). lookup test es) (fun_ext (λ b. key_cmp-same a b))
@@ -116,7 +115,7 @@ pub states_of-written : (m n : BTreeMap Key ℕ) (w : ℕ) (at : Name) →
 unfolding states_of
 states_of-written m n w at e =
     fun_ext (λ other. state_at-written m n (key_of at) w (key_of other) (e (key_of other))
-      ∙ ap (λ (b : Bool). if b then w else state_at (kept_in m) (key_of other)) (key_of-same at other))
+    ∙ ap (λ (b : Bool). if b then w else state_at (kept_in m) (key_of other)) (key_of-same at other))
 
 tied : (o : Ordering) → is_eq o ≡ true → o ≡ Equal
 tied Less e = absurd (cc)
@@ -128,7 +127,7 @@ state_at-same : (m : BTreeMap Key ℕ) (a q : Key) → is_same_key a q ≡ true 
 state_at-same m a q same =
     state_at-get m q
     ∙ (ap (λ (test : Key → Bool). unwrap_or (lookup test m.entries) 0)
-        (fun_ext (λ z. ap is_eq (sym (key.TheImpl.Laws.total-law.congr a q z (tied (key_cmp a q) (key_cmp-same a q ∙ same))))))
+    (fun_ext (λ z. ap is_eq (sym (key.TheImpl.Laws.total-law.congr a q z (tied (key_cmp a q) (key_cmp-same a q ∙ same))))))
     ∙ sym (state_at-get m a))
 
 room_by : (m : BTreeMap Key ℕ) (a q : Key) (b : Bool) → is_same_key a q ≡ b → state_at (kept_in m) a ≡ 0 → (if b then 0 else state_at (kept_in m) q) ≡ state_at (kept_in m) q

@@ -95,9 +95,12 @@ name_from_parts a b parts = λ i. record { root = (parts.0) i; decisions = (part
 
 pub same_names : (a b : Name) → IsTrue (is_same a b) ↔ (a ≡ b)
 same_names a b = (
-  (λ e. name_from_parts a b (same_root a.root b.root (first_holds (is_same_root a.root b.root) (are_same a.decisions b.decisions) e),
-    same_decisions a.decisions b.decisions (second_holds (is_same_root a.root b.root) (are_same a.decisions b.decisions) e))),
-  (λ e. subst (λ (n : Name). is_same a n ≡ true) e (name_itself a)))
+  (λ e. name_from_parts a b (
+    same_root a.root b.root (first_holds (is_same_root a.root b.root) (are_same a.decisions b.decisions) e),
+    same_decisions a.decisions b.decisions (second_holds (is_same_root a.root b.root) (are_same a.decisions b.decisions) e),
+  )),
+  (λ e. subst (λ (n : Name). is_same a n ≡ true) e (name_itself a)),
+)
 
 pub same_parts : (a b : Name) → (a ≡ b) ↔ ((a.root ≡ b.root) × (a.decisions ≡ b.decisions))
 same_parts a b = ((λ e. (ap (λ (n : Name). n.root) e, ap (λ (n : Name). n.decisions) e)), name_from_parts a b)

@@ -1,6 +1,6 @@
 -- What phases keep to, and how many decisions lead to them.
-use Rattle.std.proofs.Common.{◌≡◌, ◌≤◌, ◌<◌, ◌+◌, ◌-◌, ◌*◌, ◌/◌, ◌^◌, ◌==◌, ◌&&◌, ℕ, zero, suc, ℤ, pos, negsuc, add-one, pow-add, Bool, true, false, not, refl, sym, ap, subst, ◌∙◌, arith}
-use Rattle.std.specs.Prelude.{Some, None, nat_lt, nat_le, int_le, IsTrue, if◌then◌else◌}
+use Rattle.std.proofs.Common.{◌≡◌, ◌≤◌, ◌<◌, ◌+◌, ◌-◌, ◌*◌, ◌/◌, ◌^◌, ◌==◌, ℕ, zero, suc, ℤ, pos, negsuc, add-one, pow-add, Bool, true, false, not, refl, sym, ap, subst, ◌∙◌, arith}
+use Rattle.std.specs.Prelude.{Some, None, nat_le, int_le, IsTrue, if◌then◌else◌}
 use Rattle.std.proofs.lemmas.Grind.{common_steps}
 use Rattle.std.proofs.Math.Nat.{pow-suc, mul-le-mul_right}
 use Rattle.std.proofs.Math.Pow.{pow_mono}
@@ -9,8 +9,9 @@ use Rattle.jb2_numbers.specs.declared.contexts.Path.{Path}
 use Rattle.jb2_numbers.specs.declared.phases.Side.{Side}
 use Rattle.jb2_numbers.specs.declared.phases.Phase.{Phase}
 use Rattle.jb2_numbers.specs.declared.phases.Phase.TheVariants.{Sign, Doubling, Halving, Known}
-use Rattle.jb2_numbers.specs.Number.{at_least, opposite, side_of, number_of, halved, settled, next_phase, implied_by, implied, allows, allows_by}
-use Rattle.jb2_numbers.specs.Reader.{Reader, IsSound, is_sound, is_bounded, limit, is_known}
+use Rattle.jb2_numbers.specs.Number.{at_least, side_of, number_of, halved, settled, next_phase, implied_by, implied, allows, allows_by}
+use Rattle.jb2_numbers.specs.Reader.{Reader}
+use Rattle.jb2_numbers.specs.Steps.{IsSound, is_sound, is_bounded, limit, is_known}
 
 pub record DoublingFacts (count cutoff : ℕ) : Type 0 where
   pub some : 1 ≤ count

@@ -1,10 +1,9 @@
 -- A step of the reader is a step of the definition.
-use Rattle.std.proofs.Common.{◌≡◌, ◌≢◌, ◌≤◌, ◌<◌, ◌+◌, ◌-◌, ℕ, zero, suc, ℤ, Bool, true, false, List, ◌∷◌, refl, sym, ap, subst, ◌∙◌, inl, inr, arith}
-use Rattle.std.specs.Prelude.{◌⊎◌, Option, Some, None, min}
-use Rattle.std.proofs.lemmas.Grind.{common_steps}
+use Rattle.std.proofs.Common.{◌≡◌, ◌≢◌, ◌≤◌, ◌+◌, ◌-◌, ℕ, zero, suc, ℤ, Bool, false, List, ◌∷◌, refl, sym, ap, subst, ◌∙◌, inl, inr, arith}
+use Rattle.std.specs.Prelude.{◌⊎◌, Some, None, min}
 use Rattle.zp_decoder.specs.declared.decoder.Decision.{Decision}
 use Rattle.zp_decoder.specs.declared.decoder.Decision.TheVariants as decision
-use Rattle.zp_decoder.specs.Decision.{Adaptive, Interval, Outcome, outcome_of}
+use Rattle.zp_decoder.specs.Decision.{Adaptive, Outcome, outcome_of}
 use Rattle.zp_decoder.specs.Decoder.{Decoder, Fed}
 use Rattle.jb2_numbers.specs.declared.contexts.Key.{Key}
 use Rattle.jb2_numbers.specs.declared.contexts.Path.{Path}
@@ -12,9 +11,10 @@ use Rattle.jb2_numbers.specs.declared.phases.Phase.{Phase}
 use Rattle.jb2_numbers.specs.declared.phases.Phase.TheVariants.{Sign, Doubling, Halving, Known}
 use Rattle.jb2_numbers.specs.declared.reader.NumberStep.{NumberStep}
 use Rattle.jb2_numbers.specs.declared.reader.NumberStep.TheVariants as answer
-use Rattle.jb2_numbers.specs.Contexts.{Numbers, Name, name, with_decision, path_of, key_of, state_at, states_of, store}
-use Rattle.jb2_numbers.specs.Number.{Wanted, Chunk, Reading, next_phase, implied, phase_after, name_at, next_coded, with_implied, with_coded, with_next, step_in, step, steps, most_decisions, read_on, answer_without, answer_in, answer_at, ticked}
-use Rattle.jb2_numbers.specs.Reader.{Reader, Reads, Stands, Decides, Stops, Ends, decision_of, is_stop, is_known}
+use Rattle.jb2_numbers.specs.Contexts.{Numbers, Name, name, with_decision, key_of, state_at, states_of, store}
+use Rattle.jb2_numbers.specs.Number.{Wanted, Chunk, Reading, next_phase, implied, phase_after, name_at, next_coded, with_implied, with_coded, with_next, step_in, step, steps, most_decisions, read_on, answer_without, answer_in}
+use Rattle.jb2_numbers.specs.Reader.{Reader, Reads, Stands, Ends}
+use Rattle.jb2_numbers.specs.Steps.{Decides, Stops, decision_of, is_known}
 
 -- what a decision leaves of the reader
 pub record Takes (old new : Reader) (bit : Bool) : Type 0 where
@@ -103,8 +103,8 @@ module _ (wanted : Wanted) (chunk : Chunk) (before : ℕ) (reading : Reading) (o
       subst (λ (r : Reading). Stands wanted chunk before r new contexts' zp' count') (sym same) (record {
         reads = reads_on wanted reading.decisions old new bit takes stands.reads;
         states = decides.stores chunk.payload reading.place (name_at wanted reading) stands.fed key_is
-          ∙ (ap (λ (x : Outcome). store (states_of contexts) (name_at wanted reading) x.state) outcome_is
-          ∙ ap (λ (s : Name → ℕ). store s (name_at wanted reading) o.state) stands.states);
+            ∙ (ap (λ (x : Outcome). store (states_of contexts) (name_at wanted reading) x.state) outcome_is
+            ∙ ap (λ (s : Name → ℕ). store s (name_at wanted reading) o.state) stands.states);
         fed = subst (λ (x : Outcome). Fed chunk.payload x.place zp') outcome_is (decides.feeds chunk.payload reading.place stands.fed);
         table = table ∙ stands.table;
         ended = ended ∙ stands.ended;

@@ -2,7 +2,7 @@
 ghost use Rattle.std.specs.Prelude.{◌≡◌, ◌+◌, ◌*◌, ◌^◌, ◌<◌, List, [], Bool, ℕ, length, min, IfOk, IfErr, OnOk, OnErr, not, IsTrue};
 ghost use Rattle.jb2_numbers.specs.declared.roots.Root.{Root as RootValue};
 ghost use Rattle.jb2_numbers.specs.Contexts.{Numbers, name, at_start, store, with_decision, path_of, key_of, has_room, state_at, states_of, AreBelow};
-ghost use Rattle.jb2_numbers.specs.Reader.{Decides, Stops};
+ghost use Rattle.jb2_numbers.specs.Steps.{Decides, Stops};
 
 use crate::reader::NumberStep;
 use crate::roots::Root;

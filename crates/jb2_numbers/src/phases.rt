@@ -1,7 +1,7 @@
 //! What is known of a number before its next decision.
 ghost use Rattle.std.specs.Prelude.{◌≡◌, ◌+◌, ◌*◌, ◌/◌, ◌<◌, ◌≤◌, IsTrue};
 ghost use Rattle.jb2_numbers.specs.Number.{at_least, opposite, side_of, number_of, halved, settled, next_phase, implied_by, implied, allows};
-ghost use Rattle.jb2_numbers.specs.Reader.{is_sound};
+ghost use Rattle.jb2_numbers.specs.Steps.{is_sound};
 
 /// The sign of a number, and the bounds of its size: a negative number is `-size - 1`.
 #[derive(Clone, Copy, Debug)]
@@ -129,7 +129,11 @@ fn halved(side: Side, cutoff: u32, range: u32, decision: bool) -> Phase
         let half = range / 2;
         Phase::Halving(
             side,
-            if decision { cutoff + half } else { cutoff - half },
+            if decision {
+                cutoff + half
+            } else {
+                cutoff - half
+            },
             range,
         )
     }

@@ -1,8 +1,9 @@
-//! The reader of a number.
+//! The reader of a number: it stands between decisions, so that it can go on where bytes or memory were wanting.
 ghost use Rattle.std.specs.Prelude.{◌≡◌, ◌≢◌, ◌+◌, ◌-◌, ◌<◌, ◌≤ℤ◌, ℕ, ℤ, [], length, Bool, false, Some, None, negsuc, pos, IsTrue};
 ghost use Rattle.jb2_numbers.specs.Contexts.{AreBelow, with_decision};
 ghost use Rattle.jb2_numbers.specs.Number.{Wanted, Chunk, Reading, next_phase, implied, allows, step, steps, read_on, answer_at};
-ghost use Rattle.jb2_numbers.specs.Reader.{Reads, Stands, Ends, is_known};
+ghost use Rattle.jb2_numbers.specs.Reader.{Reads, Stands, Ends};
+ghost use Rattle.jb2_numbers.specs.Steps.{is_known};
 
 use crate::contexts::{Key, NumberContexts, Path};
 use crate::phases::Phase;
@@ -14,17 +15,21 @@ use zp_decoder::ZpDecoder;
 /// What a reader of numbers answers.
 #[derive(Clone, Copy, Debug, PartialEq, Eq)]
 pub enum NumberStep {
-    /// The number is known.
+    /// The number. A further call answers it again.
     Number(i32),
-    /// The bytes that arrived don't determine the next decision.
+    /// The bytes that arrived don't determine the next decision: exactly where the definition stands there.
     NeedBytes,
-    /// All bytes of the chunk arrived, and the next decision would have more than 192 bits past their end in use.
+    /// All bytes of the chunk arrived, and with the next decision more than 192 bits past their end would be in use:
+    /// exactly where the definition stands there.
     Exhausted,
-    /// There was no memory for a context.
+    /// There was no memory for the context of the next decision, which is made room for before it is decoded.
     OutOfMemory,
 }
 
 /// Reads one number (DjVu 3 reference, JB2).
+///
+/// Contracts speak of it by `Reads number decisions reader`: of this number, with its root and bounds, it has read these
+/// decisions, the last one first. `Stands` says this together with what contexts, decoder and meter then hold.
 #[derive(Debug, Drop)]
 pub struct NumberReader {
     root: Root,
@@ -33,7 +38,8 @@ pub struct NumberReader {
 }
 
 impl Model for NumberReader {
-    ghost use Rattle.jb2_numbers.specs.Reader.{Reader, IsSound};
+    ghost use Rattle.jb2_numbers.specs.Reader.{Reader};
+    ghost use Rattle.jb2_numbers.specs.Steps.{IsSound};
 
     ghost Value = { Reader };
 
@@ -43,8 +49,8 @@ impl Model for NumberReader {
 }
 
 impl NumberReader {
-    /// Begins a number from low to high.
-    #[tactic(auto, unfolding(crate::specs::Reader::Reads, crate::specs::Reader::limit))]
+    /// Begins a number from low to high, both from -262,143 to 262,142. No decision is read yet.
+    #[tactic(auto, unfolding(crate::specs::Reader::Reads, crate::specs::Steps::limit))]
     pub fn begin(low: i32, high: i32, root: Root) -> NumberReader
         requires order { low ≤ℤ high }
         requires least { negsuc 262142 ≤ℤ low }
@@ -139,7 +145,11 @@ impl NumberReader {
         }
     }
 
-    /// Reads on.
+    /// Reads on, as far as the bytes determine it. Each coded decision ticks the meter once.
+    ///
+    /// After every answer reader, contexts, decoder and meter stand where the definition stands: after an `OutOfMemory`
+    /// that is after the decisions that were ticked, and after each other answer as far as the bytes go. The next call
+    /// goes on from there.
     pub fn advance<M: Meter>(
         &mut self,
         contexts: &mut NumberContexts,

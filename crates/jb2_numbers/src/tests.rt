@@ -130,12 +130,21 @@ fn a_number_waits_for_bytes(rt: HostRuntime) -> Result<(), Fail> {
     let mut contexts = NumberContexts::new(rt.alloc());
     let mut meter = CountMeter::new();
     let mut reader = NumberReader::begin(0, 262_142, Root::Match);
-    assert_eq!(rt; reader.advance(&mut contexts, &mut zp, &mut meter), NumberStep::NeedBytes);
+    assert_eq!(rt;
+        reader.advance(&mut contexts, &mut zp, &mut meter),
+        NumberStep::NeedBytes
+    );
     zp.push(&[0x5F, 0xFF, 0xFF, 0xFF])?;
-    assert_eq!(rt; reader.advance(&mut contexts, &mut zp, &mut meter), NumberStep::NeedBytes);
+    assert_eq!(rt;
+        reader.advance(&mut contexts, &mut zp, &mut meter),
+        NumberStep::NeedBytes
+    );
     assert_eq!(rt; meter.count(), 1);
     zp.end();
-    assert_eq!(rt; reader.advance(&mut contexts, &mut zp, &mut meter), NumberStep::Number(2));
+    assert_eq!(rt;
+        reader.advance(&mut contexts, &mut zp, &mut meter),
+        NumberStep::Number(2)
+    );
     assert_eq!(rt; meter.count(), 3);
     Ok(())
 }

@@ -30,4 +30,3 @@ returns-clause-alone c = refl
 pub returns-clause-needs_bytes : goal.returns-clause-needs_bytes
 unfolding most_bits most_decisions
 returns-clause-needs_bytes c = refl
-

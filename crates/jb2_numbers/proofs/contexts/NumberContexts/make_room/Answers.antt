@@ -1,5 +1,5 @@
-use Rattle.std.proofs.Common.{refl, sym, ap, ◌∙◌}
-use Rattle.std.specs.Prelude.{Some, None, unwrap_or, is_some, not}
+use Rattle.std.proofs.Common.{refl}
+use Rattle.std.specs.Prelude.{Some, None}
 use Rattle.jb2_numbers.proofs.Keys.{found_at}
 use Rattle.jb2_numbers.proofs.contexts.NumberContexts.make_room.Goals as goal
 

@@ -1,9 +1,9 @@
-use Rattle.std.proofs.Common.{◌≡◌, ◌<◌, ◌≤◌, ◌+◌, ◌^◌, ℕ, subst, sym, arith}
+use Rattle.std.proofs.Common.{subst}
 use Rattle.std.specs.Prelude.{IsTrue}
 use Rattle.jb2_numbers.specs.declared.phases.Phase.{Phase}
 use Rattle.jb2_numbers.specs.declared.phases.Phase.TheVariants.{Doubling, Halving}
-use Rattle.jb2_numbers.specs.Reader.{is_sound}
-use Rattle.jb2_numbers.proofs.Sound.{DoublingFacts, doubling_facts, power_below, doubling_some, doubling_below, next_sound_at}
+use Rattle.jb2_numbers.specs.Steps.{is_sound}
+use Rattle.jb2_numbers.proofs.Sound.{doubling_some, doubling_below, next_sound_at}
 use Rattle.jb2_numbers.proofs.phases.Phase.next.Goals as goal
 
 pub doubled-requires-clause-some : goal.doubled-requires-clause-some

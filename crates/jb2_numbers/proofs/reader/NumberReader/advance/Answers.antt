@@ -1,5 +1,5 @@
 use Rattle.std.proofs.Common.{◌≡◌, ◌≤◌, ◌<◌, ◌+◌, ◌-◌, ℕ, suc, refl, sym, ap, subst, ◌∙◌, arith}
-use Rattle.jb2_numbers.specs.Number.{Reading, steps, read_on, answer_at}
+use Rattle.jb2_numbers.specs.Number.{Reading, steps, answer_at}
 use Rattle.jb2_numbers.specs.Reader.{Stands, Ends}
 use Rattle.jb2_numbers.proofs.Stepping.{stands_first, read_on-ended}
 use Rattle.jb2_numbers.proofs.reader.NumberReader.advance.Goals as goal
@@ -25,7 +25,7 @@ decisions-preserved g c =
     let later : next - first ≡ suc (now - first) = omega arith in
     record {
       stands = λ wanted chunk before reading start.
-        subst (λ (k : ℕ). Stands wanted chunk before (steps k wanted chunk reading) c.step.new.self c.step.new.contexts c.step.new.zp (g.M.Meter.count c.step.new.meter)) (sym later)
+          subst (λ (k : ℕ). Stands wanted chunk before (steps k wanted chunk reading) c.step.new.self c.step.new.contexts c.step.new.zp (g.M.Meter.count c.step.new.meter)) (sym later)
           (c.in_default.ensures.goes refl wanted chunk before (steps (now - first) wanted chunk reading) (c.decisions.invariant.stands wanted chunk before reading start));
       more = omega arith;
       few = omega arith;
@@ -47,8 +47,8 @@ returns-in-Some-clause-stands g c wanted chunk before reading memory start =
     let here = c.decisions.invariant.stands wanted chunk before reading start in
     let ends : Ends wanted chunk (steps count wanted chunk reading) c.in-Some.answer = c.in-Some.ensures.ends c.in-Some.answer wanted chunk before (steps count wanted chunk reading) refl memory here in
     subst (λ (r : Reading). Stands wanted chunk before r c.step.new.self c.step.new.contexts c.step.new.zp (g.M.Meter.count c.step.new.meter))
-      (sym (read_on-ended wanted chunk reading count c.decisions.invariant.few ends.last))
-      (c.in-Some.ensures.stays c.in-Some.answer wanted chunk before (steps count wanted chunk reading) refl here)
+    (sym (read_on-ended wanted chunk reading count c.decisions.invariant.few ends.last))
+    (c.in-Some.ensures.stays c.in-Some.answer wanted chunk before (steps count wanted chunk reading) refl here)
 
 pub returns-in-Some-clause-out_of_memory : goal.returns-in-Some-clause-out_of_memory
 returns-in-Some-clause-out_of_memory g c wanted chunk before reading memory start =

@@ -1,4 +1,4 @@
-use Rattle.std.proofs.Common.{◌≡◌, ℤ, refl, sym, ap, subst, ◌∙◌, to_z, of_z, w32, arith, rules}
+use Rattle.std.proofs.Common.{◌≡◌, ℤ, refl, sym, ap, subst, ◌∙◌, to_z, of_z, w32, rules}
 use Rattle.std.specs.Prelude.{Option, unwrap_or}
 use Rattle.jb2_numbers.specs.declared.phases.Phase.TheVariants.{Known}
 use Rattle.jb2_numbers.specs.declared.reader.NumberStep.{NumberStep}
@@ -15,13 +15,13 @@ returns-in-Known-clause-ends g c end wanted chunk before reading is memory stand
     let same : answer.Number (to_z w32 (of_z w32 c.in-Known.value)) ≡ end = ap (λ (o : Option NumberStep). unwrap_or o end) is in
     let phase : c.args.self.now.phase ≡ Known c.in-Known.value = ap (λ (r : Reader). r.phase) (sym c.self.view_is) ∙ c.in-Known.is in
     subst (Ends wanted chunk reading) (ap (λ (v : ℤ). answer.Number v) (sym fits) ∙ same)
-      (ends_known wanted chunk before reading c.args.self.now c.args.self.now c.args.contexts.now c.args.contexts.now c.args.zp.now c.args.zp.now
-        (g.M.Meter.count c.args.meter.now) (g.M.Meter.count c.args.meter.now) stands c.in-Known.value phase)
+    (ends_known wanted chunk before reading c.args.self.now c.args.self.now c.args.contexts.now c.args.contexts.now c.args.zp.now c.args.zp.now
+    (g.M.Meter.count c.args.meter.now) (g.M.Meter.count c.args.meter.now) stands c.in-Known.value phase)
 
 pub returns : goal.returns
 returns g c = record {
   goes = λ none wanted chunk before reading stands.
-    stands_implied wanted chunk before reading c.args.self.now c.take.new.self c.args.contexts.now c.args.contexts.now c.args.zp.now c.args.zp.now
+      stands_implied wanted chunk before reading c.args.self.now c.take.new.self c.args.contexts.now c.args.contexts.now c.args.zp.now c.args.zp.now
       (g.M.Meter.count c.args.meter.now) (g.M.Meter.count c.args.meter.now) stands c.in-Some.decision
       (record { root = c.take.ensures.root; path = c.take.ensures.path; phase = c.take.ensures.phase })
       (ap (λ (r : Reader). implied r.phase) (sym c.self.view_is) ∙ sym c.in-Some.ensures);

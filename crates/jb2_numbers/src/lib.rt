@@ -17,8 +17,8 @@ mod tests;
 
 pub use contexts::NumberContexts;
 pub use laws::{
-    names_differ, numbers_end, numbers_lie_within, one_value_codes_nothing, ticks_add_up,
-    worked_numbers,
+    names_differ, numbers_end, numbers_lie_within, one_value_codes_nothing, states_are_below,
+    ticks_add_up, worked_numbers,
 };
 pub use reader::{NumberReader, NumberStep};
 pub use roots::Root;

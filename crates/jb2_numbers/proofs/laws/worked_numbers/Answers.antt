@@ -30,3 +30,11 @@ returns-clause-alone c = refl
 pub returns-clause-needs_bytes : goal.returns-clause-needs_bytes
 unfolding most_bits most_decisions
 returns-clause-needs_bytes c = refl
+
+pub returns-clause-path_of_eleven : goal.returns-clause-path_of_eleven
+unfolding most_bits most_decisions
+returns-clause-path_of_eleven c = refl
+
+pub returns-clause-path_of_thirty_one : goal.returns-clause-path_of_thirty_one
+unfolding most_bits most_decisions
+returns-clause-path_of_thirty_one c = refl

@@ -1,0 +1,110 @@
+-- When two names are the same.
+use Rattle.std.proofs.Common.{◌≡◌, ◌==◌, ◌&&◌, ◌+◌, ◌≤◌, ℕ, zero, suc, Bool, true, false, List, [], ◌∷◌, refl, sym, ap, ap₂, subst, ◌∙◌, min, arith}
+use Rattle.std.specs.Prelude.{◌↔◌, IsTrue}
+use Rattle.std.proofs.lemmas.Grind.{common_steps}
+use Rattle.jb2_numbers.specs.declared.roots.Root.{Root}
+use Rattle.jb2_numbers.specs.declared.roots.Root.TheVariants.{RecordType, InheritedCount, ImageSize, Match, ShapeWidth, ShapeHeight, WidthDifference, HeightDifference, AbsoluteLeft, AbsoluteTop, NewRowX, NewRowY, SameRowX, SameRowY, CommentLength, CommentByte}
+use Rattle.jb2_numbers.specs.Roots.{root_index, is_same_root}
+use Rattle.jb2_numbers.specs.Contexts.{Name, is_same, is_same_bit, are_same}
+use Rattle.jb2_numbers.specs.Number.{ticked}
+
+-- the roots in order
+abbrev root_from : List Root → ℕ → Root
+root_from [] index = RecordType
+root_from (root ∷ roots) zero = root
+root_from (root ∷ roots) (suc index) = root_from roots index
+
+abbrev all_roots : List Root
+all_roots = RecordType ∷ InheritedCount ∷ ImageSize ∷ Match ∷ ShapeWidth ∷ ShapeHeight ∷ WidthDifference ∷ HeightDifference ∷ AbsoluteLeft ∷ AbsoluteTop ∷ NewRowX ∷ NewRowY ∷ SameRowX ∷ SameRowY ∷ CommentLength ∷ CommentByte ∷ []
+
+found_again : (a : Root) → root_from all_roots (root_index a) ≡ a
+found_again RecordType = refl
+found_again InheritedCount = refl
+found_again ImageSize = refl
+found_again Match = refl
+found_again ShapeWidth = refl
+found_again ShapeHeight = refl
+found_again WidthDifference = refl
+found_again HeightDifference = refl
+found_again AbsoluteLeft = refl
+found_again AbsoluteTop = refl
+found_again NewRowX = refl
+found_again NewRowY = refl
+found_again SameRowX = refl
+found_again SameRowY = refl
+found_again CommentLength = refl
+found_again CommentByte = refl
+
+same_index : (a b : ℕ) → (a == b) ≡ true → a ≡ b
+same_index a b e = grind (arith, common_steps)
+
+same_root : (a b : Root) → is_same_root a b ≡ true → a ≡ b
+same_root a b e = sym (found_again a) ∙ (ap (root_from all_roots) (same_index (root_index a) (root_index b) e) ∙ found_again b)
+
+first_holds : (a b : Bool) → (a && b) ≡ true → a ≡ true
+first_holds true b e = refl
+first_holds false b e = absurd (cc)
+
+second_holds : (a b : Bool) → (a && b) ≡ true → b ≡ true
+second_holds true b e = e
+second_holds false b e = absurd (cc)
+
+same_bit : (a b : Bool) → is_same_bit a b ≡ true → a ≡ b
+same_bit true true e = refl
+same_bit true false e = absurd (cc)
+same_bit false true e = absurd (cc)
+same_bit false false e = refl
+
+same_decisions : (a b : List Bool) → are_same a b ≡ true → a ≡ b
+same_decisions [] [] e = refl
+same_decisions [] (d ∷ b) e = absurd (cc)
+same_decisions (d ∷ a) [] e = absurd (cc)
+same_decisions (c ∷ a) (d ∷ b) e = ap₂ (λ (x : Bool) (xs : List Bool). x ∷ xs) (same_bit c d (first_holds (is_same_bit c d) (are_same a b) e)) (same_decisions a b (second_holds (is_same_bit c d) (are_same a b) e))
+
+bit_itself : (a : Bool) → is_same_bit a a ≡ true
+bit_itself true = refl
+bit_itself false = refl
+
+decisions_themselves : (a : List Bool) → are_same a a ≡ true
+decisions_themselves [] = refl
+decisions_themselves (d ∷ a) = ap₂ ◌&&◌ (bit_itself d) (decisions_themselves a)
+
+root_itself : (a : Root) → is_same_root a a ≡ true
+root_itself RecordType = refl
+root_itself InheritedCount = refl
+root_itself ImageSize = refl
+root_itself Match = refl
+root_itself ShapeWidth = refl
+root_itself ShapeHeight = refl
+root_itself WidthDifference = refl
+root_itself HeightDifference = refl
+root_itself AbsoluteLeft = refl
+root_itself AbsoluteTop = refl
+root_itself NewRowX = refl
+root_itself NewRowY = refl
+root_itself SameRowX = refl
+root_itself SameRowY = refl
+root_itself CommentLength = refl
+root_itself CommentByte = refl
+
+name_itself : (a : Name) → is_same a a ≡ true
+name_itself a = ap₂ ◌&&◌ (root_itself a.root) (decisions_themselves a.decisions)
+
+name_from_parts : (a b : Name) → (a.root ≡ b.root) × (a.decisions ≡ b.decisions) → a ≡ b
+name_from_parts a b parts = λ i. record { root = (parts.0) i; decisions = (parts.1) i }
+
+pub same_names : (a b : Name) → IsTrue (is_same a b) ↔ (a ≡ b)
+same_names a b = (
+  (λ e. name_from_parts a b (
+    same_root a.root b.root (first_holds (is_same_root a.root b.root) (are_same a.decisions b.decisions) e),
+    same_decisions a.decisions b.decisions (second_holds (is_same_root a.root b.root) (are_same a.decisions b.decisions) e),
+  )),
+  (λ e. subst (λ (n : Name). is_same a n ≡ true) e (name_itself a)),
+)
+
+pub same_parts : (a b : Name) → (a ≡ b) ↔ ((a.root ≡ b.root) × (a.decisions ≡ b.decisions))
+same_parts a b = ((λ e. (ap (λ (n : Name). n.root) e, ap (λ (n : Name). n.decisions) e)), name_from_parts a b)
+
+pub ticks_added : (ticks count : ℕ) → count ≤ 0xffff_ffff_ffff_ffff → ticked ticks count ≡ min (count + ticks) 0xffff_ffff_ffff_ffff
+ticks_added zero count low = omega arith
+ticks_added (suc ticks) count low = let before = ticks_added ticks count low in omega (arith, before)

@@ -1,0 +1,45 @@
+-- How a reader of numbers, the contexts, a decoder and a meter stand to the definition.
+use Rattle.std.specs.Prelude.{◌≡◌, ℕ, ◌≤ℤ◌, ℤ, pos, negsuc, Bool, List, [], Option, refl}
+use Rattle.zp_decoder.specs.Decision.{Interval}
+use Rattle.zp_decoder.specs.Decoder.{Decoder, Fed}
+use Rattle.jb2_numbers.specs.declared.reader.NumberStep.{NumberStep}
+use Rattle.jb2_numbers.specs.declared.roots.Root.{Root}
+use Rattle.jb2_numbers.specs.declared.contexts.Path.{Path}
+use Rattle.jb2_numbers.specs.declared.phases.Phase.{Phase}
+use Rattle.jb2_numbers.specs.Contexts.{Numbers, states_of, path_of}
+use Rattle.jb2_numbers.specs.Number.{Wanted, Chunk, Reading, phase_after, begun, chunk, step, answer_at, ticked}
+
+-- low and high are bounds of a number
+pub record AreBounds (low high : ℤ) : Type 0 where
+  pub order : low ≤ℤ high
+  pub least : negsuc 262142 ≤ℤ low
+  pub most : high ≤ℤ pos 262142
+
+-- what only the reader itself reads
+pub record Reader : Type 0 where
+  pub root : Root
+  pub path : Path
+  pub phase : Phase
+
+-- the reader has read these decisions of this number, the last one first
+unfoldable pub Reads : Wanted → List Bool → Reader → Type 0
+Reads wanted decisions reader = (reader.root ≡ wanted.root) × (reader.path ≡ path_of decisions) × (reader.phase ≡ phase_after wanted decisions)
+
+-- reader, contexts, decoder and meter stand where the definition stands, with the ticks since this count
+pub record Stands (wanted : Wanted) (chunk : Chunk) (before : ℕ) (reading : Reading) (reader : Reader) (contexts : Numbers) (zp : Decoder) (count : ℕ) : Type 0 where
+  pub reads : Reads wanted reading.decisions reader
+  pub states : states_of contexts ≡ reading.states
+  pub fed : Fed chunk.payload reading.place zp
+  pub table : zp.table ≡ chunk.table
+  pub ended : zp.ended ≡ chunk.ended
+  pub ticks : count ≡ ticked reading.coded before
+
+-- where a reading ends: no decision follows, and this is the answer
+pub record Ends (wanted : Wanted) (chunk : Chunk) (reading : Reading) (end : NumberStep) : Type 0 where
+  pub last : step wanted chunk reading ≡ reading
+  pub answer : answer_at wanted chunk reading ≡ end
+
+-- a number that was begun stands at the definition's start, whatever the decoder and the contexts were used for before
+pub stands_begun : (wanted : Wanted) (payload : List ℕ) (place : Option Interval) (reader : Reader) (contexts : Numbers) (zp : Decoder) (count : ℕ) → Reads wanted [] reader → Fed payload place zp →
+    Stands wanted (chunk zp.table payload zp.ended) count (begun (states_of contexts) place) reader contexts zp count
+stands_begun wanted payload place reader contexts zp count reads fed = record { reads = reads; states = refl; fed = fed; table = refl; ended = refl; ticks = refl }

@@ -1,0 +1,83 @@
+//! Laws and worked values of the definitions, as clauses of functions that do nothing.
+ghost use Rattle.std.specs.Prelude.{◌≡◌, ◌↔◌, ◌+◌, ◌<◌, ◌≤◌, ◌≤ℤ◌, ℕ, ℤ, pos, negsuc, Bool, true, false, List, [], ◌∷◌, length, min, Option, Some, None, int_le, IsTrue};
+ghost use Rattle.zp_table.specs.Listing.{flat_rows};
+ghost use Rattle.zp_decoder.specs.Decision.{Interval};
+ghost use Rattle.jb2_numbers.specs.declared.roots.Root.{Root};
+ghost use Rattle.jb2_numbers.specs.declared.reader.NumberStep.TheVariants as answer;
+ghost use Rattle.jb2_numbers.specs.declared.phases.Phase.TheVariants.{Known};
+ghost use Rattle.jb2_numbers.specs.Contexts.{Name, Numbers, AreBelow, is_same, at_start, states_of};
+ghost use Rattle.jb2_numbers.specs.Number.{Wanted, wanted, Chunk, chunk, Reading, begun, steps, read_on, answer_at, answer_and_coded, ticked, phase_after, step, ArePossible};
+ghost use Rattle.jb2_numbers.specs.Reader.{AreBounds};
+
+/// With the table `flat`, in which each coded decision is a bit of the input inverted: the answer, and how many decisions
+/// are coded.
+pub fn worked_numbers()
+    // The decisions are 1 0 0, then 1 0 1, and 0 0 for a negative number.
+    ensures one { answer_and_coded (wanted Root.ShapeWidth (pos 0) (pos 262142)) (chunk flat_rows (0x7F ∷ []) true) (begun at_start None) ≡ (answer.Number (pos 1), 3) }
+    ensures two { answer_and_coded (wanted Root.ShapeWidth (pos 0) (pos 262142)) (chunk flat_rows (0x5F ∷ []) true) (begun at_start None) ≡ (answer.Number (pos 2), 3) }
+    ensures negative { answer_and_coded (wanted Root.NewRowX (negsuc 262142) (pos 262142)) (chunk flat_rows (0xFF ∷ []) true) (begun at_start None) ≡ (answer.Number (negsuc 0), 2) }
+
+    // Type 11 of 0 to 11 is 1111, and width 31 is 11111000000. The decisions, the last one first, have the implied ones
+    // among them: a type's sign, and that it is below 15, 13 and 12.
+    ensures eleven { answer_and_coded (wanted Root.RecordType (pos 0) (pos 11)) (chunk flat_rows (0x0F ∷ []) true) (begun at_start None) ≡ (answer.Number (pos 11), 4) }
+    ensures thirty_one { answer_and_coded (wanted Root.ShapeWidth (pos 0) (pos 262142)) (chunk flat_rows (0x07 ∷ 0xFF ∷ []) true) (begun at_start None) ≡ (answer.Number (pos 31), 11) }
+
+    ensures path_of_eleven { (read_on (wanted Root.RecordType (pos 0) (pos 11)) (chunk flat_rows (0x0F ∷ []) true) (begun at_start None)).decisions ≡
+        false ∷ false ∷ true ∷ false ∷ true ∷ true ∷ true ∷ true ∷ [] }
+    ensures path_of_thirty_one { (read_on (wanted Root.ShapeWidth (pos 0) (pos 262142)) (chunk flat_rows (0x07 ∷ 0xFF ∷ []) true) (begun at_start None)).decisions ≡
+        false ∷ false ∷ false ∷ false ∷ false ∷ false ∷ true ∷ true ∷ true ∷ true ∷ true ∷ true ∷ [] }
+
+    // A range of one value, even before a byte arrived.
+    ensures alone { answer_and_coded (wanted Root.Match (pos 0) (pos 0)) (chunk flat_rows [] false) (begun at_start None) ≡ (answer.Number (pos 0), 0) }
+
+    // Four bytes determine one decision.
+    ensures needs_bytes { answer_and_coded (wanted Root.ShapeWidth (pos 0) (pos 262142)) (chunk flat_rows (0x00 ∷ 0x00 ∷ 0x00 ∷ 0x00 ∷ []) false) (begun at_start None) ≡ (answer.NeedBytes, 1) }
+{}
+
+/// Two names are the same exactly where root and decisions are.
+pub fn names_differ()
+    ensures same { (a b : Name) → IsTrue (is_same a b) ↔ (a ≡ b) }
+    ensures parts { (a b : Name) → (a ≡ b) ↔ ((a.root ≡ b.root) × (a.decisions ≡ b.decisions)) }
+{}
+
+/// Where all states are below a count, each name's is.
+pub fn states_are_below()
+    ensures { (count : ℕ) (contexts : Numbers) (at : Name) → AreBelow count contexts → states_of contexts at < count }
+{}
+
+/// So many ticks raise a count by so many, up to 2 ^ 64 - 1.
+pub fn ticks_add_up()
+    ensures { (ticks count : ℕ) → count ≤ 0xffff_ffff_ffff_ffff → ticked ticks count ≡ min (count + ticks) 0xffff_ffff_ffff_ffff }
+{}
+
+/// A number that is answered lies from its low bound to its high one: whatever was decoded, so long as each decision is
+/// one that the bounds allow.
+pub fn numbers_lie_within()
+    ensures answered { (number : Wanted) (from : Chunk) (states : Name → ℕ) (place : Option Interval) (value : ℤ) → AreBounds number.low number.high →
+        answer_at number from (read_on number from (begun states place)) ≡ answer.Number value → IsTrue (int_le number.low value) × IsTrue (int_le value number.high) }
+    ensures known { (number : Wanted) (decisions : List Bool) (value : ℤ) → ArePossible number decisions → phase_after number decisions ≡ Known value →
+        IsTrue (int_le number.low value) × IsTrue (int_le value number.high) }
+{}
+
+/// A number whose two bounds are one is that bound, and codes nothing: each of its decisions is implied, true exactly
+/// where the bound is at least the cutoff.
+pub fn one_value_codes_nothing()
+    ensures answer { (number : Wanted) (from : Chunk) (states : Name → ℕ) (place : Option Interval) → AreBounds number.low number.high → number.low ≡ number.high →
+        answer_at number from (read_on number from (begun states place)) ≡ answer.Number number.low }
+    ensures nothing { (number : Wanted) (from : Chunk) (states : Name → ℕ) (place : Option Interval) → number.low ≡ number.high →
+        (read_on number from (begun states place)).coded ≡ 0 }
+    ensures states_stay { (number : Wanted) (from : Chunk) (states : Name → ℕ) (place : Option Interval) → number.low ≡ number.high →
+        (read_on number from (begun states place)).states ≡ states }
+    ensures place_stays { (number : Wanted) (from : Chunk) (states : Name → ℕ) (place : Option Interval) → number.low ≡ number.high →
+        (read_on number from (begun states place)).place ≡ place }
+{}
+
+/// A number has at most 36 decisions. Read on, it is known then, or the next decision is coded and isn't decided.
+pub fn numbers_end()
+    ensures few { (number : Wanted) (from : Chunk) (states : Name → ℕ) (place : Option Interval) (count : ℕ) → AreBounds number.low number.high →
+        length (steps count number from (begun states place)).decisions ≤ 36 }
+    ensures possible { (number : Wanted) (from : Chunk) (states : Name → ℕ) (place : Option Interval) (count : ℕ) → AreBounds number.low number.high →
+        ArePossible number (steps count number from (begun states place)).decisions }
+    ensures last { (number : Wanted) (from : Chunk) (states : Name → ℕ) (place : Option Interval) → AreBounds number.low number.high →
+        step number from (read_on number from (begun states place)) ≡ read_on number from (begun states place) }
+{}

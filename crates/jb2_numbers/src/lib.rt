@@ -1,0 +1,24 @@
+//! Numbers of JB2 by the path of their decisions (DjVu 3 reference, JB2).
+//!
+//! A number between two bounds is read by decisions of the ZP decoder, each whether it is at least a cutoff. Those that
+//! the bounds imply aren't coded; each other one has a context, named by what the number stands for and by all decisions
+//! of it before. `specs/` has the definitions: `Roots` (what numbers stand for), `Contexts` (names, and states by name),
+//! `Number` (phases, decisions, and what a number is), `Reader` (how a reader, contexts, decoder and meter stand to that)
+//! and `Steps` (what only the reader needs).
+#![tactic(auto)]
+
+mod contexts;
+mod laws;
+mod phases;
+mod reader;
+mod roots;
+#[cfg(test)]
+mod tests;
+
+pub use contexts::NumberContexts;
+pub use laws::{
+    names_differ, numbers_end, numbers_lie_within, one_value_codes_nothing, states_are_below,
+    ticks_add_up, worked_numbers,
+};
+pub use reader::{NumberReader, NumberStep};
+pub use roots::Root;

@@ -1,0 +1,16 @@
+//! Shapes of JB2, direct and refined: one pixel after the other, out of the decisions of the ZP decoder (DjVu 3 reference,
+//! JB2).
+#![tactic(auto)]
+
+mod canvas;
+mod contexts;
+mod direct;
+mod laws;
+mod pixels;
+mod steps;
+mod windows;
+
+pub use contexts::ShapeContexts;
+pub use direct::DirectReader;
+pub use laws::worked_shapes;
+pub use steps::ShapeStep;

@@ -5,7 +5,7 @@ ghost use Rattle.zp_decoder.specs.Decision.{Interval};
 ghost use Rattle.zp_decoder.specs.Decoder.{Fed};
 ghost use Rattle.jb2_shapes.specs.Contexts.{AreBelow};
 ghost use Rattle.jb2_shapes.specs.Numbers.{states_of};
-ghost use Rattle.jb2_shapes.specs.Steps.{Reads, Counts};
+ghost use Rattle.jb2_shapes.specs.Steps.{Reads, Counts, ticked};
 ghost use Rattle.jb2_shapes.specs.Shape.{direct_reading, direct_context, progress, empty_sketch, IsWhole};
 
 use crate::canvas::Canvas;
@@ -73,7 +73,7 @@ impl DirectReader {
 
         // Each pixel that was read ticked once.
         ensures grows { self.old.number ≤ self.new.number }
-        ensures ticks { M.count meter.new ≡ min (M.count meter.old + (self.new.number - self.old.number)) (2 ^ 64 - 1) }
+        ensures ticks { M.count meter.new ≡ ticked (M.count meter.old) (self.new.number - self.old.number) }
     {
         read_pixels(&mut self.canvas, contexts, zp, meter)
     }

@@ -84,12 +84,20 @@ keeps_first context zp sketch states count below =
       table = refl;
       ended = refl;
       below = below;
-      counts = record { grows = omega arith; ticks = ap (ticked count) (sym none) };
+      counts = record { width = refl; height = refl; grows = omega arith; ticks = ap (ticked count) (sym none) };
     }
 
 one_more : (sketch : Sketch) (bit : Bool) → (with_pixel sketch bit).number ≡ sketch.number + 1
 one_more sketch true = refl
 one_more sketch false = refl
+
+same_width : (sketch : Sketch) (bit : Bool) → (with_pixel sketch bit).shape.width ≡ sketch.shape.width
+same_width sketch true = refl
+same_width sketch false = refl
+
+same_height : (sketch : Sketch) (bit : Bool) → (with_pixel sketch bit).shape.height ≡ sketch.shape.height
+same_height sketch true = refl
+same_height sketch false = refl
 
 counts_on : (count : ℕ) (old now new : Sketch) (now_count new_count : ℕ) (bit : Bool) → Counts count old now_count now →
     new ≡ with_pixel now bit → new_count ≡ min (now_count + 1) 0xffff_ffff_ffff_ffff → Counts count old new_count new
@@ -98,6 +106,8 @@ counts_on count old now new now_count new_count bit counts is ticks =
     let grows = counts.grows in
     let difference : suc (now.number - old.number) ≡ new.number - old.number = omega arith in
     record {
+      width = ap (λ (s : Sketch). s.shape.width) is ∙ same_width now bit ∙ counts.width;
+      height = ap (λ (s : Sketch). s.shape.height) is ∙ same_height now bit ∙ counts.height;
       grows = omega arith;
       ticks =
         ticked_once_more count (now.number - old.number) new_count (ticks ∙ ap (λ n. min (n + 1) 0xffff_ffff_ffff_ffff) counts.ticks)
@@ -264,7 +274,12 @@ pub counts_same : (count : ℕ) (old now new : Sketch) (now_count new_count : �
 counts_same count old now new now_count new_count counts p q =
     let number : new.number ≡ now.number = ap (λ (s : Sketch). s.number) p in
     let grows = counts.grows in
-    record { grows = omega arith; ticks = q ∙ counts.ticks ∙ ap (λ n. ticked count (n - old.number)) (sym number) }
+    record {
+      width = ap (λ (s : Sketch). s.shape.width) p ∙ counts.width;
+      height = ap (λ (s : Sketch). s.shape.height) p ∙ counts.height;
+      grows = omega arith;
+      ticks = q ∙ counts.ticks ∙ ap (λ n. ticked count (n - old.number)) (sym number);
+    }
 
 false-is-true : false ≡ true → ⊥
 false-is-true e = cc

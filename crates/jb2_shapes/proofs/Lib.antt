@@ -1,3 +1,4 @@
 pub mod Numbering
 pub mod Windowing
 pub mod Going
+pub mod Refining

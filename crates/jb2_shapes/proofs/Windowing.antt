@@ -1,5 +1,5 @@
 -- Windows move right by one digit a row, and a pixel that is read isn't in its own window.
-use Rattle.std.proofs.Common.{◌≡◌, ℕ, suc, ◌+◌, ◌-◌, ◌*◌, ◌/◌, ◌%◌, ◌<◌, ◌≤◌, Bool, true, false, ◌&&◌, ◌||◌, eqb, List, [], ◌∷◌, ℤ, pos, negsuc, ◌+ℤ◌, ◌-ℤ◌, refl, ap, sym, subst, ◌∙◌, arith, inl, inr}
+use Rattle.std.proofs.Common.{◌≡◌, ℕ, suc, ◌+◌, ◌-◌, ◌*◌, ◌/◌, ◌%◌, ◌<◌, ◌≤◌, Bool, true, false, ◌&&◌, ◌||◌, eqb, List, [], ◌∷◌, ◌++◌, ℤ, pos, negsuc, ◌+ℤ◌, ◌-ℤ◌, refl, ap, sym, subst, ◌∙◌, arith, inl, inr}
 use Rattle.std.proofs.lemmas.Int.{ints}
 use Rattle.std.proofs.lemmas.Bool.{cases_Bool, cases_lt, and_parts, eqb-true}
 use Rattle.std.proofs.lemmas.Nat.{div_below, mod_below, div-add-mod', div-mul-add, mod-mul-add}
@@ -10,7 +10,9 @@ use Rattle.bit_plane.proofs.PixelLemmas.{wide}
 use Rattle.jb2_shapes.specs.Shape.{Sketch, IsUnread, column_of, row_of, with_pixel, direct_context}
 use Rattle.jb2_shapes.specs.Numbers.{digit, number_from, number_of, number_limit, IsNumber}
 use Rattle.jb2_shapes.specs.declared.windows.DirectWindow.{DirectWindow}
-use Rattle.jb2_shapes.specs.Windows.{IsDirectWindow}
+use Rattle.jb2_shapes.specs.declared.windows.RefinedWindow.{RefinedWindow}
+use Rattle.jb2_shapes.specs.Refined.{Matching, matching_context, new_colours, matched_colours}
+use Rattle.jb2_shapes.specs.Windows.{IsDirectWindow, IsRefinedWindow}
 
 pub digit-le : (colour : Bool) → digit colour ≤ 1
 digit-le true = omega arith
@@ -161,18 +163,6 @@ next_in_row n w some more =
           absurd (omega arith)
     ]
 
-same_width : (sketch : Sketch) (bit : Bool) → (with_pixel sketch bit).shape.width ≡ sketch.shape.width
-same_width sketch true = refl
-same_width sketch false = refl
-
-same_height : (sketch : Sketch) (bit : Bool) → (with_pixel sketch bit).shape.height ≡ sketch.shape.height
-same_height sketch true = refl
-same_height sketch false = refl
-
-one_more : (sketch : Sketch) (bit : Bool) → (with_pixel sketch bit).number ≡ sketch.number + 1
-one_more sketch true = refl
-one_more sketch false = refl
-
 -- ---- a window after its pixel was read, and before the next pixel of its row
 
 pub window_still : (sketch : Sketch) (bit : Bool) (window : DirectWindow) → IsUnread sketch →
@@ -217,3 +207,114 @@ pub window_before : (sketch new : Sketch) (bit : Bool) (window : DirectWindow) �
 window_before sketch new bit window is unread at more =
     let P : Sketch → Type 0 = λ s. 0 < column_of s → IsDirectWindow s.shape (pos (column_of s) -ℤ pos 1) (pos (row_of s)) window in
     subst P (sym is) (before_of sketch bit window unread at) more
+
+-- ---- windows of refined shapes
+
+pub three_on : (shape : Pixels) (left x y : ℤ) (old new : ℕ) (colour : Bool) → left +ℤ pos 1 ≡ x →
+    old ≡ number_from 0 (is_black shape (left -ℤ pos 1) y ∷ is_black shape left y ∷ is_black shape (left +ℤ pos 1) y ∷ []) →
+    new ≡ 2 * (old % 4) + digit colour → colour ≡ is_black shape (x +ℤ pos 1) y →
+    new ≡ number_from 0 (is_black shape (x -ℤ pos 1) y ∷ is_black shape x y ∷ is_black shape (x +ℤ pos 1) y ∷ [])
+three_on shape left x y old new colour e p q r =
+    let back : left ≡ x -ℤ pos 1 = omega (arith, ints) in
+    three_right _ _ _ colour old new p q
+    ∙ three_same (ap (λ a. is_black shape a y) back) (ap (λ a. is_black shape a y) e) r
+
+pub refined_right : (matching : Matching) (shape : Pixels) (x y : ℤ) (window new : RefinedWindow) (above beside under : Bool) →
+    IsRefinedWindow matching shape (x -ℤ pos 1) y window →
+    new.above ≡ 2 * (window.above % 4) + digit above → above ≡ is_black shape (x +ℤ pos 1) (y +ℤ pos 1) →
+    new.left ≡ is_black shape (x -ℤ pos 1) y →
+    new.over ≡ is_black matching.matched (x +ℤ matching.right) (y +ℤ matching.up +ℤ pos 1) →
+    new.beside ≡ 2 * (window.beside % 4) + digit beside → beside ≡ is_black matching.matched (x +ℤ matching.right +ℤ pos 1) (y +ℤ matching.up) →
+    new.under ≡ 2 * (window.under % 4) + digit under → under ≡ is_black matching.matched (x +ℤ matching.right +ℤ pos 1) (y +ℤ matching.up -ℤ pos 1) →
+    IsRefinedWindow matching shape x y new
+refined_right matching shape x y window new above beside under at p a l o q b r u =
+    let column : x -ℤ pos 1 +ℤ pos 1 ≡ x = omega (arith, ints) in
+    let matched_column : x -ℤ pos 1 +ℤ matching.right +ℤ pos 1 ≡ x +ℤ matching.right = omega (arith, ints) in
+    record {
+      above = three_on shape (x -ℤ pos 1) x (y +ℤ pos 1) window.above new.above above column at.above p a;
+      left = l;
+      over = o;
+      beside = three_on matching.matched (x -ℤ pos 1 +ℤ matching.right) (x +ℤ matching.right) (y +ℤ matching.up) window.beside new.beside beside matched_column at.beside q b;
+      under = three_on matching.matched (x -ℤ pos 1 +ℤ matching.right) (x +ℤ matching.right) (y +ℤ matching.up -ℤ pos 1) window.under new.under under matched_column at.under r u;
+    }
+
+pub three_are : (number : ℕ) (p q r s t u : Bool) → number ≡ number_from 0 (p ∷ q ∷ r ∷ []) → p ≡ s → q ≡ t → r ≡ u → number ≡ number_from 0 (s ∷ t ∷ u ∷ [])
+three_are number p q r s t u e f g h = e ∙ three_same f g h
+
+-- ---- the number of a refined context
+
+pub refined_number : (matching : Matching) (shape : Pixels) (x y : ℤ) (window : RefinedWindow) (number : ℕ) → IsRefinedWindow matching shape x y window →
+    number ≡ 2048 + 256 * window.above + 128 * digit window.left + 64 * digit window.over + 8 * window.beside + window.under →
+    number_of (matching_context matching shape x y) ≡ number
+refined_number matching shape x y window number at e =
+    let a = at.above in
+    let l = ap digit at.left in
+    let o = ap digit at.over in
+    let b = at.beside in
+    let u = at.under in
+    omega arith
+
+refined_bound : (p q r s t u v w x y z : Bool) → number_of (p ∷ q ∷ r ∷ s ∷ t ∷ u ∷ v ∷ w ∷ x ∷ y ∷ z ∷ []) < 4096
+refined_bound p q r s t u v w x y z =
+    omega (arith, digit-le p, digit-le q, digit-le r, digit-le s, digit-le t, digit-le u, digit-le v, digit-le w, digit-le x, digit-le y, digit-le z)
+
+refined_below : (matched shape : Pixels) (x y a b : ℤ) → number_of (new_colours shape x y ++ matched_colours matched a b) < 4096
+refined_below matched shape x y a b =
+    refined_bound
+    (is_black shape (x -ℤ pos 1) (y +ℤ pos 1)) (is_black shape x (y +ℤ pos 1)) (is_black shape (x +ℤ pos 1) (y +ℤ pos 1)) (is_black shape (x -ℤ pos 1) y)
+    (is_black matched a (b +ℤ pos 1))
+    (is_black matched (a -ℤ pos 1) b) (is_black matched a b) (is_black matched (a +ℤ pos 1) b)
+    (is_black matched (a -ℤ pos 1) (b -ℤ pos 1)) (is_black matched a (b -ℤ pos 1)) (is_black matched (a +ℤ pos 1) (b -ℤ pos 1))
+
+pub refined_is_number : (matching : Matching) (shape : Pixels) (x y : ℤ) (window : RefinedWindow) (number : ℕ) → IsRefinedWindow matching shape x y window →
+    number ≡ 2048 + 256 * window.above + 128 * digit window.left + 64 * digit window.over + 8 * window.beside + window.under → IsNumber number
+unfolding number_limit
+refined_is_number matching shape x y window number at e =
+    let is = refined_number matching shape x y window number at e in
+    let bound = refined_below matching.matched shape x y (x +ℤ matching.right) (y +ℤ matching.up) in
+    record { colours = matching_context matching shape x y; is = is; within = omega (arith, is, bound) }
+
+-- ---- after a pixel was read, and before the next of its row
+
+refined_still : (matching : Matching) (sketch : Sketch) (bit : Bool) (window : RefinedWindow) → IsUnread sketch →
+    IsRefinedWindow matching sketch.shape (pos (column_of sketch)) (pos (row_of sketch)) window →
+    IsRefinedWindow matching (with_pixel sketch bit).shape (pos (column_of sketch)) (pos (row_of sketch)) window
+refined_still matching sketch bit window unread at =
+    let x = pos (column_of sketch) in
+    let y = pos (row_of sketch) in
+    let new = (with_pixel sketch bit).shape in
+    let above : (a : ℤ) → is_black sketch.shape a (y +ℤ pos 1) ≡ is_black new a (y +ℤ pos 1) =
+    λ a. sym (still sketch bit a (y +ℤ pos 1) unread (λ p q. omega (arith, ints, q))) in
+    record {
+      above = at.above ∙ three_same (above (x -ℤ pos 1)) (above x) (above (x +ℤ pos 1));
+      left = at.left ∙ sym (still sketch bit (x -ℤ pos 1) y unread (λ p q. omega (arith, ints, p)));
+      over = at.over;
+      beside = at.beside;
+      under = at.under;
+    }
+
+refined_by : (matching : Matching) (shape : Pixels) (a b x y : ℤ) (window : RefinedWindow) → a ≡ x → b ≡ y →
+    IsRefinedWindow matching shape x y window → IsRefinedWindow matching shape a b window
+refined_by matching shape a b x y window p q at =
+    subst (λ z. IsRefinedWindow matching shape z b window) (sym p) (subst (λ z. IsRefinedWindow matching shape x z window) (sym q) at)
+
+refined_before_of : (matching : Matching) (sketch : Sketch) (bit : Bool) (window : RefinedWindow) → IsUnread sketch →
+    IsRefinedWindow matching sketch.shape (pos (column_of sketch)) (pos (row_of sketch)) window → 0 < column_of (with_pixel sketch bit) →
+    IsRefinedWindow matching (with_pixel sketch bit).shape (pos (column_of (with_pixel sketch bit)) -ℤ pos 1) (pos (row_of (with_pixel sketch bit))) window
+refined_before_of matching sketch true window unread at more =
+    let next = next_in_row sketch.number sketch.shape.width (wide sketch.shape.width sketch.shape.height sketch.number unread) more in
+    refined_by matching (with_pixel sketch true).shape (pos (column_of (with_pixel sketch true)) -ℤ pos 1) (pos (row_of (with_pixel sketch true)))
+    (pos (column_of sketch)) (pos (row_of sketch)) window (omega (arith, ints, next.0)) (ap (λ n. pos (sketch.shape.height - 1 - n)) next.1)
+    (refined_still matching sketch true window unread at)
+refined_before_of matching sketch false window unread at more =
+    let next = next_in_row sketch.number sketch.shape.width (wide sketch.shape.width sketch.shape.height sketch.number unread) more in
+    refined_by matching (with_pixel sketch false).shape (pos (column_of (with_pixel sketch false)) -ℤ pos 1) (pos (row_of (with_pixel sketch false)))
+    (pos (column_of sketch)) (pos (row_of sketch)) window (omega (arith, ints, next.0)) (ap (λ n. pos (sketch.shape.height - 1 - n)) next.1)
+    (refined_still matching sketch false window unread at)
+
+pub refined_before : (matching : Matching) (sketch new : Sketch) (bit : Bool) (window : RefinedWindow) → new ≡ with_pixel sketch bit → IsUnread sketch →
+    IsRefinedWindow matching sketch.shape (pos (column_of sketch)) (pos (row_of sketch)) window → 0 < column_of new →
+    IsRefinedWindow matching new.shape (pos (column_of new) -ℤ pos 1) (pos (row_of new)) window
+refined_before matching sketch new bit window is unread at more =
+    let P : Sketch → Type 0 = λ s. 0 < column_of s → IsRefinedWindow matching s.shape (pos (column_of s) -ℤ pos 1) (pos (row_of s)) window in
+    subst P (sym is) (refined_before_of matching sketch bit window unread at) more

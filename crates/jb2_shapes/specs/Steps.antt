@@ -30,8 +30,10 @@ abbrev pub ticked : ℕ → ℕ → ℕ
 ticked count zero = count
 ticked count (suc ticks) = min (count + suc ticks) 0xffff_ffff_ffff_ffff
 
--- the meter counted each pixel once
+-- the size is the same, and the meter counted each pixel that was read
 pub record Counts (count : ℕ) (sketch : Sketch) (new_count : ℕ) (new_sketch : Sketch) : Type 0 where
+  pub width : new_sketch.shape.width ≡ sketch.shape.width
+  pub height : new_sketch.shape.height ≡ sketch.shape.height
   pub grows : sketch.number ≤ new_sketch.number
   pub ticks : new_count ≡ ticked count (new_sketch.number - sketch.number)
 

@@ -67,6 +67,8 @@ impl DirectReader {
             Fed payload (direct_reading zp.old.table payload zp.old.ended (progress self.old (states_of contexts.old) place)).at.place zp.new }
         ensures done { result ≡ ShapeStep.Done → IsWhole self.new }
 
+        ensures width { self.new.shape.width ≡ self.old.shape.width }
+        ensures height { self.new.shape.height ≡ self.old.shape.height }
         ensures below { AreBelow (length zp.new.table) (states_of contexts.new) }
         ensures table { zp.new.table ≡ zp.old.table }
         ensures ended { zp.new.ended ≡ zp.old.ended }

@@ -6,11 +6,14 @@ mod canvas;
 mod contexts;
 mod direct;
 mod laws;
+mod matching;
 mod pixels;
+mod refined;
 mod steps;
 mod windows;
 
 pub use contexts::ShapeContexts;
 pub use direct::DirectReader;
 pub use laws::worked_shapes;
+pub use refined::RefineReader;
 pub use steps::ShapeStep;

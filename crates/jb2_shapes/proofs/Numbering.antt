@@ -3,7 +3,7 @@ use Rattle.std.proofs.Common.{◌≡◌, ℕ, zero, suc, ◌+◌, ◌*◌, ◌<�
 use Rattle.std.proofs.Math.Path.{fun_ext}
 use Rattle.std.proofs.lemmas.Bool.{cases_Bool, cases_lt}
 use Rattle.std.proofs.lemmas.List.{get_or-set_same, get_or-set_other, get_or-replicate, get_or_past, length-replicate}
-use Rattle.jb2_shapes.specs.Contexts.{States, fresh, same_colours, state_or, with_state}
+use Rattle.jb2_shapes.specs.Contexts.{States, AreBelow, fresh, same_colours, state_or, with_state}
 use Rattle.jb2_shapes.specs.Numbers.{Cells, digit, number_from, number_of, number_limit, states_of}
 
 -- equal lists of colours are the same
@@ -72,6 +72,9 @@ constant count i state =
 pub all_zero : (contexts : Cells) (count : ℕ) → contexts.cells ≡ replicate count 0 → states_of contexts ≡ fresh
 unfolding states_of
 all_zero contexts count e = fun_ext (λ colours. ap (λ cells. get_or cells (number_of colours) 0) e ∙ constant count (number_of colours) 0)
+
+pub fresh_below : (states : States) → states ≡ fresh → (count : ℕ) → 0 < count → AreBelow count states
+fresh_below states e count some = subst (AreBelow count) (sym e) (λ colours. some)
 
 pub set_state : (old : Cells) (cells : List ℕ) (colours : List Bool) (number state : ℕ) → number_of colours ≡ number → number < length old.cells →
     cells ≡ set old.cells number state → states_of (record { cells = cells }) ≡ with_state (states_of old) colours state

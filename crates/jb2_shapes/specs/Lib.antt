@@ -4,3 +4,4 @@ pub mod Refined
 pub mod Numbers
 pub mod Windows
 pub mod Steps
+pub mod Worked

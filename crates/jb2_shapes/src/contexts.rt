@@ -1,6 +1,6 @@
 //! Contexts of pixels, under their numbers.
 ghost use Rattle.std.specs.Prelude.{◌≡◌, ℕ, ◌<◌, List, Bool, IfOk, replicate};
-ghost use Rattle.jb2_shapes.specs.Contexts.{fresh, with_state};
+ghost use Rattle.jb2_shapes.specs.Contexts.{AreBelow, fresh, with_state};
 ghost use Rattle.jb2_shapes.specs.Numbers.{number_limit, number_of, states_of};
 
 use std::alloc::{AllocError, Global};
@@ -28,7 +28,8 @@ impl Model for ShapeContexts {
 impl ShapeContexts {
     /// Contexts at the beginning of a chunk, each in state 0.
     pub fn new(alloc: Global) -> Result<ShapeContexts, AllocError>
-        ensures { IfOk result (λ contexts. states_of contexts ≡ fresh) }
+        ensures fresh { IfOk result (λ contexts. states_of contexts ≡ fresh) }
+        ensures below { IfOk result (λ contexts. (count : ℕ) → 0 < count → AreBelow count (states_of contexts)) }
     {
         Ok(ShapeContexts {
             states: zeros(alloc, number_limit())?,

@@ -1,25 +1,50 @@
 //! Laws and worked values of the definitions, as clauses of functions that do nothing.
-ghost use Rattle.std.specs.Prelude.{◌≡◌, ℕ, ◌+◌, ◌*◌, ◌<◌, Bool, true, false, List, [], ◌∷◌, replicate, Some, None, pos, negsuc};
+ghost use Rattle.std.specs.Prelude.{◌≡◌, true, false, [], ◌∷◌, replicate, Some, None, pos, negsuc};
 ghost use Rattle.zp_table.specs.Listing.{flat_rows};
 ghost use Rattle.zp_decoder.specs.Decision.{interval};
+ghost use Rattle.bit_plane.specs.Pixels.{blank};
+ghost use Rattle.bit_plane.specs.Ink.{ink_box_of};
 ghost use Rattle.jb2_shapes.specs.Contexts.{fresh, with_state};
 ghost use Rattle.jb2_shapes.specs.Shape.{direct_reading, progress, stands, empty_sketch};
-ghost use Rattle.jb2_shapes.specs.Refined.{shift};
+ghost use Rattle.jb2_shapes.specs.Refined.{shift, column_shift};
+ghost use Rattle.jb2_shapes.specs.Worked.{dot, first, second, pixel_of_a_mark, refined_dot};
 ghost use Rattle.jb2_shapes.specs.declared.steps.ShapeStep.TheVariants as step;
 
-/// Shapes and shifts, worked out from the definitions.
+/// Shapes and shifts, worked out from the definitions. The shapes with the table of DjVu files were worked out by another
+/// program.
 pub fn worked_shapes()
-    ensures sx_1 { shift 4 (pos 2) (pos 6) ≡ pos 3 }
-    ensures sy_1 { shift 3 (pos 1) (pos 4) ≡ pos 1 }
-    ensures sx_2 { shift 3 (pos 1) (pos 4) ≡ pos 1 }
-    ensures sy_2 { shift 2 (pos 2) (pos 6) ≡ pos 4 }
-    // With the table of one row each bit 0 of the input is a black pixel: 010 for the row above, and 110 for the one below.
-    ensures six { (direct_reading flat_rows (0x5A ∷ 0x00 ∷ 0x00 ∷ 0x00 ∷ 0x00 ∷ []) false (progress (empty_sketch 3 2) fresh None)).at.sketch.shape.black ≡ false ∷ false ∷ true ∷ true ∷ false ∷ true ∷ [] }
-    // One pixel, 17 decisions after the start of a chunk.
-    ensures one { direct_reading flat_rows (0xB7 ∷ 0x6D ∷ 0x86 ∷ 0x87 ∷ []) true (progress (empty_sketch 1 1) fresh (Some (interval 0 0x0D0F 17))) ≡
-        stands step.Done (progress (record { shape = record { width = 1; height = 1; black = true ∷ [] }; number = 1 }) (with_state fresh (replicate 10 false) 0) (Some (interval 0 0x1A1F 18))) }
+    // Ink from 2 to 6 in a size of 4, and from 1 to 4 in a size of 3; and the other way round. Without ink.
+    ensures wide { shift 4 (pos 2) (pos 6) ≡ pos 3 }
+    ensures low { shift 3 (pos 1) (pos 4) ≡ pos 1 }
+    ensures high { shift 2 (pos 2) (pos 6) ≡ pos 4 }
+    ensures narrow { shift 5 (pos 0) (pos 2) ≡ negsuc 0 }
+    ensures no_ink { column_shift (blank 4 3) (ink_box_of (blank 7 7)) ≡ negsuc 1 }
 
-    // Of an empty chunk 176 bits can be decided.
+    // With the table of one row each bit 0 of the input is a black pixel: 010 for the row above, and 110 for the one below.
+    ensures six { (direct_reading flat_rows (0x5A ∷ 0x00 ∷ 0x00 ∷ 0x00 ∷ 0x00 ∷ []) false (progress (empty_sketch 3 2) fresh None)).at.sketch.shape.black ≡
+        false ∷ false ∷ true
+        ∷ true ∷ false ∷ true ∷ [] }
+    ensures pixel { pixel_of_a_mark ≡ stands step.Done (progress (record { shape = dot; number = 1 }) (with_state fresh (replicate 10 false) 0) (Some (interval 0 0x1A1F 18))) }
+    ensures refined_pixel { refined_dot ≡ stands step.Done (progress (record { shape = dot; number = 1 })
+        (with_state fresh (false ∷ false ∷ false ∷ false ∷ false ∷ false ∷ true ∷ false ∷ false ∷ false ∷ false ∷ []) 0) (Some (interval 0 0x1A1F 28))) }
+
+    // With the table of DjVu files.
+    ensures first { first.at.sketch.shape.black ≡
+        true ∷ false ∷ false ∷ true ∷ true
+        ∷ false ∷ false ∷ false ∷ false ∷ false
+        ∷ false ∷ true ∷ false ∷ false ∷ false
+        ∷ true ∷ true ∷ false ∷ false ∷ true ∷ [] }
+    ensures first_place { first.at.place ≡ Some (interval 0x6ECA 0xCA53 17) }
+    ensures second { second.at.sketch.shape.black ≡
+        false ∷ false ∷ false ∷ false
+        ∷ false ∷ false ∷ false ∷ false
+        ∷ true ∷ false ∷ true ∷ false
+        ∷ true ∷ true ∷ true ∷ false
+        ∷ false ∷ true ∷ false ∷ true ∷ [] }
+    ensures second_place { second.at.place ≡ Some (interval 0x4C5E 0xD4A4 36) }
+
+    // Three bytes don't determine a pixel. Of an empty chunk 176 bits can be decided.
+    ensures needs { direct_reading flat_rows (0x5A ∷ 0x00 ∷ 0x00 ∷ []) false (progress (empty_sketch 3 2) fresh None) ≡ stands step.NeedBytes (progress (empty_sketch 3 2) fresh None) }
     ensures exhausted { (direct_reading flat_rows [] true (progress (empty_sketch 31 31) fresh None)).answer ≡ step.Exhausted }
     ensures exhausted_at { (direct_reading flat_rows [] true (progress (empty_sketch 31 31) fresh None)).at.sketch.number ≡ 176 }
 {}

@@ -1,5 +1,5 @@
 -- A loop over pixels does what the definition does.
-use Rattle.std.proofs.Common.{◌≡◌, ℕ, zero, suc, ◌+◌, ◌-◌, ◌*◌, ◌<◌, ◌≤◌, min, Bool, true, false, List, length, Option, ℤ, pos, refl, ap, sym, subst, ◌∙◌, arith, inl, inr, eqb, eq-eqb}
+use Rattle.std.proofs.Common.{◌≡◌, ℕ, zero, suc, ◌+◌, ◌-◌, ◌<◌, ◌≤◌, min, Bool, true, false, List, length, Option, ℤ, pos, refl, ap, sym, subst, ◌∙◌, arith, inl, inr, eqb, eq-eqb}
 use Rattle.std.proofs.lemmas.Bool.{cases_lt}
 use Rattle.zp_table.specs.declared.rows.Row.{Row}
 use Rattle.zp_decoder.specs.declared.decoder.Decision.{Decision}
@@ -14,7 +14,7 @@ use Rattle.jb2_shapes.specs.Numbers.{number_of}
 use Rattle.jb2_shapes.specs.Shape.{Sketch, Progress, Reading, IsUnread, IsWhole, column_of, row_of, left_of, progress, stands, with_pixel, after_decision, read_pixels, reading_of}
 use Rattle.jb2_shapes.specs.Steps.{IsReading, GoesOn, Counts, Keeps, ticked}
 
-abbrev Context : Type 0
+abbrev pub Context : Type 0
 Context = Pixels → ℤ → ℤ → List Bool
 
 -- the colours that name the context of the next pixel
@@ -27,7 +27,7 @@ next_outcome context zp sketch states payload place = outcome_of zp.table (Adapt
 
 -- ---- the definition, unfolded once
 
-left_after : (sketch : Sketch) (bit : Bool) → IsUnread sketch → left_of sketch ≡ suc (left_of (with_pixel sketch bit))
+pub left_after : (sketch : Sketch) (bit : Bool) → IsUnread sketch → left_of sketch ≡ suc (left_of (with_pixel sketch bit))
 left_after sketch true unread = omega arith
 left_after sketch false unread = omega arith
 
@@ -49,7 +49,7 @@ same_left sketch true = refl
 same_left sketch false = refl
 
 -- a bit is the next pixel, and the rest is read from there
-after_bit : (context : Context) (rows : List Row) (payload : List ℕ) (ended : Bool) (at : Progress) (bit : Bool) → IsUnread at.sketch →
+pub after_bit : (context : Context) (rows : List Row) (payload : List ℕ) (ended : Bool) (at : Progress) (bit : Bool) → IsUnread at.sketch →
     (outcome_of rows (Adaptive (at.states (next_colours context at.sketch))) payload ended at.place).answer ≡ decision.Bit bit →
     reading_of context rows payload ended at
     ≡ reading_of context rows payload ended (progress (with_pixel at.sketch bit)
@@ -110,8 +110,8 @@ counts_on count old now new now_count new_count bit counts is ticks =
       height = ap (λ (s : Sketch). s.shape.height) is ∙ same_height now bit ∙ counts.height;
       grows = omega arith;
       ticks =
-        ticked_once_more count (now.number - old.number) new_count (ticks ∙ ap (λ n. min (n + 1) 0xffff_ffff_ffff_ffff) counts.ticks)
-        ∙ ap (ticked count) difference;
+          ticked_once_more count (now.number - old.number) new_count (ticks ∙ ap (λ n. min (n + 1) 0xffff_ffff_ffff_ffff) counts.ticks)
+          ∙ ap (ticked count) difference;
     }
 
 -- from a decision that gave a bit, a reading goes on
@@ -137,11 +137,11 @@ goes_after_bit context payload rows ended start now new sketch new_sketch states
       place = outcome.place;
       fed = fed goes.place goes.fed;
       same =
-        goes.same
-        ∙ after_bit context rows payload ended (progress sketch states goes.place) bit unread told
-        ∙ ap (λ (o : Outcome). reading_of context rows payload ended (progress (with_pixel sketch bit) (with_state states (next_colours context sketch) o.state) o.place)) same
-        ∙ ap (λ s. reading_of context rows payload ended (progress s (with_state states (next_colours context sketch) outcome.state) outcome.place)) (sym pixel)
-        ∙ ap (λ s. reading_of context rows payload ended (progress new_sketch s outcome.place)) (sym (moved goes.place goes.fed));
+          goes.same
+          ∙ after_bit context rows payload ended (progress sketch states goes.place) bit unread told
+          ∙ ap (λ (o : Outcome). reading_of context rows payload ended (progress (with_pixel sketch bit) (with_state states (next_colours context sketch) o.state) o.place)) same
+          ∙ ap (λ s. reading_of context rows payload ended (progress s (with_state states (next_colours context sketch) outcome.state) outcome.place)) (sym pixel)
+          ∙ ap (λ s. reading_of context rows payload ended (progress new_sketch s outcome.place)) (sym (moved goes.place goes.fed));
     }
 
 -- what is told of the decision of the next pixel
@@ -150,7 +150,7 @@ pub record Decided (context : Pixels → ℤ → ℤ → List Bool) (now : Decod
   pub answered : (payload : List ℕ) (place : Option Interval) → Fed payload place now → answer ≡ (next_outcome context now sketch states payload place).answer
   pub fed : (payload : List ℕ) (place : Option Interval) → Fed payload place now → Fed payload (next_outcome context now sketch states payload place).place new
   pub moved : (bit : Bool) → answer ≡ decision.Bit bit → (payload : List ℕ) (place : Option Interval) → Fed payload place now →
-    new_states ≡ with_state states (next_colours context sketch) (next_outcome context now sketch states payload place).state
+      new_states ≡ with_state states (next_colours context sketch) (next_outcome context now sketch states payload place).state
   pub pixel : (bit : Bool) → answer ≡ decision.Bit bit → new_sketch ≡ with_pixel sketch bit
   pub below : AreBelow (length new.table) new_states
   pub table : new.table ≡ now.table
@@ -191,9 +191,9 @@ pub keeps_bit : (context : Pixels → ℤ → ℤ → List Bool) (old : Decoder)
 keeps_bit context old old_sketch old_states old_count now sketch states count answer new new_sketch new_states new_count bit kept unread decided is =
     record {
       goes_on = λ payload place fed.
-        goes_after_bit context payload old.table old.ended (progress old_sketch old_states place) now new sketch new_sketch states new_states bit
-        (sym kept.table) (sym kept.ended) (kept.goes_on payload place fed) unread
-        (λ place f. sym is ∙ decided.answered payload place f) (decided.fed payload) (decided.moved bit is payload) (decided.pixel bit is);
+          goes_after_bit context payload old.table old.ended (progress old_sketch old_states place) now new sketch new_sketch states new_states bit
+          (sym kept.table) (sym kept.ended) (kept.goes_on payload place fed) unread
+          (λ place f. sym is ∙ decided.answered payload place f) (decided.fed payload) (decided.moved bit is payload) (decided.pixel bit is);
       table = decided.table ∙ kept.table;
       ended = decided.ended ∙ kept.ended;
       below = decided.below;
@@ -201,7 +201,6 @@ keeps_bit context old old_sketch old_states old_count now sketch states count an
     }
 
 -- ---- where it stops
-
 
 reading_is : (reading : Reading) (payload : List ℕ) (told : ShapeStep) (sketch : Sketch) (states : States) (place : Option Interval) (zp : Decoder) →
     reading ≡ stands told (progress sketch states place) → Fed payload place zp → IsReading reading payload told sketch states zp

@@ -2,3 +2,4 @@ pub mod Numbering
 pub mod Windowing
 pub mod Going
 pub mod Refining
+pub mod Cutting

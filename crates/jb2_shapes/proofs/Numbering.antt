@@ -1,10 +1,10 @@
 -- Numbers of contexts: no two have the same, and what a written cell means.
-use Rattle.std.proofs.Common.{◌≡◌, ℕ, zero, suc, ◌+◌, ◌*◌, ◌<◌, ◌≤◌, Bool, true, false, List, [], ◌∷◌, length, get_or, set, replicate, refl, ap, sym, ◌∙◌, subst, arith, inl, inr}
+use Rattle.std.proofs.Common.{◌≡◌, ℕ, ◌+◌, ◌*◌, ◌<◌, ◌≤◌, Bool, true, false, List, [], ◌∷◌, length, get_or, set, replicate, refl, ap, sym, ◌∙◌, subst, arith, inl, inr}
 use Rattle.std.proofs.Math.Path.{fun_ext}
 use Rattle.std.proofs.lemmas.Bool.{cases_Bool, cases_lt}
 use Rattle.std.proofs.lemmas.List.{get_or-set_same, get_or-set_other, get_or-replicate, get_or_past, length-replicate}
 use Rattle.jb2_shapes.specs.Contexts.{States, AreBelow, fresh, same_colours, state_or, with_state}
-use Rattle.jb2_shapes.specs.Numbers.{Cells, digit, number_from, number_of, number_limit, states_of}
+use Rattle.jb2_shapes.specs.Numbers.{Cells, digit, number_from, number_of, states_of}
 
 -- equal lists of colours are the same
 pub same-true : (colours others : List Bool) → same_colours colours others ≡ true → colours ≡ others

@@ -1,10 +1,10 @@
 -- Windows move right by one digit a row, and a pixel that is read isn't in its own window.
-use Rattle.std.proofs.Common.{◌≡◌, ℕ, suc, ◌+◌, ◌-◌, ◌*◌, ◌/◌, ◌%◌, ◌<◌, ◌≤◌, Bool, true, false, ◌&&◌, ◌||◌, eqb, List, [], ◌∷◌, ◌++◌, ℤ, pos, negsuc, ◌+ℤ◌, ◌-ℤ◌, refl, ap, sym, subst, ◌∙◌, arith, inl, inr}
+use Rattle.std.proofs.Common.{◌≡◌, ℕ, ◌+◌, ◌-◌, ◌*◌, ◌/◌, ◌%◌, ◌<◌, ◌≤◌, Bool, true, false, ◌&&◌, ◌||◌, eqb, [], ◌∷◌, ◌++◌, ℤ, pos, negsuc, ◌+ℤ◌, ◌-ℤ◌, refl, ap, sym, subst, ◌∙◌, arith, inl, inr}
 use Rattle.std.proofs.lemmas.Int.{ints}
 use Rattle.std.proofs.lemmas.Bool.{cases_Bool, cases_lt, and_parts, eqb-true}
 use Rattle.std.proofs.lemmas.Nat.{div_below, mod_below, div-add-mod', div-mul-add, mod-mul-add}
 use Rattle.std.proofs.Math.Nat.{mul_comm}
-use Rattle.bit_plane.specs.Pixels.{Pixels, is_black, is_place, with_black}
+use Rattle.bit_plane.specs.Pixels.{Pixels, is_black, is_place}
 use Rattle.bit_plane.proofs.PixelLaws.{set_is_black}
 use Rattle.bit_plane.proofs.PixelLemmas.{wide}
 use Rattle.jb2_shapes.specs.Shape.{Sketch, IsUnread, column_of, row_of, with_pixel, direct_context}
@@ -80,14 +80,14 @@ window_right shape x y window new far near own at p q r f n o =
     let back : x -ℤ pos 1 -ℤ pos 1 ≡ x -ℤ pos 2 = omega (arith, ints) in
     record {
       far = three_right _ _ _ far window.far new.far at.far p ∙ ap (λ c. number_from 0 (is_black shape (x -ℤ pos 1) two_up ∷ c ∷ far ∷ [])) (ap (λ a. is_black shape a two_up) one)
-        ∙ ap (λ c. number_from 0 (is_black shape (x -ℤ pos 1) two_up ∷ is_black shape x two_up ∷ c ∷ [])) f;
+          ∙ ap (λ c. number_from 0 (is_black shape (x -ℤ pos 1) two_up ∷ is_black shape x two_up ∷ c ∷ [])) f;
       near = five_right _ _ _ _ _ near window.near new.near at.near q
-        ∙ ap (λ a. number_from 0 (is_black shape a up ∷ is_black shape (x -ℤ pos 1) up ∷ is_black shape (x -ℤ pos 1 +ℤ pos 1) up ∷ is_black shape (x -ℤ pos 1 +ℤ pos 2) up ∷ near ∷ [])) back
-        ∙ ap (λ a. number_from 0 (is_black shape (x -ℤ pos 2) up ∷ is_black shape (x -ℤ pos 1) up ∷ is_black shape a up ∷ is_black shape (x -ℤ pos 1 +ℤ pos 2) up ∷ near ∷ [])) one
-        ∙ ap (λ a. number_from 0 (is_black shape (x -ℤ pos 2) up ∷ is_black shape (x -ℤ pos 1) up ∷ is_black shape x up ∷ is_black shape a up ∷ near ∷ [])) two
-        ∙ ap (λ c. number_from 0 (is_black shape (x -ℤ pos 2) up ∷ is_black shape (x -ℤ pos 1) up ∷ is_black shape x up ∷ is_black shape (x +ℤ pos 1) up ∷ c ∷ [])) n;
+          ∙ ap (λ a. number_from 0 (is_black shape a up ∷ is_black shape (x -ℤ pos 1) up ∷ is_black shape (x -ℤ pos 1 +ℤ pos 1) up ∷ is_black shape (x -ℤ pos 1 +ℤ pos 2) up ∷ near ∷ [])) back
+          ∙ ap (λ a. number_from 0 (is_black shape (x -ℤ pos 2) up ∷ is_black shape (x -ℤ pos 1) up ∷ is_black shape a up ∷ is_black shape (x -ℤ pos 1 +ℤ pos 2) up ∷ near ∷ [])) one
+          ∙ ap (λ a. number_from 0 (is_black shape (x -ℤ pos 2) up ∷ is_black shape (x -ℤ pos 1) up ∷ is_black shape x up ∷ is_black shape a up ∷ near ∷ [])) two
+          ∙ ap (λ c. number_from 0 (is_black shape (x -ℤ pos 2) up ∷ is_black shape (x -ℤ pos 1) up ∷ is_black shape x up ∷ is_black shape (x +ℤ pos 1) up ∷ c ∷ [])) n;
       own = two_right _ _ own window.own new.own at.own r
-        ∙ ap (λ a. number_from 0 (is_black shape a y ∷ own ∷ [])) back ∙ ap (λ c. number_from 0 (is_black shape (x -ℤ pos 2) y ∷ c ∷ [])) o;
+          ∙ ap (λ a. number_from 0 (is_black shape a y ∷ own ∷ [])) back ∙ ap (λ c. number_from 0 (is_black shape (x -ℤ pos 2) y ∷ c ∷ [])) o;
     }
 
 -- ---- the number of a context

@@ -41,7 +41,7 @@ pub record Counts (count : ℕ) (sketch : Sketch) (new_count : ℕ) (new_sketch 
 pub record Keeps (context : Pixels → ℤ → ℤ → List Bool) (old : Decoder) (old_sketch : Sketch) (old_states : States) (old_count : ℕ)
     (new : Decoder) (new_sketch : Sketch) (new_states : States) (new_count : ℕ) : Type 0 where
   pub goes_on : (payload : List ℕ) (place : Option Interval) → Fed payload place old →
-    GoesOn context old.table payload old.ended (progress old_sketch old_states place) new_sketch new_states new
+      GoesOn context old.table payload old.ended (progress old_sketch old_states place) new_sketch new_states new
   pub table : new.table ≡ old.table
   pub ended : new.ended ≡ old.ended
   pub below : AreBelow (length new.table) new_states

@@ -1,5 +1,5 @@
 -- Shapes that were worked out apart from the definitions.
-use Rattle.std.specs.Prelude.{ℕ, true, false, List, [], ◌∷◌, Some, None}
+use Rattle.std.specs.Prelude.{ℕ, true, List, [], ◌∷◌, Some, None}
 use Rattle.zp_table.specs.Listing.{djvu_rows, flat_rows}
 use Rattle.zp_decoder.specs.Decision.{interval}
 use Rattle.bit_plane.specs.Pixels.{Pixels}

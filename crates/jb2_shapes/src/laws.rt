@@ -1,14 +1,25 @@
 //! Laws and worked values of the definitions, as clauses of functions that do nothing.
-ghost use Rattle.std.specs.Prelude.{◌≡◌, true, false, [], ◌∷◌, replicate, Some, None, pos, negsuc};
+ghost use Rattle.std.specs.Prelude.{◌≡◌, ℕ, ℤ, Bool, List, length, ◌++◌, true, false, [], ◌∷◌, replicate, Some, None, pos, negsuc};
 ghost use Rattle.zp_table.specs.Listing.{flat_rows};
+ghost use Rattle.zp_table.specs.declared.rows.Row.{Row};
+ghost use Rattle.zp_table.specs.Rows.{IsTable};
 ghost use Rattle.zp_decoder.specs.Decision.{interval};
-ghost use Rattle.bit_plane.specs.Pixels.{blank};
+ghost use Rattle.zp_decoder.specs.Decoder.{IsStanding};
+ghost use Rattle.bit_plane.specs.Pixels.{Pixels, blank};
 ghost use Rattle.bit_plane.specs.Ink.{ink_box_of};
-ghost use Rattle.jb2_shapes.specs.Contexts.{fresh, with_state};
-ghost use Rattle.jb2_shapes.specs.Shape.{direct_reading, progress, stands, empty_sketch};
+ghost use Rattle.jb2_shapes.specs.Contexts.{AreBelow, fresh, with_state};
+ghost use Rattle.jb2_shapes.specs.Shape.{Progress, reading_of, direct_reading, progress, stands, empty_sketch};
 ghost use Rattle.jb2_shapes.specs.Refined.{shift, column_shift};
 ghost use Rattle.jb2_shapes.specs.Worked.{dot, first, second, pixel_of_a_mark, refined_dot};
 ghost use Rattle.jb2_shapes.specs.declared.steps.ShapeStep.TheVariants as step;
+
+/// However the bytes of a chunk are cut: a shape that was read as far as some of them go, and is read on with more, is the
+/// one that is read from all of them.
+pub fn cuts_change_nothing()
+    ensures { (context : Pixels → ℤ → ℤ → List Bool) (rows : List Row) (payload more : List ℕ) (ended : Bool) (at : Progress) →
+        IsTable rows → AreBelow (length rows) at.states → IsStanding (length payload) at.place →
+        reading_of context rows (payload ++ more) ended (reading_of context rows payload false at).at ≡ reading_of context rows (payload ++ more) ended at }
+{}
 
 /// Shapes and shifts, worked out from the definitions. The shapes with the table of DjVu files were worked out by another
 /// program.

@@ -10,10 +10,12 @@ mod matching;
 mod pixels;
 mod refined;
 mod steps;
+#[cfg(test)]
+mod tests;
 mod windows;
 
 pub use contexts::ShapeContexts;
 pub use direct::DirectReader;
-pub use laws::worked_shapes;
+pub use laws::{cuts_change_nothing, worked_shapes};
 pub use refined::RefineReader;
 pub use steps::ShapeStep;

@@ -1,4 +1,4 @@
-use Rattle.std.proofs.Common.{◌≡◌, ℕ, ◌+◌, ◌-◌, ◌*◌, pos}
+use Rattle.std.proofs.Common.{pos}
 use Rattle.jb2_shapes.specs.Numbers.{states_of}
 use Rattle.jb2_shapes.specs.Steps.{Keeps}
 use Rattle.jb2_shapes.specs.Windows.{IsDirectWindow}

@@ -105,8 +105,7 @@ pixels-preserved g c =
     c.read_pixel.new.zp c.read_pixel.new.canvas (states_of c.read_pixel.new.contexts) (g.M.Meter.count c.read_pixel.new.meter) c.number.result
     (refined_number c.args.matching.now c.pixels.canvas.shape (pos (column_of c.pixels.canvas)) (pos (row_of c.pixels.canvas)) c.pixels.window c.number.result c.pixels.invariant.1 c.number.ensures)
     c.read_pixel.ensures.answer c.read_pixel.ensures.fed c.read_pixel.ensures.states c.read_pixel.ensures.pixel c.read_pixel.ensures.below c.read_pixel.ensures.table c.read_pixel.ensures.ended c.read_pixel.ensures.ticks)
-    c.in-Bit.is in
-    (
+    c.in-Bit.is in (
       still_unread c.read_pixel.new.canvas.number (c.read_pixel.new.canvas.shape.width * c.read_pixel.new.canvas.shape.height) c.is_whole-in-pixels.ensures.within c.if-is_whole-2.ensures.is,
       c.next-window.ensures,
       kept,

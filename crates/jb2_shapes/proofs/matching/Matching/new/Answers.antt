@@ -1,5 +1,5 @@
-use Rattle.std.proofs.Common.{◌≡◌, ap, ◌∙◌, arith, to_z, of_z, w32, w64, FitsSigned, rules}
-use Rattle.std.proofs.lemmas.Int.{ints, to_z-of_z}
+use Rattle.std.proofs.Common.{ap, ◌∙◌, to_z, of_z, w32, w64, FitsSigned, rules}
+use Rattle.std.proofs.lemmas.Int.{to_z-of_z}
 use Rattle.bit_plane.specs.declared.ink.InkBox.{InkBox}
 use Rattle.bit_plane.specs.Ink.{ink_box_of}
 use Rattle.jb2_shapes.specs.Refined.{shift}

@@ -1,7 +1,7 @@
-use Rattle.std.proofs.Common.{pos, ◌-ℤ◌, ap, refl, ◌∙◌, add-zero}
+use Rattle.std.proofs.Common.{pos, ◌-ℤ◌, ap, ◌∙◌, add-zero}
 use Rattle.bit_plane.specs.Pixels.{is_black}
 use Rattle.jb2_shapes.specs.Shape.{column_of, row_of}
-use Rattle.jb2_shapes.proofs.Windowing.{window_right, same_place}
+use Rattle.jb2_shapes.proofs.Windowing.{window_right}
 use Rattle.jb2_shapes.proofs.windows.DirectWindow.right.Goals as goal
 
 pub returns : goal.returns

@@ -18,11 +18,11 @@ returns c =
       left = c.near-4.ensures ∙ ap (λ n. is_black shape (pos x -ℤ pos 1) (pos n)) (add-zero y);
       over = c.near-5.ensures ∙ same_place matched _ _ mx (my +ℤ pos 1) (omega (arith, ints)) (omega (arith, ints));
       beside = three_are _ _ _ _ _ _ _ c.three-2.ensures
-      (c.near-6.ensures ∙ same_place matched _ _ (mx -ℤ pos 1) my (omega (arith, ints)) (omega (arith, ints)))
-      (c.near-7.ensures ∙ same_place matched _ _ mx my (omega (arith, ints)) (omega (arith, ints)))
-      (c.near-8.ensures ∙ same_place matched _ _ (mx +ℤ pos 1) my (omega (arith, ints)) (omega (arith, ints)));
+          (c.near-6.ensures ∙ same_place matched _ _ (mx -ℤ pos 1) my (omega (arith, ints)) (omega (arith, ints)))
+          (c.near-7.ensures ∙ same_place matched _ _ mx my (omega (arith, ints)) (omega (arith, ints)))
+          (c.near-8.ensures ∙ same_place matched _ _ (mx +ℤ pos 1) my (omega (arith, ints)) (omega (arith, ints)));
       under = three_are _ _ _ _ _ _ _ c.three-3.ensures
-      (c.near-9.ensures ∙ same_place matched _ _ (mx -ℤ pos 1) (my -ℤ pos 1) (omega (arith, ints)) (omega (arith, ints)))
-      (c.near-10.ensures ∙ same_place matched _ _ mx (my -ℤ pos 1) (omega (arith, ints)) (omega (arith, ints)))
-      (c.near-11.ensures ∙ same_place matched _ _ (mx +ℤ pos 1) (my -ℤ pos 1) (omega (arith, ints)) (omega (arith, ints)));
+          (c.near-9.ensures ∙ same_place matched _ _ (mx -ℤ pos 1) (my -ℤ pos 1) (omega (arith, ints)) (omega (arith, ints)))
+          (c.near-10.ensures ∙ same_place matched _ _ mx (my -ℤ pos 1) (omega (arith, ints)) (omega (arith, ints)))
+          (c.near-11.ensures ∙ same_place matched _ _ (mx +ℤ pos 1) (my -ℤ pos 1) (omega (arith, ints)) (omega (arith, ints)));
     }

@@ -5,7 +5,7 @@ use Rattle.zp_table.specs.declared.rows.Row.{Row}
 use Rattle.zp_decoder.specs.declared.decoder.Decision.{Decision}
 use Rattle.zp_decoder.specs.declared.decoder.Decision.TheVariants as decision
 use Rattle.zp_decoder.specs.Decision.{Interval, Outcome, Adaptive, outcome_of, counted}
-use Rattle.zp_decoder.specs.Decoder.{Decoder, Fed}
+use Rattle.zp_decoder.specs.Decoder.{Decoder, Fed, room_left}
 use Rattle.bit_plane.specs.Pixels.{Pixels}
 use Rattle.jb2_shapes.specs.declared.steps.ShapeStep.{ShapeStep}
 use Rattle.jb2_shapes.specs.declared.steps.ShapeStep.TheVariants as step
@@ -84,6 +84,7 @@ keeps_first context zp sketch states count below =
       table = refl;
       ended = refl;
       below = below;
+      room = omega arith;
       counts = record { width = refl; height = refl; grows = omega arith; ticks = ap (ticked count) (sym none) };
     }
 
@@ -153,6 +154,7 @@ pub record Decided (context : Pixels → ℤ → ℤ → List Bool) (now : Decod
       new_states ≡ with_state states (next_colours context sketch) (next_outcome context now sketch states payload place).state
   pub pixel : (bit : Bool) → answer ≡ decision.Bit bit → new_sketch ≡ with_pixel sketch bit
   pub below : AreBelow (length new.table) new_states
+  pub room : room_left new ≤ room_left now
   pub table : new.table ≡ now.table
   pub ended : new.ended ≡ now.ended
   pub ticks : new_count ≡ counted answer count
@@ -167,9 +169,9 @@ pub decided_by : (context : Pixels → ℤ → ℤ → List Bool) (now : Decoder
     ((bit : Bool) → answer ≡ decision.Bit bit → (colours : List Bool) (payload : List ℕ) (place : Option Interval) → number_of colours ≡ number → Fed payload place now →
     new_states ≡ with_state states colours (outcome_of now.table (Adaptive (states colours)) payload now.ended place).state) →
     ((bit : Bool) → answer ≡ decision.Bit bit → new_sketch ≡ with_pixel sketch bit) →
-    AreBelow (length new.table) new_states → new.table ≡ now.table → new.ended ≡ now.ended → new_count ≡ counted answer count →
+    AreBelow (length new.table) new_states → room_left new ≤ room_left now → new.table ≡ now.table → new.ended ≡ now.ended → new_count ≡ counted answer count →
     Decided context now sketch states count answer new new_sketch new_states new_count
-decided_by context now sketch states count answer new new_sketch new_states new_count number is answered fed moved pixel below table ended ticks =
+decided_by context now sketch states count answer new new_sketch new_states new_count number is answered fed moved pixel below room table ended ticks =
     let colours = next_colours context sketch in
     record {
       answered = λ payload place f. answered colours payload place is f;
@@ -177,6 +179,7 @@ decided_by context now sketch states count answer new new_sketch new_states new_
       moved = λ bit e payload place f. moved bit e colours payload place is f;
       pixel = pixel;
       below = below;
+      room = room;
       table = table;
       ended = ended;
       ticks = ticks;
@@ -197,6 +200,7 @@ keeps_bit context old old_sketch old_states old_count now sketch states count an
       table = decided.table ∙ kept.table;
       ended = decided.ended ∙ kept.ended;
       below = decided.below;
+      room = let first = kept.room in let last = decided.room in omega arith;
       counts = counts_on old_count old_sketch sketch new_sketch count new_count bit kept.counts (decided.pixel bit is) (decided.ticks ∙ ap (λ a. counted a count) is);
     }
 

@@ -1,5 +1,5 @@
 -- Numbers of contexts: no two have the same, and what a written cell means.
-use Rattle.std.proofs.Common.{◌≡◌, ℕ, ◌+◌, ◌*◌, ◌<◌, ◌≤◌, Bool, true, false, List, [], ◌∷◌, length, get_or, set, replicate, refl, ap, sym, ◌∙◌, subst, arith, inl, inr}
+use Rattle.std.proofs.Common.{◌≡◌, ◌≢◌, ℕ, ◌+◌, ◌*◌, ◌<◌, ◌≤◌, Bool, true, false, List, [], ◌∷◌, length, get_or, set, replicate, refl, ap, sym, ◌∙◌, subst, arith, inl, inr}
 use Rattle.std.proofs.Math.Path.{fun_ext}
 use Rattle.std.proofs.lemmas.Bool.{cases_Bool, cases_lt}
 use Rattle.std.proofs.lemmas.List.{get_or-set_same, get_or-set_other, get_or-replicate, get_or_past, length-replicate}
@@ -94,3 +94,10 @@ set_state old cells colours number state n p e = fun_ext (λ other.
           cc)
           ∙ sym (ap (λ t. state_or t state (states_of old) other) differs)
     ])
+
+pub others_stay : (states : States) (colours other : List Bool) (state : ℕ) → colours ≢ other → with_state states colours state other ≡ states other
+others_stay states colours other state differs =
+    elim (cases_Bool (same_colours colours other)) [
+      | inl same ↦ absurd (differs (same-true colours other same))
+      | inr different ↦ ap (λ t. state_or t state states other) different
+    ]

@@ -2,7 +2,7 @@
 use Rattle.std.specs.Prelude.{◌≡◌, ℕ, zero, suc, ◌+◌, ◌-◌, ◌≤◌, min, Bool, List, length, Option, ℤ}
 use Rattle.zp_table.specs.declared.rows.Row.{Row}
 use Rattle.zp_decoder.specs.Decision.{Interval}
-use Rattle.zp_decoder.specs.Decoder.{Decoder, Fed}
+use Rattle.zp_decoder.specs.Decoder.{Decoder, Fed, room_left}
 use Rattle.bit_plane.specs.Pixels.{Pixels}
 use Rattle.jb2_shapes.specs.declared.steps.ShapeStep.{ShapeStep}
 use Rattle.jb2_shapes.specs.Contexts.{States, AreBelow}
@@ -45,4 +45,5 @@ pub record Keeps (context : Pixels → ℤ → ℤ → List Bool) (old : Decoder
   pub table : new.table ≡ old.table
   pub ended : new.ended ≡ old.ended
   pub below : AreBelow (length new.table) new_states
+  pub room : room_left new ≤ room_left old
   pub counts : Counts old_count old_sketch new_count new_sketch

@@ -1,5 +1,5 @@
 //! Laws and worked values of the definitions, as clauses of functions that do nothing.
-ghost use Rattle.std.specs.Prelude.{◌≡◌, ℕ, ℤ, Bool, List, length, ◌++◌, true, false, [], ◌∷◌, replicate, Some, None, pos, negsuc};
+ghost use Rattle.std.specs.Prelude.{◌≡◌, ◌≢◌, ℕ, ℤ, Bool, List, length, ◌++◌, true, false, [], ◌∷◌, replicate, Some, None, pos, negsuc};
 ghost use Rattle.zp_table.specs.Listing.{flat_rows};
 ghost use Rattle.zp_table.specs.declared.rows.Row.{Row};
 ghost use Rattle.zp_table.specs.Rows.{IsTable};
@@ -7,11 +7,22 @@ ghost use Rattle.zp_decoder.specs.Decision.{interval};
 ghost use Rattle.zp_decoder.specs.Decoder.{IsStanding};
 ghost use Rattle.bit_plane.specs.Pixels.{Pixels, blank};
 ghost use Rattle.bit_plane.specs.Ink.{ink_box_of};
-ghost use Rattle.jb2_shapes.specs.Contexts.{AreBelow, fresh, with_state};
-ghost use Rattle.jb2_shapes.specs.Shape.{Progress, reading_of, direct_reading, progress, stands, empty_sketch};
-ghost use Rattle.jb2_shapes.specs.Refined.{shift, column_shift};
+ghost use Rattle.jb2_shapes.specs.Contexts.{States, AreBelow, fresh, with_state};
+ghost use Rattle.jb2_shapes.specs.Numbers.{number_of};
+ghost use Rattle.jb2_shapes.specs.Shape.{Progress, reading_of, direct_context, direct_reading, progress, stands, empty_sketch};
+ghost use Rattle.jb2_shapes.specs.Refined.{shift, column_shift, refined_context};
 ghost use Rattle.jb2_shapes.specs.Worked.{dot, first, second, pixel_of_a_mark, refined_dot};
 ghost use Rattle.jb2_shapes.specs.declared.steps.ShapeStep.TheVariants as step;
+
+/// A context of a direct shape is named by ten colours, and one of a refined shape by eleven. One that moves leaves the
+/// others, and no two have one number.
+pub fn contexts_are_named()
+    ensures ten { (shape : Pixels) (x y : ℤ) → length (direct_context shape x y) ≡ 10 }
+    ensures eleven { (matched shape : Pixels) (right up x y : ℤ) → length (refined_context matched right up shape x y) ≡ 11 }
+    ensures moved { (states : States) (colours : List Bool) (state : ℕ) → with_state states colours state colours ≡ state }
+    ensures others { (states : States) (colours other : List Bool) (state : ℕ) → colours ≢ other → with_state states colours state other ≡ states other }
+    ensures numbers { (colours other : List Bool) → number_of colours ≡ number_of other → colours ≡ other }
+{}
 
 /// However the bytes of a chunk are cut: a shape that was read as far as some of them go, and is read on with more, is the
 /// one that is read from all of them.

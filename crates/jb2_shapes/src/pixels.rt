@@ -1,7 +1,7 @@
 //! One pixel of a shape.
-ghost use Rattle.std.specs.Prelude.{◌≡◌, ℕ, ◌<◌, length, List, Bool, Option};
+ghost use Rattle.std.specs.Prelude.{◌≡◌, ℕ, ◌<◌, ◌≤◌, length, List, Bool, Option};
 ghost use Rattle.zp_decoder.specs.Decision.{Interval, Adaptive, outcome_of, counted};
-ghost use Rattle.zp_decoder.specs.Decoder.{Fed};
+ghost use Rattle.zp_decoder.specs.Decoder.{Fed, room_left};
 ghost use Rattle.jb2_shapes.specs.Contexts.{AreBelow, with_state};
 ghost use Rattle.jb2_shapes.specs.Numbers.{number_of, number_limit, states_of, IsNumber};
 ghost use Rattle.jb2_shapes.specs.Shape.{IsUnread, with_pixel};
@@ -32,6 +32,7 @@ pub(crate) fn read_pixel<M: Meter>(
     ensures below { AreBelow (length zp.new.table) (states_of contexts.new) }
     ensures table { zp.new.table ≡ zp.old.table }
     ensures ended { zp.new.ended ≡ zp.old.ended }
+    ensures room { room_left zp.new ≤ room_left zp.old }
     ensures ticks { M.count meter.new ≡ counted result (M.count meter.old) }
     ensures needs { result ≡ Decision.NeedBytes → (canvas.new ≡ canvas.old) × (contexts.new ≡ contexts.old) × (zp.new ≡ zp.old) × (meter.new ≡ meter.old) }
     ensures exhausted { result ≡ Decision.Exhausted → (canvas.new ≡ canvas.old) × (contexts.new ≡ contexts.old) × (zp.new ≡ zp.old) × (meter.new ≡ meter.old) }

@@ -1,9 +1,9 @@
 //! Refined shapes.
-ghost use Rattle.std.specs.Prelude.{◌≡◌, ℕ, ◌+◌, ◌-◌, ◌*◌, ◌^◌, ◌<◌, ◌≤◌, min, length, List, Option, IfOk};
+ghost use Rattle.std.specs.Prelude.{◌≡◌, ℕ, ◌-◌, ◌*◌, ◌≤◌, length, List, Option, IfOk};
 ghost use Rattle.std.specs.Arc.{arc_value};
 ghost use Rattle.bit_plane.specs.Pixels.{area_limit};
 ghost use Rattle.zp_decoder.specs.Decision.{Interval};
-ghost use Rattle.zp_decoder.specs.Decoder.{Fed};
+ghost use Rattle.zp_decoder.specs.Decoder.{Fed, room_left};
 ghost use Rattle.jb2_shapes.specs.Contexts.{AreBelow};
 ghost use Rattle.jb2_shapes.specs.Numbers.{states_of};
 ghost use Rattle.jb2_shapes.specs.Refined.{matching_context, refined_reading};
@@ -90,6 +90,8 @@ impl RefineReader {
         ensures table { zp.new.table ≡ zp.old.table }
         ensures ended { zp.new.ended ≡ zp.old.ended }
 
+        ensures room { room_left zp.new ≤ room_left zp.old }
+
         // Each pixel that was read ticked once.
         ensures grows { self.old.sketch.number ≤ self.new.sketch.number }
         ensures ticks { M.count meter.new ≡ ticked (M.count meter.old) (self.new.sketch.number - self.old.sketch.number) }
@@ -121,6 +123,7 @@ fn read_pixels<M: Meter>(
     ensures below { AreBelow (length zp.new.table) (states_of contexts.new) }
     ensures table { zp.new.table ≡ zp.old.table }
     ensures ended { zp.new.ended ≡ zp.old.ended }
+    ensures room { room_left zp.new ≤ room_left zp.old }
     ensures counts { Counts (M.count meter.old) canvas.old (M.count meter.new) canvas.new }
 {
     if canvas.is_whole() {

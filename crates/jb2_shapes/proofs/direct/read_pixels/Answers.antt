@@ -26,7 +26,7 @@ returns-in-NeedBytes-clause-reads g c =
     (decided_by direct_context c.pixels.zp c.pixels.canvas (states_of c.pixels.contexts) (g.M.Meter.count c.pixels.meter) c.read_pixel.result
     c.read_pixel.new.zp c.read_pixel.new.canvas (states_of c.read_pixel.new.contexts) (g.M.Meter.count c.read_pixel.new.meter) c.number.result
     (direct_number c.pixels.canvas.shape (pos (column_of c.pixels.canvas)) (pos (row_of c.pixels.canvas)) c.pixels.window c.number.result c.pixels.invariant.1 c.number.ensures)
-    c.read_pixel.ensures.answer c.read_pixel.ensures.fed c.read_pixel.ensures.states c.read_pixel.ensures.pixel c.read_pixel.ensures.below c.read_pixel.ensures.table c.read_pixel.ensures.ended c.read_pixel.ensures.ticks)
+    c.read_pixel.ensures.answer c.read_pixel.ensures.fed c.read_pixel.ensures.states c.read_pixel.ensures.pixel c.read_pixel.ensures.below c.read_pixel.ensures.room c.read_pixel.ensures.table c.read_pixel.ensures.ended c.read_pixel.ensures.ticks)
     c.in-NeedBytes.is stays.0 (ap states_of stays.1) stays.2
 
 pub returns-in-NeedBytes-clause-counts : goal.returns-in-NeedBytes-clause-counts
@@ -45,7 +45,7 @@ returns-in-Exhausted-clause-reads g c =
     (decided_by direct_context c.pixels.zp c.pixels.canvas (states_of c.pixels.contexts) (g.M.Meter.count c.pixels.meter) c.read_pixel.result
     c.read_pixel.new.zp c.read_pixel.new.canvas (states_of c.read_pixel.new.contexts) (g.M.Meter.count c.read_pixel.new.meter) c.number.result
     (direct_number c.pixels.canvas.shape (pos (column_of c.pixels.canvas)) (pos (row_of c.pixels.canvas)) c.pixels.window c.number.result c.pixels.invariant.1 c.number.ensures)
-    c.read_pixel.ensures.answer c.read_pixel.ensures.fed c.read_pixel.ensures.states c.read_pixel.ensures.pixel c.read_pixel.ensures.below c.read_pixel.ensures.table c.read_pixel.ensures.ended c.read_pixel.ensures.ticks)
+    c.read_pixel.ensures.answer c.read_pixel.ensures.fed c.read_pixel.ensures.states c.read_pixel.ensures.pixel c.read_pixel.ensures.below c.read_pixel.ensures.room c.read_pixel.ensures.table c.read_pixel.ensures.ended c.read_pixel.ensures.ticks)
     c.in-Exhausted.is stays.0 (ap states_of stays.1) stays.2
 
 pub returns-in-Exhausted-clause-counts : goal.returns-in-Exhausted-clause-counts
@@ -64,7 +64,7 @@ returns-then-is_whole-2-clause-reads g c =
     (decided_by direct_context c.pixels.zp c.pixels.canvas (states_of c.pixels.contexts) (g.M.Meter.count c.pixels.meter) c.read_pixel.result
     c.read_pixel.new.zp c.read_pixel.new.canvas (states_of c.read_pixel.new.contexts) (g.M.Meter.count c.read_pixel.new.meter) c.number.result
     (direct_number c.pixels.canvas.shape (pos (column_of c.pixels.canvas)) (pos (row_of c.pixels.canvas)) c.pixels.window c.number.result c.pixels.invariant.1 c.number.ensures)
-    c.read_pixel.ensures.answer c.read_pixel.ensures.fed c.read_pixel.ensures.states c.read_pixel.ensures.pixel c.read_pixel.ensures.below c.read_pixel.ensures.table c.read_pixel.ensures.ended c.read_pixel.ensures.ticks)
+    c.read_pixel.ensures.answer c.read_pixel.ensures.fed c.read_pixel.ensures.states c.read_pixel.ensures.pixel c.read_pixel.ensures.below c.read_pixel.ensures.room c.read_pixel.ensures.table c.read_pixel.ensures.ended c.read_pixel.ensures.ticks)
     c.in-Bit.is in
     whole_reading direct_context c.args.zp.now c.args.canvas.now (states_of c.args.contexts.now) (g.M.Meter.count c.args.meter.now)
     c.read_pixel.new.zp c.read_pixel.new.canvas (states_of c.read_pixel.new.contexts) (g.M.Meter.count c.read_pixel.new.meter) kept
@@ -80,7 +80,7 @@ returns-then-is_whole-2-clause-counts g c =
     (decided_by direct_context c.pixels.zp c.pixels.canvas (states_of c.pixels.contexts) (g.M.Meter.count c.pixels.meter) c.read_pixel.result
     c.read_pixel.new.zp c.read_pixel.new.canvas (states_of c.read_pixel.new.contexts) (g.M.Meter.count c.read_pixel.new.meter) c.number.result
     (direct_number c.pixels.canvas.shape (pos (column_of c.pixels.canvas)) (pos (row_of c.pixels.canvas)) c.pixels.window c.number.result c.pixels.invariant.1 c.number.ensures)
-    c.read_pixel.ensures.answer c.read_pixel.ensures.fed c.read_pixel.ensures.states c.read_pixel.ensures.pixel c.read_pixel.ensures.below c.read_pixel.ensures.table c.read_pixel.ensures.ended c.read_pixel.ensures.ticks)
+    c.read_pixel.ensures.answer c.read_pixel.ensures.fed c.read_pixel.ensures.states c.read_pixel.ensures.pixel c.read_pixel.ensures.below c.read_pixel.ensures.room c.read_pixel.ensures.table c.read_pixel.ensures.ended c.read_pixel.ensures.ticks)
     c.in-Bit.is in
     kept.counts
 
@@ -103,7 +103,7 @@ pixels-preserved g c =
     (decided_by direct_context c.pixels.zp c.pixels.canvas (states_of c.pixels.contexts) (g.M.Meter.count c.pixels.meter) c.read_pixel.result
     c.read_pixel.new.zp c.read_pixel.new.canvas (states_of c.read_pixel.new.contexts) (g.M.Meter.count c.read_pixel.new.meter) c.number.result
     (direct_number c.pixels.canvas.shape (pos (column_of c.pixels.canvas)) (pos (row_of c.pixels.canvas)) c.pixels.window c.number.result c.pixels.invariant.1 c.number.ensures)
-    c.read_pixel.ensures.answer c.read_pixel.ensures.fed c.read_pixel.ensures.states c.read_pixel.ensures.pixel c.read_pixel.ensures.below c.read_pixel.ensures.table c.read_pixel.ensures.ended c.read_pixel.ensures.ticks)
+    c.read_pixel.ensures.answer c.read_pixel.ensures.fed c.read_pixel.ensures.states c.read_pixel.ensures.pixel c.read_pixel.ensures.below c.read_pixel.ensures.room c.read_pixel.ensures.table c.read_pixel.ensures.ended c.read_pixel.ensures.ticks)
     c.in-Bit.is in (
       still_unread c.read_pixel.new.canvas.number (c.read_pixel.new.canvas.shape.width * c.read_pixel.new.canvas.shape.height) c.is_whole-in-pixels.ensures.within c.if-is_whole-2.ensures.is,
       c.next-window.ensures,

@@ -71,3 +71,34 @@ pub cut_anywhere : (context : Pixels → ℤ → ℤ → List Bool) (rows : List
     IsTable rows → AreBelow (length rows) at.states → IsStanding (length payload) at.place →
     reading_of context rows (payload ++ more) ended (reading_of context rows payload false at).at ≡ reading_of context rows (payload ++ more) ended at
 cut_anywhere context rows payload more ended at table below stands = cut_at context rows payload more ended (left_of at.sketch) at table below stands refl
+
+-- states stay rows of the table, and the decoder stands where decisions lead
+abbrev Stays : List Row → List ℕ → Reading → Type 0
+Stays rows payload reading = AreBelow (length rows) reading.at.states × IsStanding (length payload) reading.at.place
+
+stays_by : (context : Context) (rows : List Row) (payload : List ℕ) (ended : Bool) (left : ℕ) (at : Progress) (answer : Decision) →
+    IsTable rows → AreBelow (length rows) at.states → IsStanding (length payload) at.place →
+    ((next : Progress) → AreBelow (length rows) next.states → IsStanding (length payload) next.place → Stays rows payload (read_pixels context rows payload ended left next)) →
+    Stays rows payload (after_decision answer (outcome_of rows (Adaptive (at.states (next_colours context at.sketch))) payload ended at.place) (next_colours context at.sketch) at
+    (λ next. read_pixels context rows payload ended left next))
+stays_by context rows payload ended left at (decision.Bit bit) table below stands later =
+    let state = at.states (next_colours context at.sketch) in
+    let within = below (next_colours context at.sketch) in
+    let outcome = outcome_of rows (Adaptive state) payload ended at.place in
+    later (progress (with_pixel at.sketch bit) (with_state at.states (next_colours context at.sketch) outcome.state) outcome.place)
+    (moved_below at.states (next_colours context at.sketch) outcome.state (length rows) below (state_below rows state payload ended at.place table within))
+    (standing rows (Adaptive state) payload ended at.place table within stands)
+stays_by context rows payload ended left at decision.NeedBytes table below stands later = (below, stands)
+stays_by context rows payload ended left at decision.Exhausted table below stands later = (below, stands)
+
+stays_at : (context : Context) (rows : List Row) (payload : List ℕ) (ended : Bool) (left : ℕ) (at : Progress) →
+    IsTable rows → AreBelow (length rows) at.states → IsStanding (length payload) at.place → Stays rows payload (read_pixels context rows payload ended left at)
+stays_at context rows payload ended zero at table below stands = (below, stands)
+stays_at context rows payload ended (suc left) at table below stands =
+    stays_by context rows payload ended left at (outcome_of rows (Adaptive (at.states (next_colours context at.sketch))) payload ended at.place).answer
+    table below stands (λ next b s. stays_at context rows payload ended left next table b s)
+
+pub stays_within : (context : Pixels → ℤ → ℤ → List Bool) (rows : List Row) (payload : List ℕ) (ended : Bool) (at : Progress) →
+    IsTable rows → AreBelow (length rows) at.states → IsStanding (length payload) at.place →
+    AreBelow (length rows) (reading_of context rows payload ended at).at.states × IsStanding (length payload) (reading_of context rows payload ended at).at.place
+stays_within context rows payload ended at table below stands = stays_at context rows payload ended (left_of at.sketch) at table below stands

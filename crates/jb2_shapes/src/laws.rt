@@ -32,6 +32,13 @@ pub fn cuts_change_nothing()
         reading_of context rows (payload ++ more) ended (reading_of context rows payload false at).at ≡ reading_of context rows (payload ++ more) ended at }
 {}
 
+/// While a shape is read, states stay rows of the table, and the decoder stands where decisions lead.
+pub fn readings_stay_within()
+    ensures { (context : Pixels → ℤ → ℤ → List Bool) (rows : List Row) (payload : List ℕ) (ended : Bool) (at : Progress) →
+        IsTable rows → AreBelow (length rows) at.states → IsStanding (length payload) at.place →
+        AreBelow (length rows) (reading_of context rows payload ended at).at.states × IsStanding (length payload) (reading_of context rows payload ended at).at.place }
+{}
+
 /// Shapes and shifts, worked out from the definitions. The shapes with the table of DjVu files were worked out by another
 /// program.
 pub fn worked_shapes()

@@ -24,6 +24,6 @@ mod windows;
 
 pub use contexts::ShapeContexts;
 pub use direct::DirectReader;
-pub use laws::{contexts_are_named, cuts_change_nothing, worked_shapes};
+pub use laws::{contexts_are_named, cuts_change_nothing, readings_stay_within, worked_shapes};
 pub use refined::RefineReader;
 pub use steps::ShapeStep;

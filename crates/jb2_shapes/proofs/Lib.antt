@@ -1,0 +1,5 @@
+pub mod Numbering
+pub mod Windowing
+pub mod Going
+pub mod Refining
+pub mod Cutting

@@ -1,0 +1,5 @@
+use Rattle.jb2_shapes.proofs.Cutting.{stays_within}
+use Rattle.jb2_shapes.proofs.laws.readings_stay_within.Goals as goal
+
+pub returns : goal.returns
+returns c = stays_within

@@ -1,0 +1,28 @@
+use Rattle.std.proofs.Common.{pos, ◌+ℤ◌, ◌-ℤ◌, ◌+◌, ap, ◌∙◌, arith, add-zero}
+use Rattle.std.proofs.lemmas.Int.{ints}
+use Rattle.bit_plane.specs.Pixels.{is_black}
+use Rattle.jb2_shapes.specs.Shape.{column_of, row_of}
+use Rattle.jb2_shapes.proofs.Windowing.{same_place, three_are}
+use Rattle.jb2_shapes.proofs.windows.RefinedWindow.around.Goals as goal
+
+pub returns : goal.returns
+returns c =
+    let shape = c.args.canvas.now.shape in
+    let matched = c.args.matching.now.matched in
+    let x = column_of c.args.canvas.now in
+    let y = row_of c.args.canvas.now in
+    let mx = pos x +ℤ c.args.matching.now.right in
+    let my = pos y +ℤ c.args.matching.now.up in
+    record {
+      above = three_are _ _ _ _ _ _ _ c.three.ensures c.near.ensures (c.near-2.ensures ∙ ap (λ n. is_black shape (pos n) (pos (y + 1))) (add-zero x)) c.near-3.ensures;
+      left = c.near-4.ensures ∙ ap (λ n. is_black shape (pos x -ℤ pos 1) (pos n)) (add-zero y);
+      over = c.near-5.ensures ∙ same_place matched _ _ mx (my +ℤ pos 1) (omega (arith, ints)) (omega (arith, ints));
+      beside = three_are _ _ _ _ _ _ _ c.three-2.ensures
+          (c.near-6.ensures ∙ same_place matched _ _ (mx -ℤ pos 1) my (omega (arith, ints)) (omega (arith, ints)))
+          (c.near-7.ensures ∙ same_place matched _ _ mx my (omega (arith, ints)) (omega (arith, ints)))
+          (c.near-8.ensures ∙ same_place matched _ _ (mx +ℤ pos 1) my (omega (arith, ints)) (omega (arith, ints)));
+      under = three_are _ _ _ _ _ _ _ c.three-3.ensures
+          (c.near-9.ensures ∙ same_place matched _ _ (mx -ℤ pos 1) (my -ℤ pos 1) (omega (arith, ints)) (omega (arith, ints)))
+          (c.near-10.ensures ∙ same_place matched _ _ mx (my -ℤ pos 1) (omega (arith, ints)) (omega (arith, ints)))
+          (c.near-11.ensures ∙ same_place matched _ _ (mx +ℤ pos 1) (my -ℤ pos 1) (omega (arith, ints)) (omega (arith, ints)));
+    }

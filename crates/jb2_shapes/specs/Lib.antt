@@ -1,0 +1,7 @@
+pub mod Contexts
+pub mod Shape
+pub mod Refined
+pub mod Numbers
+pub mod Windows
+pub mod Steps
+pub mod Worked

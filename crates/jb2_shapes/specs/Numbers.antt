@@ -1,0 +1,33 @@
+-- Numbers of contexts: their colours as digits, behind a one.
+use Rattle.std.specs.Prelude.{◌≡◌, ℕ, ◌+◌, ◌*◌, ◌<◌, Bool, true, false, List, [], ◌∷◌, slice_index}
+use Rattle.jb2_shapes.specs.Contexts.{States}
+
+abbrev pub digit : Bool → ℕ
+digit true = 1
+digit false = 0
+
+-- a number with these colours as further binary digits, of which black is 1
+abbrev pub number_from : ℕ → List Bool → ℕ
+number_from number [] = number
+number_from number (colour ∷ colours) = number_from (2 * number + digit colour) colours
+
+abbrev pub number_of : List Bool → ℕ
+number_of colours = number_from 1 colours
+
+-- up to 11 colours behind a one
+unfoldable pub number_limit : ℕ
+number_limit = 4096
+
+-- what only the contexts themselves read: their states, each under its number
+pub record Cells : Type 0 where
+  pub cells : List ℕ
+
+-- the states of all contexts
+unfoldable pub states_of : Cells → States
+states_of contexts colours = slice_index contexts.cells (number_of colours)
+
+-- a number of a context
+pub record IsNumber (number : ℕ) : Type 0 where
+  pub colours : List Bool
+  pub is : number_of colours ≡ number
+  pub within : number < number_limit

@@ -1,0 +1,106 @@
+//! Matched shapes, beside which shapes are refined.
+ghost use Rattle.std.specs.Prelude.{◌≡◌, ◌/◌, ◌+ℤ◌, ◌-ℤ◌, ◌≤ℤ◌, pos};
+ghost use Rattle.std.specs.Arc.{arc_value};
+ghost use Rattle.bit_plane.specs.Pixels.{is_black};
+ghost use Rattle.bit_plane.specs.Ink.{ink_box_of};
+ghost use Rattle.jb2_shapes.specs.Shape.{IsUnread, column_of, row_of};
+ghost use Rattle.jb2_shapes.specs.Refined.{IsShift, extent, shift};
+
+use crate::canvas::Canvas;
+use bit_plane::Plane;
+use std::marker::Model;
+use std::sync::Arc;
+
+/// A matched shape, and how far right and up its places are from those of the shape that is read.
+#[derive(Debug, Drop)]
+pub(crate) struct Matching {
+    shape: Arc<Plane>,
+    right: i64,
+    up: i64,
+}
+
+impl Model for Matching {
+    ghost use Rattle.std.specs.Arc.{arc_value};
+    ghost use Rattle.jb2_shapes.specs.Refined.{Matching as Beside, IsShift};
+
+    ghost Value = { Beside };
+
+    ghost view = { λ a. record { matched = arc_value a.shape; right = a.right; up = a.up } };
+
+    ghost invariant = { λ a. IsShift a.right × IsShift a.up };
+}
+
+impl Matching {
+    /// The matched shape, whose ink lies in the middle of a shape of this size.
+    pub(crate) fn new(matched: Arc<Plane>, width: u32, height: u32) -> Matching
+        ensures matched { result.matched ≡ arc_value matched }
+        ensures right { result.right ≡ shift width (ink_box_of (arc_value matched)).left (ink_box_of (arc_value matched)).right }
+        ensures up { result.up ≡ shift height (ink_box_of (arc_value matched)).bottom (ink_box_of (arc_value matched)).top }
+    {
+        let ink = matched.ink_box();
+        Matching {
+            shape: matched,
+            right: shift(width, ink.left, ink.right),
+            up: shift(height, ink.bottom, ink.top),
+        }
+    }
+
+    /// Whether the pixel of the matched shape is black that lies so far right of and above the matched place of the pixel
+    /// that is read next.
+    pub(crate) fn near(&self, canvas: &Canvas, right: i8, up: i8) -> bool
+        requires { IsUnread canvas.now }
+        ensures { result ≡ is_black self.now.matched (pos (column_of canvas.now) +ℤ self.now.right +ℤ right) (pos (row_of canvas.now) +ℤ self.now.up +ℤ up) }
+    {
+        let x = sum(canvas.column(), self.right, right);
+        let y = sum(canvas.row(), self.up, up);
+        self.shape.get(x, y)
+    }
+}
+
+/// A column or row, moved twice.
+fn sum(at: u32, far: i64, by: i8) -> i64
+    requires { IsShift far }
+    ensures { result ≡ pos at +ℤ far +ℤ by }
+{
+    i64::from(at) + far + i64::from(by)
+}
+
+/// How far ink reaches from low to high.
+fn extent(low: i32, high: i32) -> u32
+    requires low { pos 0 ≤ℤ low }
+    requires high { low ≤ℤ (high +ℤ pos 1) }
+    ensures { result ≡ extent low high }
+{
+    reach(low, high) as u32
+}
+
+/// How many columns or rows there are from low to high.
+fn reach(low: i32, high: i32) -> i64
+    ensures { result ≡ high -ℤ low +ℤ pos 1 }
+{
+    i64::from(high) - i64::from(low) + 1
+}
+
+/// How far the middle of a size is from its end.
+fn middle(size: u32) -> i64
+    ensures { result ≡ pos (size / 2) -ℤ pos size +ℤ pos 1 }
+{
+    i64::from(size / 2) - i64::from(size) + 1
+}
+
+/// How far the middle of ink is from its end.
+fn ink_middle(extent: u32, high: i32) -> i64
+    ensures { result ≡ pos (extent / 2) -ℤ high }
+{
+    i64::from(extent / 2) - i64::from(high)
+}
+
+/// How far it is from a place of a shape of this size to the matched place, for ink that reaches from low to high.
+fn shift(size: u32, low: i32, high: i32) -> i64
+    requires low { pos 0 ≤ℤ low }
+    requires high { low ≤ℤ (high +ℤ pos 1) }
+    ensures is { result ≡ shift size low high }
+    ensures bound { IsShift result }
+{
+    middle(size) - ink_middle(extent(low, high), high)
+}

@@ -86,6 +86,7 @@ chunk_ends place got piece e = record {
   within = omega arith;
   fits = refl;
   stays = tt;
+  spends = tt;
   quiet = λ taken told fewer s few. absurd (omega arith);
   told = λ taken told s. settled taken told s.whole (λ m. rest_at place.offset place.left (gathered got ++ m)) [] FormEnd s.in_form (λ more. ap (λ n. rest_at place.offset n (gathered got ++ more)) e) refl;
 }
@@ -96,6 +97,7 @@ chunk_short place got piece some few = record {
   within = omega arith;
   fits = refl;
   stays = tt;
+  spends = tt;
   quiet = λ taken told fewer s few. absurd (omega arith);
   told = λ taken told s. settled taken told s.whole (λ m. rest_at place.offset place.left (gathered got ++ m)) [] (Broken ShortHeader place.offset) s.in_form (λ more. found_short place.offset place.left (gathered got ++ more) (omega arith) few) refl;
 }
@@ -177,6 +179,7 @@ header_feeds place got now piece used f enough room fits (Some kind) e = record 
   within = used_within got now piece used 8 f;
   fits = refl;
   stays = tt;
+  spends = tt;
   quiet = λ taken told fewer s few. header_quiet place got now piece used fewer taken told f room s (omega (arith, f.most, f.gathering.short));
   told = λ taken told s.
       let there = with_header place got now piece used taken told f enough room s in
@@ -192,8 +195,9 @@ header_feeds place got now piece used f enough room fits None e =
     record {
       sound = data_stage_sound opened (opened_fits place size room fits h) (eqb size 0) refl;
       within = used_within got now piece used 8 f;
-      fits = tt;
+      fits = omega (arith, f.count, f.gathering.short);
       stays = tt;
+      spends = tt;
       quiet = λ taken told fewer s few. header_quiet place got now piece used fewer taken told f room s (omega (arith, f.most, f.gathering.short));
       told = λ taken told s.
           let there = with_header place got now piece used taken told f enough room s in

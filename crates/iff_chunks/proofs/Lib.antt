@@ -8,5 +8,7 @@ pub mod Heading
 pub mod Laying
 pub mod Moving
 pub mod OneInfo
+pub mod Ordering
 pub mod Passing
 pub mod Telling
+pub mod Uncut

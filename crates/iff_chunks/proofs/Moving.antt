@@ -11,7 +11,7 @@ use Rattle.iff_chunks.specs.declared.gathering.Gathered.{Gathered}
 use Rattle.iff_chunks.specs.Gathering.{gathered}
 use Rattle.iff_chunks.specs.Chunks.{Chunk, Chunks, Rest, Tail, chunks_of}
 use Rattle.iff_chunks.specs.Events.{Event, tail_events, events_of, tell, IsOpen}
-use Rattle.iff_chunks.specs.Told.{Becomes, InForm, AllTold, Stands, IsSound, Stays, Fits, Feeds, quiet_until, told_of}
+use Rattle.iff_chunks.specs.Told.{Becomes, InForm, AllTold, Stands, IsSound, Stays, Fits, Feeds, due, Spends, quiet_until, told_of}
 use Rattle.iff_chunks.proofs.Going.{rest_events, in_form_events}
 
 pub cond_true : {A : Type 0} (t : Bool) (x y : A) → t ≡ true → cond t x y ≡ x
@@ -67,8 +67,8 @@ same_told told step.FormEnd used other h = refl
 same_told told (step.Broken kind offset) used other h = refl
 
 fits_behind : (answer : WalkStep) (place : Stage) (passed used size : ℕ) → answer ≢ step.Data → passed ≤ size → Fits answer place used (size - passed) → Fits answer place (passed + used) size
-fits_behind (step.Form kind length) place passed used size d h f = tt
-fits_behind (step.Header id offset length) place passed used size d h f = tt
+fits_behind (step.Form kind length) place passed used size d h f = omega (arith, f)
+fits_behind (step.Header id offset length) place passed used size d h f = omega (arith, f)
 fits_behind step.Data place passed used size d h f = absurd (d refl)
 fits_behind step.ChunkEnd place passed used size d h f = tt
 fits_behind step.NeedBytes place passed used size d h f = omega (arith, f)
@@ -102,11 +102,20 @@ quiet_both from to piece passed fed taken told fewer lead f no_data s few false 
     let sum : passed + (fewer - passed) ≡ fewer = omega arith in
     subst (λ b. AllTold b told) (bytes ∙ ap (λ n. taken ++ take n piece) sum) there
 
+spends_behind : (answer : WalkStep) (from to there : Stage) → due to ≡ 0 → Spends answer to there → Spends answer from there
+spends_behind step.ChunkEnd from to there none s = let both : 0 ≡ 1 = sym none ∙ s.0 in absurd (omega (arith, both))
+spends_behind step.NeedBytes from to there none s = tt
+spends_behind step.Data from to there none s = tt
+spends_behind step.FormEnd from to there none s = tt
+spends_behind (step.Broken kind offset) from to there none s = tt
+spends_behind (step.Form kind length) from to there none s = tt
+spends_behind (step.Header id offset length) from to there none s = tt
+
 -- the first bytes of a piece lead from one place to another without an event, and the rest is fed there
-pub feeds_behind : (from to : Stage) (piece : List ℕ) (passed : ℕ) (fed : Fed) → Leads from to piece passed
+pub feeds_behind : (from to : Stage) (piece : List ℕ) (passed : ℕ) (fed : Fed) → Leads from to piece passed → due to ≡ 0
     → Feeds to (drop passed piece) fed → fed.step ≢ step.Data → Stays from (record { used = passed + fed.used; stage = fed.stage; step = fed.step })
     → Feeds from piece (record { used = passed + fed.used; stage = fed.stage; step = fed.step })
-feeds_behind from to piece passed fed lead f no_data stays =
+feeds_behind from to piece passed fed lead none f no_data stays =
     let size = length-drop passed piece in
     let inside = lead.inside in
     record {
@@ -114,6 +123,7 @@ feeds_behind from to piece passed fed lead f no_data stays =
       within = omega (arith, f.within);
       fits = fits_behind fed.step fed.stage passed fed.used (length piece) no_data inside (subst (λ n. Fits fed.step fed.stage fed.used n) size f.fits);
       stays = stays;
+      spends = spends_behind fed.step from to fed.stage none f.spends;
       quiet = λ taken told fewer s few. quiet_both from to piece passed fed taken told fewer lead f no_data s few (ltb fewer passed) refl;
       told = λ taken told s.
           let there = f.told (taken ++ take passed piece) told (lead.stands taken told s) in
@@ -131,6 +141,7 @@ feeds_more from to piece sound stands quiet stays = record {
   within = omega arith;
   fits = refl;
   stays = stays;
+  spends = tt;
   quiet = λ taken told fewer s few. quiet taken told fewer s (omega arith);
   told = λ taken told s. subst (λ p. Stands to (taken ++ p) told) (sym (take-length piece)) (stands taken told s);
 }

@@ -50,6 +50,7 @@ data_part chunk left piece some short part fits = record {
   within = omega arith;
   fits = (some, inl refl);
   stays = tt;
+  spends = tt;
   quiet = λ taken told fewer s few. absurd (omega arith);
   told = λ taken told s.
       subst (λ p. InChunk (taken ++ p) (with_data told p) chunk (left - length piece)) (sym (take-length piece)) (record {
@@ -70,6 +71,7 @@ data_all chunk left piece some enough fits =
       within = enough;
       fits = (some, inr tt);
       stays = tt;
+      spends = tt;
       quiet = λ taken told fewer s few. absurd (omega arith);
       told = λ taken told s.
           let x = take left piece in
@@ -116,6 +118,7 @@ end_unpadded chunk got piece fits e none empty = record {
   within = omega arith;
   fits = tt;
   stays = tt;
+  spends = (refl, refl);
   quiet = λ taken told fewer s few. absurd (omega arith);
   told = λ taken told s.
       subst (λ t. AtChunk t (told ++ ChunkEnd ∷ []) (record { offset = chunk.offset + 8 + chunk.length; left = chunk.behind; is_first = false }) (gathered got)) (sym (append-nil taken)) (record {
@@ -131,6 +134,7 @@ end_padded chunk piece fits e = record {
   within = omega arith;
   fits = tt;
   stays = tt;
+  spends = (refl, refl);
   quiet = λ taken told fewer s few. absurd (omega arith);
   told = λ taken told s.
       subst (λ t. BeforePad t (told ++ ChunkEnd ∷ []) chunk) (sym (append-nil taken)) (record {

@@ -1,5 +1,5 @@
 -- The events of a file's chunks, in order, and what a walker told of them.
-use Rattle.std.specs.Prelude.{ℕ, ◌≡◌, ◌++◌, List, [], ◌∷◌, Option, Some, None, flat_map, ⊤}
+use Rattle.std.specs.Prelude.{ℕ, ◌≡◌, ◌<◌, ◌++◌, List, [], ◌∷◌, Option, Some, None, flat_map, ⊤}
 use Rattle.iff_chunks.specs.declared.walker.WalkStep.{WalkStep}
 use Rattle.iff_chunks.specs.declared.walker.WalkStep.TheVariants as step
 use Rattle.iff_chunks.specs.Chunks.{Form, Chunk, Chunks, Tail, InHead, InHeader, InData, InPad, FormEnd, Broken}
@@ -98,3 +98,23 @@ IsLast (step.Header id offset size) = ⊥
 IsLast step.Data = ⊥
 IsLast step.ChunkEnd = ⊥
 IsLast step.NeedBytes = ⊥
+
+-- a FORM, a header and data take at least one byte
+abbrev pub Takes : WalkStep → ℕ → Type 0
+Takes (step.Form kind size) used = 0 < used
+Takes (step.Header id offset size) used = 0 < used
+Takes step.Data used = 0 < used
+Takes step.ChunkEnd used = ⊤
+Takes step.NeedBytes used = ⊤
+Takes step.FormEnd used = ⊤
+Takes (step.Broken kind offset) used = ⊤
+
+-- the answer tells an event
+abbrev pub IsEvent : WalkStep → Type 0
+IsEvent (step.Form kind size) = ⊤
+IsEvent (step.Header id offset size) = ⊤
+IsEvent step.Data = ⊤
+IsEvent step.ChunkEnd = ⊤
+IsEvent step.NeedBytes = ⊥
+IsEvent step.FormEnd = ⊥
+IsEvent (step.Broken kind offset) = ⊥

@@ -6,4 +6,5 @@ pub mod Events
 pub mod Told
 pub mod FirstForm
 pub mod Layout
+pub mod Order
 pub mod Worked

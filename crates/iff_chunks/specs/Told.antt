@@ -112,6 +112,34 @@ Over step.Data walker = ⊥
 Over step.ChunkEnd walker = ⊥
 Over step.NeedBytes walker = ⊥
 
+-- 1 where the end of a chunk is to be told
+abbrev pub due : Stage → ℕ
+due stage.Start = 0
+due (stage.Magic matched) = 0
+due (stage.Word offset matched) = 0
+due (stage.Length offset got) = 0
+due (stage.Kind offset size got) = 0
+due (stage.Header place got) = 0
+due (stage.Data chunk left) = 0
+due (stage.DataEnd chunk) = 1
+due (stage.Pad chunk) = 0
+due stage.Ended = 0
+due (stage.Broken kind offset) = 0
+
+-- how many events a walker can tell without a further byte
+unfoldable pub pending : Stage → ℕ
+pending walker = due walker
+
+-- the end of a chunk is told where it was due
+abbrev pub Spends : WalkStep → Stage → Stage → Type 0
+Spends step.ChunkEnd from to = (due from ≡ 1) × (due to ≡ 0)
+Spends step.NeedBytes from to = ⊤
+Spends step.Data from to = ⊤
+Spends step.FormEnd from to = ⊤
+Spends (step.Broken kind offset) from to = ⊤
+Spends (step.Form kind length) from to = ⊤
+Spends (step.Header id offset length) from to = ⊤
+
 -- fewer bytes were gathered than these
 pub record IsGathering (got : Gathered) (wanted : ℕ) : Type 0 where
   pub room : length got.bytes ≡ 8
@@ -167,8 +195,8 @@ Fits step.NeedBytes place used size = used ≡ size
 Fits step.Data place used size = (0 < used) × ((used ≡ size) ⊎ IsDataEnd place)
 Fits step.FormEnd place used size = place ≡ stage.Ended
 Fits (step.Broken kind offset) place used size = place ≡ stage.Broken kind offset
-Fits (step.Form kind length) place used size = ⊤
-Fits (step.Header id offset length) place used size = ⊤
+Fits (step.Form kind length) place used size = 0 < used
+Fits (step.Header id offset length) place used size = 0 < used
 Fits step.ChunkEnd place used size = ⊤
 
 -- the walker needs all bytes of the piece, or all but the last one
@@ -201,6 +229,7 @@ pub record Feeds (from : Stage) (piece : List ℕ) (fed : Fed) : Type 0 where
   pub within : fed.used ≤ length piece
   pub fits : Fits fed.step fed.stage fed.used (length piece)
   pub stays : Stays from fed
+  pub spends : Spends fed.step from fed.stage
   pub quiet : (taken : List ℕ) (told : List Event) (fewer : ℕ) → Stands from taken told → fewer < quiet_until fed.step fed.used → AllTold (taken ++ take fewer piece) told
   pub told : (taken : List ℕ) (told : List Event) → Stands from taken told → Stands fed.stage (taken ++ take fed.used piece) (tell told fed.step (take fed.used piece))
 

@@ -1,11 +1,12 @@
 //! Laws of the definitions, apart from the walker: each is a clause of a function that does nothing.
-ghost use Rattle.std.specs.Prelude.{◌≡◌, ℕ, ◌+◌, ◌≤◌, ◌↔◌, ◌++◌, List, [], ◌∷◌, Some, None, true, false, length, take, drop, codes};
+ghost use Rattle.std.specs.Prelude.{◌≡◌, ◌≢◌, ℕ, ◌+◌, ◌≤◌, ◌↔◌, ◌++◌, List, [], ◌∷◌, Some, None, true, false, length, take, drop, codes};
 ghost use Rattle.djvu_base.specs.declared.faults.FaultKind.{FaultKind};
 ghost use Rattle.djvu_base.specs.declared.faults.FaultKind.TheVariants.{Truncated, NotForm, TooLarge, ShortHeader, BadId, Overrun};
 ghost use Rattle.iff_chunks.specs.Chunks.{Form, Chunk, FormEnd, Broken, InHead, InHeader, InData, InPad, chunks_of, chunks_in_all, chunks_from, rest_at, found_at, found_so, magic};
 ghost use Rattle.iff_chunks.specs.Events.{Begun, Header, Data, ChunkEnd, events_of, GoesOn};
 ghost use Rattle.iff_chunks.specs.FirstForm.{IsFront, IsFirstForm, IsOneInfo, first_form, page_form as one_info_form, info_chunk as one_info};
 ghost use Rattle.iff_chunks.specs.Layout.{IsLaidForm};
+ghost use Rattle.iff_chunks.specs.Order.{InOrder, AtForm};
 ghost use Rattle.iff_chunks.specs.Worked.{page_with, page_form, info_chunk, info_bytes, mask_header, form_of_length};
 
 /// The chunks from a place on are what is found there, and the chunks from behind it on: the definition's count of how
@@ -25,10 +26,21 @@ pub fn chunks_stay()
     ensures events { (bytes more : List ℕ) → GoesOn (events_of (chunks_of bytes)) (events_of (chunks_of (bytes ++ more))) }
 {}
 
+/// Bytes that more may follow are never cut.
+pub fn never_cut()
+    ensures { (bytes : List ℕ) (offset : ℕ) → (chunks_of bytes).tail ≢ Broken Truncated offset }
+{}
+
 /// Once a file's FORM is there, its bytes are what may stand before it, its head, and then the chunks and the tail one
 /// behind the other: every byte before the tail belongs to one header, to the data of one chunk, or is one pad byte.
 pub fn layout()
     ensures { (bytes : List ℕ) (form : Form) → (chunks_of bytes).form ≡ Some form → IsLaidForm bytes form (chunks_of bytes).whole (chunks_of bytes).tail }
+{}
+
+/// The events of a file come in their order: the FORM; then of each chunk its header, its data if there are some, and
+/// its end.
+pub fn order()
+    ensures { (bytes : List ℕ) → InOrder AtForm (events_of (chunks_of bytes)) }
 {}
 
 /// A file has a FORM of kind `DJVU` and length 22 and in it one whole chunk, an `INFO` of 10 bytes, exactly where its

@@ -15,7 +15,7 @@ mod tests;
 mod walker;
 
 pub use laws::{
-    chunks_stay, first_form, layout, recursion, worked_chunks, worked_ends, worked_events,
-    worked_lengths,
+    chunks_stay, first_form, layout, never_cut, order, recursion, worked_chunks, worked_ends,
+    worked_events, worked_lengths,
 };
 pub use walker::{WalkStep, Walker};

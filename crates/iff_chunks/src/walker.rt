@@ -1,8 +1,9 @@
 //! The walker.
-ghost use Rattle.std.specs.Prelude.{◌≡◌, ◌≢◌, ℕ, ◌<◌, ◌≤◌, ◌↔◌, ◌++◌, ◌⊎◌, List, [], ◌∷◌, length, take};
+ghost use Rattle.std.specs.Prelude.{◌≡◌, ◌≢◌, ℕ, ◌+◌, ◌*◌, ◌<◌, ◌≤◌, ◌↔◌, ◌++◌, ◌⊎◌, List, [], ◌∷◌, length, take};
 ghost use Rattle.iff_chunks.specs.Chunks.{chunks_of, chunks_in_all};
-ghost use Rattle.iff_chunks.specs.Events.{Event, ChunkEnd, events_of, tell, GoesOn, IsOpen, Ends, IsLast, Settles};
-ghost use Rattle.iff_chunks.specs.Told.{Told, Over, IsSound};
+ghost use Rattle.iff_chunks.specs.Events.{Event, ChunkEnd, events_of, tell, GoesOn, IsOpen, Ends, IsLast, Settles, Takes, IsEvent};
+ghost use Rattle.iff_chunks.specs.Order.{InOrder, AtForm};
+ghost use Rattle.iff_chunks.specs.Told.{Told, Over, IsSound, pending};
 
 use crate::stages::Stage;
 use djvu_base::FaultKind;
@@ -80,6 +81,9 @@ impl Walker {
         ensures events { (taken after : List ℕ) (told : List Event) → Told taken told self.old →
             GoesOn (tell told result.1 (take result.0 piece.now)) (events_of (chunks_of (taken ++ (take result.0 piece.now ++ after)))) }
 
+        // They come in their order.
+        ensures order { (taken : List ℕ) (told : List Event) → Told taken told self.old → InOrder AtForm (tell told result.1 (take result.0 piece.now)) }
+
         // The FORM's end and a break are answered once every event was told and the used bytes settle it, whatever follows.
         ensures ends { (taken after : List ℕ) (told : List Event) → Told taken told self.old →
             Ends result.1 told (chunks_of (taken ++ (take result.0 piece.now ++ after))) }
@@ -90,10 +94,13 @@ impl Walker {
         ensures only_then { (taken : List ℕ) (told : List Event) → Told taken told self.old → events_of (chunks_of (taken ++ piece.now)) ≡ told → IsOpen (chunks_of (taken ++ piece.now)).tail →
             result.1 ≡ WalkStep.NeedBytes }
 
-        // Data are told as far as the piece and the chunk go, and at least one byte.
-        ensures some_data { result.1 ≡ WalkStep.Data → 0 < result.0 }
+        // A FORM, a header and data take at least one byte; data are told as far as the piece and the chunk go.
+        ensures takes { Takes result.1 result.0 }
         ensures all_data { (taken after : List ℕ) (told : List Event) → Told taken told self.old → result.1 ≡ WalkStep.Data →
             (result.0 ≡ length piece.now) ⊎ GoesOn (tell told result.1 (take result.0 piece.now) ++ ChunkEnd ∷ []) (events_of (chunks_of (taken ++ (take result.0 piece.now ++ after)))) }
+
+        // With each event less is left: bytes, or an event that needs none.
+        ensures fewer { IsEvent result.1 → pending self.new < 2 * result.0 + pending self.old }
 
         // Every other answer comes with the byte that settles it: before that one, every event was told, and the FORM goes on.
         ensures no_later { (taken : List ℕ) (told : List Event) (fewer : ℕ) → Told taken told self.old → result.1 ≢ WalkStep.Data → fewer < result.0 →

@@ -1,4 +1,4 @@
-use Rattle.std.proofs.Common.{sym, ap, subst, ◌∙◌, arith}
+use Rattle.std.proofs.Common.{refl, sym, ap, subst, ◌∙◌, arith}
 use Rattle.byteorder.specs.Endian.{big_number}
 use Rattle.iff_chunks.specs.declared.stages.Stage.TheVariants as stage
 use Rattle.iff_chunks.specs.Chunks.{length_fault}
@@ -35,4 +35,4 @@ returns-in-None-clause-feeds c =
     let lead = length_lead c.args.offset c.args.got now fresh piece used filled (omega (arith, c.count.ensures, c.if-count-lt4.false)) none c.new.ensures.bytes in
     let to : Leads from (stage.Kind c.args.offset c.number-length.result fresh) piece used = subst (λ n. Leads from (stage.Kind c.args.offset n fresh) piece used) (sym size) lead in
     let rest = subst (λ p. Feeds (stage.Kind c.args.offset c.number-length.result fresh) p c.kind.result) c.rest_of.ensures c.kind.ensures.feeds in
-    rw c.behind.ensures (feeds_behind from (stage.Kind c.args.offset c.number-length.result fresh) piece used c.kind.result to rest c.kind.ensures.no_data tt)
+    rw c.behind.ensures (feeds_behind from (stage.Kind c.args.offset c.number-length.result fresh) piece used c.kind.result to refl rest c.kind.ensures.no_data tt)

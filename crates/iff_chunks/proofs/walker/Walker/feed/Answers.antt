@@ -1,13 +1,16 @@
-use Rattle.std.proofs.Common.{append_assoc, refl, ◌≡◌, ◌≢◌, ℕ, ◌<◌, List, [], ◌∷◌, ◌++◌, ◌⊎◌, length, take, drop, sym, ap, ◌∙◌, subst, inl, inr, arith}
+use Rattle.std.proofs.Common.{◌+◌, append_assoc, refl, ◌≡◌, ◌≢◌, ℕ, ◌*◌, ◌<◌, ◌≤◌, List, [], ◌∷◌, ◌++◌, ◌⊎◌, length, take, drop, sym, ap, ◌∙◌, subst, inl, inr, arith}
 use Rattle.std.proofs.lemmas.List.{take-append-drop, length-take-le}
 use Rattle.std.proofs.Math.Seq.{take-length}
 use Rattle.iff_chunks.specs.declared.walker.WalkStep.{WalkStep}
 use Rattle.iff_chunks.specs.declared.walker.WalkStep.TheVariants as step
 use Rattle.iff_chunks.specs.declared.stages.Stage.{Stage}
+use Rattle.iff_chunks.specs.declared.stages.Stage.TheVariants as stage
 use Rattle.iff_chunks.specs.declared.stages.Fed.{Fed}
 use Rattle.iff_chunks.specs.Chunks.{chunks_of}
-use Rattle.iff_chunks.specs.Events.{Event, ChunkEnd, events_of, tell, GoesOn, Ends, IsOpen, IsLast}
-use Rattle.iff_chunks.specs.Told.{Told, Over, Stands, Stays, Feeds, Fits, IsDataEnd, AllTold, quiet_until}
+use Rattle.iff_chunks.specs.Events.{Event, ChunkEnd, events_of, tell, GoesOn, Ends, IsOpen, IsLast, Takes, IsEvent}
+use Rattle.iff_chunks.specs.Told.{Told, Over, Stands, Stays, Feeds, Fits, IsDataEnd, AllTold, due, pending, Spends, quiet_until}
+use Rattle.iff_chunks.specs.Order.{AtForm}
+use Rattle.iff_chunks.proofs.Ordering.{front_order, events_order}
 use Rattle.iff_chunks.proofs.Telling.{stands_goes_on, answer_ends, data_ends, only_needs}
 use Rattle.iff_chunks.proofs.walker.Walker.feed.Goals as goal
 
@@ -31,6 +34,12 @@ goes from now piece fed taken after told view f t =
 
 pub returns-clause-events : goal.returns-clause-events
 returns-clause-events c taken after told t = goes c.self.inside.stage c.args.self.now c.args.piece.now c.feed-fed.result taken after told c.self.view_is c.feed-fed.ensures t
+
+pub returns-clause-order : goal.returns-clause-order
+returns-clause-order c taken told t =
+    let fed = c.feed-fed.result in
+    let piece = c.args.piece.now in
+    front_order AtForm (tell told fed.step (take fed.used piece)) (events_of (chunks_of (taken ++ (take fed.used piece ++ [])))) (goes c.self.inside.stage c.args.self.now piece fed taken [] told c.self.view_is c.feed-fed.ensures t) (events_order (taken ++ (take fed.used piece ++ [])))
 
 last : (from now : Stage) (piece : List ℕ) (fed : Fed) (taken after : List ℕ) (told : List Event) → from ≡ now → Feeds from piece fed → Told taken told now → Ends fed.step told (chunks_of (taken ++ (take fed.used piece ++ after)))
 last from now piece fed taken after told view f t =
@@ -65,8 +74,17 @@ returns-clause-only_then c taken told t all more =
     (subst (λ b. Ends fed.step told (chunks_of b)) whole (last from c.args.self.now piece fed taken (drop fed.used piece) told c.self.view_is f t))
     all more
 
-pub returns-clause-some_data : goal.returns-clause-some_data
-returns-clause-some_data c e = some_used c.feed-fed.result c.args.piece.now c.feed-fed.ensures.fits e
+takes_some : (answer : WalkStep) (place : Stage) (used size : ℕ) → Fits answer place used size → Takes answer used
+takes_some (step.Form kind n) place used size f = f
+takes_some (step.Header id offset n) place used size f = f
+takes_some step.Data place used size f = f.0
+takes_some step.ChunkEnd place used size f = tt
+takes_some step.NeedBytes place used size f = tt
+takes_some step.FormEnd place used size f = tt
+takes_some (step.Broken kind offset) place used size f = tt
+
+pub returns-clause-takes : goal.returns-clause-takes
+returns-clause-takes c = takes_some c.feed-fed.result.step c.feed-fed.result.stage c.feed-fed.result.used (length c.args.piece.now) c.feed-fed.ensures.fits
 
 all_told : (fed : Fed) (taken piece after : List ℕ) (told : List Event) → (fed.used ≡ length piece) ⊎ IsDataEnd fed.stage → Stands fed.stage (taken ++ take fed.used piece) (tell told fed.step (take fed.used piece)) → (fed.used ≡ length piece) ⊎ GoesOn (tell told fed.step (take fed.used piece) ++ ChunkEnd ∷ []) (events_of (chunks_of (taken ++ (take fed.used piece ++ after))))
 all_told fed taken piece after told (inl e) s = inl e
@@ -123,3 +141,32 @@ stays_over step.NeedBytes from now fed view s o = absurd o
 
 pub returns-clause-stays : goal.returns-clause-stays
 returns-clause-stays c answer o = stays_over answer c.self.inside.stage c.args.self.now c.feed-fed.result c.self.view_is c.feed-fed.ensures.stays o
+
+few_due : (place : Stage) → due place ≤ 1
+few_due stage.Start = omega arith
+few_due (stage.Magic matched) = omega arith
+few_due (stage.Word offset matched) = omega arith
+few_due (stage.Length offset got) = omega arith
+few_due (stage.Kind offset size got) = omega arith
+few_due (stage.Header place got) = omega arith
+few_due (stage.Data chunk left) = omega arith
+few_due (stage.DataEnd chunk) = omega arith
+few_due (stage.Pad chunk) = omega arith
+few_due stage.Ended = omega arith
+few_due (stage.Broken kind offset) = omega arith
+
+fewer_due : (answer : WalkStep) (from to : Stage) (used size : ℕ) → IsEvent answer → Fits answer to used size → Spends answer from to → due to < 2 * used + due from
+fewer_due (step.Form kind n) from to used size e f s = omega (arith, f, few_due to)
+fewer_due (step.Header id offset n) from to used size e f s = omega (arith, f, few_due to)
+fewer_due step.Data from to used size e f s = omega (arith, f.0, few_due to)
+fewer_due step.ChunkEnd from to used size e f s = omega (arith, s.0, s.1)
+fewer_due step.NeedBytes from to used size e f s = absurd e
+fewer_due step.FormEnd from to used size e f s = absurd e
+fewer_due (step.Broken kind offset) from to used size e f s = absurd e
+
+fewer_pending : (answer : WalkStep) (from now to : Stage) (used size : ℕ) → from ≡ now → IsEvent answer → Fits answer to used size → Spends answer from to → pending to < 2 * used + pending now
+unfolding pending
+fewer_pending answer from now to used size view e f s = subst (λ p. due to < 2 * used + due p) view (fewer_due answer from to used size e f s)
+
+pub returns-clause-fewer : goal.returns-clause-fewer
+returns-clause-fewer c e = fewer_pending c.feed-fed.result.step c.self.inside.stage c.args.self.now c.feed-fed.result.stage c.feed-fed.result.used (length c.args.piece.now) c.self.view_is e c.feed-fed.ensures.fits c.feed-fed.ensures.spends

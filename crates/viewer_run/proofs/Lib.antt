@@ -1,5 +1,11 @@
-pub mod Walking
-pub mod Infos
-pub mod Listing
+pub mod ByEvents
+pub mod Extending
+pub mod Informing
+pub mod Joining
+pub mod Showing
 pub mod Parts
-pub mod Texts
+pub mod Sizes
+pub mod Walks
+pub mod Starting
+pub mod Running
+pub mod Growing

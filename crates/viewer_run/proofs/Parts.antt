@@ -1,8 +1,9 @@
 -- Parts of files and of texts.
-use Rattle.std.proofs.Common.{◌≡◌, Result, Ok, Err, Option, Some, None, IsSome, ℕ, ◌+◌, ◌*◌, ◌≤◌, List, [], ◌++◌, length, take, drop, replicate, refl, sym, ap, ◌∙◌, subst, arith, append_assoc}
-use Rattle.std.proofs.lemmas.List.{append-nil, length-drop, take_all, drop-drop, take-replicate, replicate-append-replicate}
+use Rattle.std.proofs.Common.{◌≡◌, Result, Ok, Err, Option, Some, None, IsSome, IfSome, ℕ, zero, suc, ◌+◌, ◌*◌, ◌≤◌, List, [], ◌∷◌, ◌++◌, length, take, drop, replicate, refl, sym, ap, ◌∙◌, subst, arith, append_assoc}
+use Rattle.std.proofs.lemmas.List.{append-nil, length-drop, take_all, take-take, drop-drop, take-replicate, replicate-append-replicate}
 use Rattle.std.proofs.Math.Seq.{take-add}
 use Rattle.viewer_run.specs.declared.stop.Stop.{Stop}
+use Rattle.viewer_run.specs.Came.{CountsCame}
 use Rattle.viewer_run.specs.Outcome.{Delivers}
 use Rattle.djvu_outside.specs.Reading.{Opened, moved_on, GrowsWithin}
 
@@ -14,7 +15,7 @@ read_more content bytes now position n count e more =
     ∙ sym (take-add n count (drop position content))
 
 -- a read of nothing is the file's end
-read_all : (content bytes : List ℕ) (position n limit : ℕ) → bytes ≡ take n (drop position content) → length content ≤ position + n → n ≤ limit → bytes ≡ take limit (drop position content)
+pub read_all : (content bytes : List ℕ) (position n limit : ℕ) → bytes ≡ take n (drop position content) → length content ≤ position + n → n ≤ limit → bytes ≡ take limit (drop position content)
 read_all content bytes position n limit e end within =
     let size = length-drop position content in
     e ∙ take_all n (drop position content) (omega (arith, size)) ∙ sym (take_all limit (drop position content) (omega (arith, size)))
@@ -80,3 +81,25 @@ thrice a w b h e f =
 pub nothing_put : {T : Type 0} (result : Result T Stop) (before : List ℕ) → Delivers result before [] before
 nothing_put (Ok value) before = sym (append-nil before)
 nothing_put (Err stop) before = ([], [], refl, sym (append-nil before))
+
+pub none_from : {A : Type 0} (o : Option A) → ((x : A) → o ≡ Some x → ⊥) → o ≡ None
+none_from None h = refl
+none_from (Some x) h = absurd (h x refl)
+
+-- some of the bytes up to a limit
+pub read_part : (content bytes : List ℕ) (n limit : ℕ) → bytes ≡ take n content → n ≤ limit → bytes ≡ take (length bytes) (take limit content)
+read_part content bytes n limit e within =
+    let short : take n (take limit content) ≡ take n content = take-take n limit content within in
+    e ∙ sym short ∙ take_by_length (take limit content) n ∙ ap (λ m. take m (take limit content)) (ap length (short ∙ sym e))
+  where
+    take_by_length : (l : List ℕ) (n : ℕ) → take n l ≡ take (length (take n l)) l
+    take_by_length [] zero = refl
+    take_by_length [] (suc n) = refl
+    take_by_length (x ∷ l) zero = refl
+    take_by_length (x ∷ l) (suc n) = ap (λ t. x ∷ t) (take_by_length l n)
+
+pub some_within : (o : Option ℕ) (k m : ℕ) → o ≡ Some k → IfSome o (λ c. c ≤ m) → k ≤ m
+some_within o k m e h = subst (λ x. IfSome x (λ c. c ≤ m)) e h
+
+pub some_counts : (o : Option ℕ) (k before after : ℕ) → o ≡ Some k → CountsCame (Ok o) before after → after ≡ before
+some_counts o k before after e h = subst (λ x. CountsCame (Ok x) before after) e h

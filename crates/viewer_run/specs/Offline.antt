@@ -1,57 +1,59 @@
--- What a run writes, and its status, where nothing outside fails.
-use Rattle.std.specs.Prelude.{ℕ, Bool, List, [], length, map, Option, Some, None, nat_lt, bytes_eq, if◌then◌else◌}
-use Rattle.std.specs.List.{list_any}
+-- What a run writes, and its status.
+use Rattle.std.specs.Prelude.{ℕ, Bool, true, false, List, [], ◌∷◌, map, Option, Some, None, if◌then◌else◌}
 use Rattle.djvu_base.specs.Library.{File, Library, file_named}
-use Rattle.viewer_run.specs.declared.command.Command.{Command}
-use Rattle.viewer_run.specs.declared.command.Command.TheVariants as command
+use Rattle.djvu_outside.specs.Faults.{Failure}
 use Rattle.viewer_run.specs.declared.front.Front.{Front}
 use Rattle.viewer_run.specs.declared.front.Front.TheVariants as front
-use Rattle.viewer_run.specs.declared.page.Page.{Page}
-use Rattle.viewer_run.specs.declared.page.Page.TheVariants as page
-use Rattle.viewer_run.specs.Words.{command_of}
-use Rattle.viewer_run.specs.Page.{page_of}
-use Rattle.viewer_run.specs.Lines.{raster_text, notice_line, fault_line, words_line, folder_line}
+use Rattle.viewer_run.specs.declared.front.Mode.{Mode}
+use Rattle.viewer_run.specs.declared.front.Mode.TheVariants as mode
+use Rattle.viewer_run.specs.Texts.{Texts, no_texts, joined, texts_of_file}
+use Rattle.viewer_run.specs.Info.{info_of_file}
+use Rattle.viewer_run.specs.Front.{front_of}
+use Rattle.viewer_run.specs.Cut.{cut, front_failed}
 
--- the most names that a folder may have
-abbrev pub name_limit : ℕ
-name_limit = 1_024
+-- a page is drawn, or its chunks are listed
+abbrev pub texts_by : Mode → File → Texts
+texts_by mode.Draw file = texts_of_file file
+texts_by mode.Info file = info_of_file file
 
-abbrev pub is_listed : List (List ℕ) → List ℕ → Bool
-is_listed names name = list_any (λ listed. bytes_eq name listed) names
+abbrev pub texts_of_found : Mode → Option File → Texts
+texts_of_found mode None = no_texts
+texts_of_found mode (Some file) = texts_by mode file
 
--- the number of names comes first, and then a page that isn't listed, which is refused by its word's number
-abbrev pub front_of_names : List (List ℕ) → List ℕ → Front
-front_of_names names name =
-    if nat_lt name_limit (length names) then front.Refused (folder_line (length names))
-    else if is_listed names name then front.Draw name
-    else front.Refused (words_line 1)
-
-abbrev pub front_of_command : List (List ℕ) → Command → Front
-front_of_command names (command.Refused number) = front.Refused (words_line number)
-front_of_command names (command.Draw name) = front_of_names names name
-
--- the page that is drawn, or the line by which the run is refused: first for its words, then for the number of names,
--- then for a page that isn't listed
-abbrev pub front_of : List (List ℕ) → List (List ℕ) → Front
-front_of names words = front_of_command names (command_of words)
+-- the pages of these names, in order
+abbrev pub texts_of_names : Mode → Library → List (List ℕ) → Texts
+texts_of_names mode library [] = no_texts
+texts_of_names mode library (name ∷ names) = joined (texts_of_found mode (file_named name library)) (texts_of_names mode library names)
 
 -- what a run puts to its two sinks, and its status
-pub record Texts : Type 0 where
+pub record Written : Type 0 where
   pub out : List ℕ
   pub report : List ℕ
   pub status : ℕ
 
-abbrev pub texts_of_page : List ℕ → Page → Texts
-texts_of_page name (page.Blank size) = record { out = raster_text size; report = notice_line name size; status = 0 }
-texts_of_page name (page.Refused kind) = record { out = []; report = fault_line name kind; status = 1 }
+-- 1 where a page was refused
+abbrev pub status_by : Bool → ℕ
+status_by true = 1
+status_by false = 0
 
-abbrev pub bytes_of_file : Option File → List ℕ
-bytes_of_file None = []
-bytes_of_file (Some file) = file.bytes
+abbrev pub written : Texts → Written
+written texts = record { out = texts.out; report = texts.report; status = status_by texts.refused }
 
-abbrev pub texts_of_front : Library → Front → Texts
-texts_of_front library (front.Refused line) = record { out = []; report = line; status = 2 }
-texts_of_front library (front.Draw name) = texts_of_page name (page_of (bytes_of_file (file_named name library)))
+abbrev pub written_by : Library → Front → Written
+written_by library (front.Refused line) = record { out = []; report = line; status = 2 }
+written_by library (front.Accepted mode pages) = written (texts_of_names mode library pages)
 
-abbrev pub offline : Library → List (List ℕ) → Texts
-offline library words = texts_of_front library (front_of (map (λ file. file.name) library) words)
+-- a run over a library, where nothing outside fails
+abbrev pub offline : Library → List (List ℕ) → Written
+offline library words = written_by library (front_of (map (λ file. file.name) library) words)
+
+abbrev pub with_failures : List Failure → Written → Written
+with_failures [] texts = texts
+with_failures (entry ∷ entries) texts = record { out = texts.out; report = texts.report; status = 3 }
+
+-- a run over a library, where the folder failed so: nothing is written where its listing failed, and else what is
+-- written for the files as far as they came; the status is 3 where anything failed
+abbrev pub outcome : List Failure → Library → List (List ℕ) → Written
+outcome failures library words =
+    if front_failed failures then record { out = []; report = []; status = 3 }
+    else with_failures failures (offline (cut failures library) words)

@@ -1,14 +1,9 @@
 -- How a run, or a part of it, ends.
-use Rattle.std.specs.Prelude.{ℕ, ◌≡◌, ◌<◌, ◌++◌, ◌⊎◌, ⊤, List, Option, Some, Result, Ok, Err}
-use Rattle.djvu_base.specs.Library.{Files}
+use Rattle.std.specs.Prelude.{ℕ, ◌≡◌, ◌++◌, ◌⊎◌, ⊤, List, Option, Some, Result, Ok, Err}
 use Rattle.djvu_outside.specs.Faults.{Rises}
-use Rattle.djvu_outside.specs.Reading.{GrowsWithin, HasFile}
+use Rattle.djvu_outside.specs.Reading.{GrowsWithin}
 use Rattle.viewer_run.specs.declared.stop.Stop.{Stop}
 use Rattle.viewer_run.specs.declared.stop.Stop.TheVariants as stop
-use Rattle.viewer_run.specs.declared.page.Page.{Page}
-use Rattle.viewer_run.specs.declared.page.Page.TheVariants as page
-use Rattle.viewer_run.specs.declared.front.Front.{Front}
-use Rattle.viewer_run.specs.declared.front.Front.TheVariants as front
 
 -- all of the text was put, or, where the part stopped, a front of it
 abbrev pub Delivers : {T : Type 0} → Result T Stop → List ℕ → List ℕ → List ℕ → Type 0
@@ -28,11 +23,6 @@ SinkStops (Ok value) before after = after ≡ before
 SinkStops (Err stop.Folder) before after = ⊥
 SinkStops (Err stop.Sink) before after = Rises before after
 SinkStops (Err stop.Memory) before after = after ≡ before
-
--- the page of a front is a file of the folder
-abbrev pub CanDraw : Files → Front → Type 0
-CanDraw files (front.Draw name) = HasFile files name
-CanDraw files (front.Refused line) = ⊤
 
 -- what a sink tells went on with the text, or, where the part stopped, with a front of it
 abbrev pub Gives : {T : Type 0} → Result T Stop → Option (List ℕ) → Option (List ℕ) → List ℕ → Type 0
@@ -57,7 +47,9 @@ SinksEnd (Err stop.Folder) before after other_before other_after = (after ≡ be
 SinksEnd (Err stop.Sink) before after other_before other_after = OneRises before after other_before other_after
 SinksEnd (Err stop.Memory) before after other_before other_after = (after ≡ before) × (other_after ≡ other_before)
 
--- a page that is drawn has rows and columns
-abbrev pub HasArea : Page → Type 0
-HasArea (page.Blank size) = (0 < size.width) × (0 < size.height)
-HasArea (page.Refused kind) = ⊤
+-- a part that doesn't stop for the folder
+abbrev pub NeverFolder : {T : Type 0} → Result T Stop → Type 0
+NeverFolder (Ok value) = ⊤
+NeverFolder (Err stop.Folder) = ⊥
+NeverFolder (Err stop.Sink) = ⊤
+NeverFolder (Err stop.Memory) = ⊤

@@ -1,46 +1,51 @@
--- A walk over a page, event by event.
-use Rattle.std.specs.Prelude.{ℕ, Bool, false, ◌≡◌, ◌&&◌, ◌==◌, ◌++◌, List, [], ◌∷◌, codes, bytes_eq}
-use Rattle.iff_chunks.specs.declared.walker.WalkStep.{WalkStep}
-use Rattle.iff_chunks.specs.declared.walker.WalkStep.TheVariants as step
+-- A walk over a page's file, event by event.
+use Rattle.std.specs.Prelude.{ℕ, Bool, true, false, ◌≡◌, ◌++◌, ◌⊎◌, IsTrue, List, [], ◌∷◌}
 use Rattle.iff_chunks.specs.declared.stages.Stage.{Stage}
-use Rattle.iff_chunks.specs.Chunks.{chunks_of, FormEnd}
+use Rattle.iff_chunks.specs.Chunks.{chunks_of, chunks_in_all}
 use Rattle.iff_chunks.specs.Events.{Event, Begun, Header, Data, ChunkEnd, events_of, GoesOn}
 use Rattle.iff_chunks.specs.Told.{Told}
+use Rattle.viewer_run.specs.declared.progress.Progress.{Progress}
+use Rattle.viewer_run.specs.declared.progress.Progress.TheVariants as progress
+use Rattle.viewer_run.specs.Progress.{is_refused, after_events}
 
-abbrev pub is_page_begun : WalkStep → Bool
-is_page_begun (step.Form kind length) = bytes_eq kind (codes "DJVU") && length == 22
-is_page_begun (step.Header id offset length) = false
-is_page_begun step.Data = false
-is_page_begun step.ChunkEnd = false
-is_page_begun step.NeedBytes = false
-is_page_begun step.FormEnd = false
-is_page_begun (step.Broken kind offset) = false
+-- the last event is data
+abbrev pub ends_in_data : List Event → Bool
+ends_in_data [] = false
+ends_in_data (Data bytes ∷ []) = true
+ends_in_data (Begun kind size ∷ []) = false
+ends_in_data (Header id offset size ∷ []) = false
+ends_in_data (ChunkEnd ∷ []) = false
+ends_in_data (event ∷ next ∷ events) = ends_in_data (next ∷ events)
 
-abbrev pub is_info_header : WalkStep → Bool
-is_info_header (step.Form kind length) = false
-is_info_header (step.Header id offset length) = bytes_eq id (codes "INFO")
-is_info_header step.Data = false
-is_info_header step.ChunkEnd = false
-is_info_header step.NeedBytes = false
-is_info_header step.FormEnd = false
-is_info_header (step.Broken kind offset) = false
+-- data that were told last are all that there are: no byte is left, or the chunk's end comes next
+pub data AreAll : List Event → List ℕ → List Event → Type 0 where
+  NoData : (told : List Event) (rest : List ℕ) (events : List Event) → ends_in_data told ≡ false → AreAll told rest events
+  NoBytes : (told : List Event) (events : List Event) → AreAll told [] events
+  EndNext : (told : List Event) (rest : List ℕ) (events : List Event) → GoesOn (told ++ ChunkEnd ∷ []) events → AreAll told rest events
 
--- the walker told these events of the file, and this is the rest of it
-pub record Follows (file : List ℕ) (told : List Event) (rest : List ℕ) (walker : Stage) : Type 0 where
+-- the walker told these events of the file, this is the rest of it, and the page's reading came so far
+pub record Follows (file : List ℕ) (rest : List ℕ) (so_far : Progress) (walker : Stage) : Type 0 where
   pub taken : List ℕ
+  pub told : List Event
   pub parts : file ≡ taken ++ rest
-  pub so_far : Told taken told walker
+  pub is_told : Told taken told walker
   pub goes : GoesOn told (events_of (chunks_of file))
+  pub all_data : AreAll told rest (events_of (chunks_of file))
+  pub progress : so_far ≡ after_events progress.Before told
 
--- the file isn't one that has these events and then goes on to the FORM's end
-abbrev pub Lacks : List ℕ → List Event → Type 0
-Lacks file told = GoesOn told (events_of (chunks_of file)) → (chunks_of file).tail ≡ FormEnd → ⊥
+-- the page is refused by some of the file's events
+pub record IsRefusedEarly (file : List ℕ) (so_far : Progress) : Type 0 where
+  pub told : List Event
+  pub goes : GoesOn told (events_of (chunks_of file))
+  pub progress : so_far ≡ after_events progress.Before told
+  pub refused : IsTrue (is_refused so_far)
 
-abbrev pub page_told : List Event
-page_told = Begun (codes "DJVU") 22 ∷ []
+-- all events of the file were told, and the walker took what settles its end
+pub record IsToldWhole (file : List ℕ) (so_far : Progress) (walker : Stage) : Type 0 where
+  pub taken : List ℕ
+  pub is_told : Told taken (events_of (chunks_of file)) walker
+  pub same_end : (chunks_in_all taken).tail ≡ (chunks_in_all file).tail
+  pub progress : so_far ≡ after_events progress.Before (events_of (chunks_of file))
 
-abbrev pub info_told : ℕ → ℕ → List Event
-info_told offset size = Begun (codes "DJVU") 22 ∷ Header (codes "INFO") offset size ∷ []
-
-abbrev pub data_told : ℕ → ℕ → List ℕ → List Event
-data_told offset size bytes = Begun (codes "DJVU") 22 ∷ Header (codes "INFO") offset size ∷ Data bytes ∷ ChunkEnd ∷ []
+abbrev pub Walked : List ℕ → Progress → Stage → Type 0
+Walked file so_far walker = IsRefusedEarly file so_far ⊎ IsToldWhole file so_far walker

@@ -1,12 +1,38 @@
--- A file whose values are worked out, and a library of one file.
-use Rattle.std.specs.Prelude.{ℕ, List, [], ◌∷◌}
-use Rattle.djvu_base.specs.Library.{Library, Whole}
+-- Files and libraries whose values are worked out.
+use Rattle.std.specs.Prelude.{ℕ, ◌++◌, List, [], ◌∷◌, codes}
+use Rattle.djvu_base.specs.Library.{File, Whole}
+use Rattle.iff_chunks.specs.Chunks.{magic, form_word}
 
--- the 34 bytes of a blank page of one pixel
+-- a file with a FORM of this kind and of this length, and what follows them at place 16
+abbrev pub form_with : List ℕ → ℕ → List ℕ → List ℕ
+form_with kind size more = magic ++ (form_word ++ (0x00 ∷ 0x00 ∷ 0x00 ∷ size ∷ (kind ++ more)))
+
+-- the header of a chunk whose data have this length
+abbrev pub header : List ℕ → ℕ → List ℕ
+header id size = id ++ (0x00 ∷ 0x00 ∷ 0x00 ∷ size ∷ [])
+
+-- a page that begins with an INFO of ten bytes, the first four of them these, and what follows it at place 34
+abbrev pub sized_page : List ℕ → ℕ → List ℕ → List ℕ
+sized_page sizes size more = form_with (codes "DJVU") size (header (codes "INFO") 10 ++ (sizes ++ (0x18 ∷ 0x00 ∷ 0x2C ∷ 0x01 ∷ 0x16 ∷ 0x01 ∷ more)))
+
+-- the same page with one pixel
+abbrev pub page : ℕ → List ℕ → List ℕ
+page size more = sized_page (0x00 ∷ 0x01 ∷ 0x00 ∷ 0x01 ∷ []) size more
+
+-- the 34 bytes of a page of one pixel
 abbrev pub blank_file : List ℕ
-blank_file =
-    0x41 ∷ 0x54 ∷ 0x26 ∷ 0x54 ∷ 0x46 ∷ 0x4F ∷ 0x52 ∷ 0x4D ∷ 0x00 ∷ 0x00 ∷ 0x00 ∷ 0x16 ∷ 0x44 ∷ 0x4A ∷ 0x56 ∷ 0x55
-    ∷ 0x49 ∷ 0x4E ∷ 0x46 ∷ 0x4F ∷ 0x00 ∷ 0x00 ∷ 0x00 ∷ 0x0A ∷ 0x00 ∷ 0x01 ∷ 0x00 ∷ 0x01 ∷ 0x18 ∷ 0x00 ∷ 0x2C ∷ 0x01 ∷ 0x16 ∷ 0x01 ∷ []
+blank_file = page 22 []
 
-abbrev pub library_with : List ℕ → List ℕ → Library
-library_with name bytes = record { name = name; bytes = bytes; mark = Whole } ∷ []
+abbrev pub file : List ℕ → List ℕ → File
+file name bytes = record { name = name; bytes = bytes; mark = Whole }
+
+-- the raster of one white pixel
+abbrev pub white_pixel : List ℕ
+white_pixel = 0x50 ∷ 0x36 ∷ 0x0A ∷ 0x31 ∷ 0x20 ∷ 0x31 ∷ 0x0A ∷ 0x32 ∷ 0x35 ∷ 0x35 ∷ 0x0A ∷ 0xFF ∷ 0xFF ∷ 0xFF ∷ []
+
+abbrev pub newline : List ℕ
+newline = 0x0A ∷ []
+
+-- the line of the drawing of a page of one pixel
+abbrev pub pixel_line : List ℕ → List ℕ
+pixel_line name = name ++ (codes ": chunk 1 sum 765" ++ newline)

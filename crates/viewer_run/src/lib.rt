@@ -1,26 +1,36 @@
 //! The commands of the viewer, over any folder, sinks and meter.
 //!
-//! So far `draw PAGE` draws one page that has an `INFO` of 10 bytes and nothing else: a white raster. `run` is the
-//! call; its contract says which bytes both sinks get, and which status comes when.
+//! `draw PAGE [PAGE ..]` draws pages. So far only the `INFO` chunk of a page is read, so that a page is white, and a
+//! page with a chunk that the reading doesn't know how to draw is refused as unsupported. `info PAGE [PAGE ..]` lists the
+//! chunks of files. `run` is the call; its contract says which bytes both sinks get, and which status comes when.
 //!
-//! `specs/` has the definitions: `Words` (what words say), `Page` (which page bytes are), `Walk` (a walk over a
-//! page), `Lines` (what is written, as bytes), `Offline` (all of a run, where nothing outside fails), `Outcome`,
-//! `Status` and `Causes` (how a run stops, and why), and `Worked` (a file, byte by byte, and a library of it).
+//! `specs/` has the definitions: `Reading` (the drawings of a page and its end, chunk by chunk), `Texts` (what is written
+//! for a page), `Info` (the chunks of a file, in lines), `Front` (what stands before the pages), `Cut` (a library whose
+//! files broke off), `Offline` (all of a run), `Lines` (what is written, as bytes), and `Worked` (files whose values are
+//! worked out). The others say how the calls of this crate go: `Progress` and `Walk` (a page, event by event), `Came`,
+//! `Shown`, `Start`, `Runs`, `Outcome` and `Status` (what the parts of a run come to).
 #![tactic(auto)]
 
-mod command;
 mod front;
+mod info;
 mod laws;
 mod lines;
 mod page;
+mod pages;
+mod progress;
 mod put;
 mod read;
+mod reading;
 mod slices;
 mod stop;
 #[cfg(test)]
 mod tests;
-mod walk;
+mod texts;
 mod whole;
+mod worked;
 
-pub use laws::{pages, white_sums, worked_runs, worked_values, worked_words};
+pub use laws::{by_events, growth, sound_folders, white_sums};
 pub use whole::run;
+pub use worked::{
+    worked_fronts, worked_infos, worked_orders, worked_readings, worked_runs, worked_sizes,
+};

@@ -1,14 +1,21 @@
-//! Pages.
-ghost use Rattle.std.specs.Prelude.{◌≡◌, ◌<◌, ◌≤◌, true, length};
-ghost use Rattle.viewer_run.specs.Outcome.{HasArea};
-ghost use Rattle.viewer_run.specs.Page.{page_of, size_in, is_drawable, drawn};
+//! What is wrong with a page, by its FORM's kind, by a chunk's header, and by its size.
+ghost use Rattle.std.specs.Prelude.{◌≡◌, ◌<◌, ◌≤◌, None, length};
+ghost use Rattle.viewer_run.specs.Reading.{kind_fault, header_fault, size_fault, size_in, is_info, is_one_of};
 
-use crate::walk::info;
 use byteorder::{BigEndian, ByteOrder};
 use djvu_base::FaultKind;
 
 /// The largest page, in pixels.
 const AREA_LIMIT: u32 = 67_108_864;
+
+/// Kinds of a FORM that are no pages, but of which it is known what they are.
+const OTHER_KINDS: [[u8; 4]; 4] = [*b"DJVM", *b"PM44", *b"BM44", *b"THUM"];
+
+/// Chunks that aren't read.
+const UNREAD_IDS: [[u8; 4]; 10] = [
+    *b"DIRM", *b"FGbz", *b"Smmr", *b"BGjp", *b"FGjp", *b"INCL", *b"Djbz", *b"Sjbz", *b"FG44",
+    *b"BG44",
+];
 
 /// Width and height, in pixels.
 #[derive(Clone, Copy, Debug, PartialEq, Eq)]
@@ -17,51 +24,67 @@ pub struct Size {
     pub height: u16,
 }
 
-/// What a page shows.
-#[derive(Clone, Copy, Debug, PartialEq, Eq)]
-pub enum Page {
-    /// White, of this size.
-    Blank(Size),
-    /// Nothing, for this fault.
-    Refused(FaultKind),
-}
-
-/// The page that a file is.
-pub fn read_page(bytes: &[u8]) -> Page
-    ensures page { result ≡ page_of bytes.now }
-    ensures area { HasArea result }
+/// Why a FORM of this kind is no page.
+pub fn kind_fault(kind: [u8; 4]) -> Option<FaultKind>
+    ensures { result ≡ kind_fault kind }
 {
-    if bytes.is_empty() {
-        return Page::Refused(FaultKind::Truncated);
-    }
-    match info(bytes) {
-        Some(info) => drawn(size_in(info)),
-        None => Page::Refused(FaultKind::Unsupported),
-    }
-}
-
-fn drawn(size: Size) -> Page
-    ensures page { result ≡ drawn size }
-    ensures area { HasArea result }
-{
-    if is_drawable(size) {
-        Page::Blank(size)
+    if kind.as_slice() == b"DJVU".as_slice() {
+        None
+    } else if is_one_of(&OTHER_KINDS, kind) {
+        Some(FaultKind::Unsupported)
     } else {
-        Page::Refused(FaultKind::Unsupported)
+        Some(FaultKind::WrongForm)
     }
 }
 
-fn is_drawable(size: Size) -> bool
-    ensures test { result ≡ is_drawable size }
-    ensures area { result ≡ true → (0 < size.width) × (0 < size.height) }
+/// Why a page can't have a chunk with this identifier and length, first or later.
+pub fn header_fault(is_first: bool, id: [u8; 4], length: u32) -> Option<FaultKind>
+    ensures { result ≡ header_fault is_first id length }
 {
-    0 < size.width
-        && 0 < size.height
-        && u32::from(size.width) * u32::from(size.height) <= AREA_LIMIT
+    if is_first && !is_info(id) {
+        Some(FaultKind::NoInfo)
+    } else if !is_first && is_info(id) {
+        Some(FaultKind::SecondInfo)
+    } else if is_one_of(&UNREAD_IDS, id) {
+        Some(FaultKind::Unsupported)
+    } else if is_info(id) && length < 5 {
+        Some(FaultKind::BadInfo)
+    } else {
+        None
+    }
+}
+
+/// Whether a chunk is an `INFO`.
+pub fn is_info(id: [u8; 4]) -> bool
+    ensures { result ≡ is_info id }
+{
+    id.as_slice() == b"INFO".as_slice()
+}
+
+fn is_one_of(names: &[[u8; 4]], name: [u8; 4]) -> bool
+    ensures { result ≡ is_one_of names.now name }
+{
+    names
+        .iter()
+        .any(|listed| name.as_slice() == listed.as_slice())
+}
+
+/// Why a page can't have this size.
+pub fn size_fault(size: Size) -> Option<FaultKind>
+    ensures fault { result ≡ size_fault size }
+    ensures area { result ≡ None → (0 < size.width) × (0 < size.height) }
+{
+    if size.width == 0 || size.height == 0 {
+        Some(FaultKind::BadInfo)
+    } else if AREA_LIMIT < u32::from(size.width) * u32::from(size.height) {
+        Some(FaultKind::TooLarge)
+    } else {
+        None
+    }
 }
 
 /// The size that the data of an `INFO` begin with.
-fn size_in(info: &[u8]) -> Size
+pub fn size_in(info: &[u8]) -> Size
     requires { 4 ≤ length info.now }
     ensures { result ≡ size_in info.now }
 {

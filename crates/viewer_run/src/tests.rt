@@ -1,5 +1,5 @@
-ghost use Rattle.std.specs.Prelude.{IfSome};
-ghost use Rattle.djvu_base.specs.Name.{IsAscending};
+ghost use Rattle.std.specs.Prelude.{◌≡◌, IfSome};
+ghost use Rattle.djvu_base.specs.Name.{IsAscending, is_ascending};
 ghost use Rattle.djvu_base.specs.Library.{names_of};
 
 use crate::run;
@@ -11,13 +11,23 @@ use std::process::Abort;
 /// The file of a blank page of one pixel.
 const BLANK: &[u8] = b"AT&TFORM\0\0\0\x16DJVUINFO\0\0\0\x0A\0\x01\0\x01\x18\0\x2C\x01\x16\x01";
 
+/// A page that has a mask, too.
+const MASKED: &[u8] =
+    b"AT&TFORM\0\0\0\x22DJVUINFO\0\0\0\x0A\0\x01\0\x01\x18\0\x2C\x01\x16\x01Sjbz\0\0\0\x04\xB7\x6D\x86\x87";
+
+const NONE: &[u8] = b"";
+
 const RASTER: &[u8] = b"P6\n1 1\n255\n\xFF\xFF\xFF";
 
 const LINE: &[u8] = b"p: chunk 1 sum 765\n";
 
+const BOTH_RASTERS: &[u8] = b"P6\n1 1\n255\n\xFF\xFF\xFFP6\n1 1\n255\n\xFF\xFF\xFF";
+
+const BOTH_LINES: &[u8] = b"p: chunk 1 sum 765\nq: chunk 1 sum 765\n";
+
 /// What a run came to.
 #[derive(Drop)]
-struct Outcome {
+struct Came {
     status: u8,
     out: Vec<u8>,
     report: Vec<u8>,
@@ -55,25 +65,28 @@ fn words_of(alloc: Global, words: &[&[u8]]) -> Option<Vec<Items<u8>>> {
     Some(list)
 }
 
-/// This one file, `p`.
-fn files_of(alloc: Global, page: &[u8]) -> Option<Vec<(Name, Items<u8>)>>
+/// The files `p` and `q`.
+fn two_files(alloc: Global, p: &[u8], q: &[u8]) -> Option<Vec<(Name, Items<u8>)>>
     ensures { IfSome result (λ files. IsAscending (names_of files.items)) }
 {
-    let name = Name::read(alloc, b"p".as_slice()).ok()??;
-    let bytes = Vec::from_slice(alloc, page).ok()?;
-    Vec::from_array(alloc, [(name, Items::of(bytes))]).ok()
+    let first = Name::read(alloc, b"p".as_slice()).ok()??;
+    let second = Name::read(alloc, b"q".as_slice()).ok()??;
+    let p = Items::of(Vec::from_slice(alloc, p).ok()?);
+    let q = Items::of(Vec::from_slice(alloc, q).ok()?);
+    Vec::from_array(alloc, [(first, p), (second, q)]).ok()
 }
 
-/// A folder that has this one file `p`.
-fn folder_of(alloc: Global, page: &[u8], failing: Option<u64>) -> Option<MemoryFolder> {
-    let files = files_of(alloc, page)?;
-    MemoryFolder::new(alloc, files, list_of(alloc, failing)?).ok()
-}
-
-/// Runs the words over a folder that has this one file `p`. `None` where the test itself finds no memory.
-fn outcome_of(alloc: Global, page: &[u8], words: &[&[u8]], failing: Failing) -> Option<Outcome> {
+/// Runs the words over these files.
+fn came_to(
+    alloc: Global,
+    files: Vec<(Name, Items<u8>)>,
+    words: &[&[u8]],
+    failing: Failing,
+) -> Option<Came>
+    requires { IsAscending (names_of files.items) }
+{
     let words = words_of(alloc, words)?;
-    let mut folder = folder_of(alloc, page, failing.folder)?;
+    let mut folder = MemoryFolder::new(alloc, files, list_of(alloc, failing.folder)?).ok()?;
     let mut out = MemorySink::new(alloc, list_of(alloc, failing.out)?);
     let mut report = MemorySink::new(alloc, list_of(alloc, failing.report)?);
     let mut meter = CountMeter::new();
@@ -85,7 +98,7 @@ fn outcome_of(alloc: Global, page: &[u8], words: &[&[u8]], failing: Failing) -> 
         &mut report,
         &mut meter,
     );
-    Some(Outcome {
+    Some(Came {
         status: status.0,
         out: Vec::from_slice(alloc, out.bytes()).ok()?,
         report: Vec::from_slice(alloc, report.bytes()).ok()?,
@@ -93,149 +106,203 @@ fn outcome_of(alloc: Global, page: &[u8], words: &[&[u8]], failing: Failing) -> 
     })
 }
 
+/// Runs the words over the files `p`, with these bytes, and `q`, a blank page.
+fn came_over(alloc: Global, p: &[u8], words: &[&[u8]], failing: Failing) -> Option<Came> {
+    let files = two_files(alloc, p, BLANK)?;
+    came_to(alloc, files, words, failing)
+}
+
 /// Asserts what a run came to.
-fn expect_outcome(
+fn expect_came(
     rt: &impl Abort,
-    outcome: Option<Outcome>,
+    came: Option<Came>,
     status: u8,
     out: &[u8],
     report: &[u8],
     number: usize,
 ) {
-    let Some(outcome) = outcome else {
+    let Some(came) = came else {
         panic!(rt; "case {number}: no memory")
     };
-    assert_eq!(rt; outcome.status, status, "case {number}: the status");
-    assert_eq!(rt; outcome.out.as_slice(), out, "case {number}: the output");
-    assert_eq!(rt;
-        outcome.report.as_slice(),
-        report,
-        "case {number}: the report"
-    );
-    assert_eq!(rt; outcome.ticks, 0, "case {number}: the meter");
+    assert_eq!(rt; came.status, status, "case {number}: the status");
+    assert_eq!(rt; came.out.as_slice(), out, "case {number}: the output");
+    assert_eq!(rt; came.report.as_slice(), report, "case {number}: the report");
+    assert_eq!(rt; came.ticks, 0, "case {number}: the meter");
 }
 
-/// A file, and what is wanted of `draw p` over it.
-struct FileCase {
+/// What is wanted of words over a file `p`.
+struct Case {
+    words: &'static [&'static [u8]],
     page: &'static [u8],
     status: u8,
     out: &'static [u8],
     report: &'static [u8],
 }
 
-const UNSUPPORTED: &[u8] = b"p: unsupported p 0\n";
+const DRAW_P: &[&[u8]] = &[b"draw", b"p"];
 
-const FILES: [FileCase; 8] = [
-    FileCase {
+const INFO_P: &[&[u8]] = &[b"info", b"p"];
+
+/// Pages that are drawn: as it is, without the four bytes before the FORM, with bytes behind it, and with a chunk that
+/// isn't read.
+const DRAWN: [&[u8]; 4] = [
+    BLANK,
+    b"FORM\0\0\0\x16DJVUINFO\0\0\0\x0A\0\x01\0\x01\x18\0\x2C\x01\x16\x01",
+    b"FORM\0\0\0\x16DJVUINFO\0\0\0\x0A\0\x01\0\x01\x18\0\x2C\x01\x16\x01FORM",
+    b"AT&TFORM\0\0\0\x1EDJVUINFO\0\0\0\x0A\0\x01\0\x01\x18\0\x2C\x01\x16\x01TXTz\0\0\0\0",
+];
+
+/// Pages that are refused, and what is reported of them.
+const REFUSED: [(&[u8], &[u8]); 9] = [
+    (NONE, b"p: truncated p 0\n"),
+    (MASKED, b"p: chunk 1 sum 765\np: unsupported p 34\n"),
+    // A chunk that is too long, and one that is never read.
+    (
+        b"AT&TFORM\0\0\0\x1EDJVUINFO\0\0\0\x0A\0\x01\0\x01\x18\0\x2C\x01\x16\x01BG44\0\0\0\x64",
+        b"p: chunk 1 sum 765\np: overrun p 34\n",
+    ),
+    (
+        b"AT&TFORM\0\0\0\x1EDJVUINFO\0\0\0\x0A\0\x01\0\x01\x18\0\x2C\x01\x16\x01FGbz\0\0\0\0",
+        b"p: chunk 1 sum 765\np: unsupported p 34\n",
+    ),
+    // An area of 67,173,375, and no columns.
+    (
+        b"AT&TFORM\0\0\0\x16DJVUINFO\0\0\0\x0A\xFF\xFF\x04\x01\x18\0\x2C\x01\x16\x01",
+        b"p: too-large p 16\n",
+    ),
+    (
+        b"AT&TFORM\0\0\0\x16DJVUINFO\0\0\0\x0A\0\0\0\x01\x18\0\x2C\x01\x16\x01",
+        b"p: bad-info p 16\n",
+    ),
+    // Two chunks INFO, and a mask before the first.
+    (
+        b"AT&TFORM\0\0\0\x28DJVUINFO\0\0\0\x0A\0\x01\0\x01\x18\0\x2C\x01\x16\x01INFO\0\0\0\x0A\0\x01\0\x01\x18\0\x2C\x01\x16\x01",
+        b"p: chunk 1 sum 765\np: second-info p 34\n",
+    ),
+    (
+        b"AT&TFORM\0\0\0\x10DJVUSjbz\0\0\0\x04\xB7\x6D\x86\x87",
+        b"p: no-info p 16\n",
+    ),
+    // A byte behind the chunk, where the FORM has room for one.
+    (
+        b"AT&TFORM\0\0\0\x17DJVUINFO\0\0\0\x0A\0\x01\0\x01\x18\0\x2C\x01\x16\x01\0",
+        b"p: chunk 1 sum 765\np: short-header p 34\n",
+    ),
+];
+
+const COMMANDS: [Case; 9] = [
+    Case {
+        words: INFO_P,
+        page: MASKED,
+        status: 0,
+        out: NONE,
+        report: b"p: form DJVU 34\np: chunk INFO 16 10\np: chunk Sjbz 34 4\n",
+    },
+    Case {
+        words: INFO_P,
+        page: b"FORM\0\0\0\x15DJVIDjbz\0\0\0\x02ab\xFF\xFE\xFD\xFC\0\0\0",
+        status: 1,
+        out: NONE,
+        report: b"p: form DJVI 21\np: chunk Djbz 12 2\np: short-header p 22\n",
+    },
+    // Both pages, of which the first is refused, and their chunks the other way round.
+    Case {
+        words: &[b"draw", b"p", b"q"],
+        page: NONE,
+        status: 1,
+        out: RASTER,
+        report: b"p: truncated p 0\nq: chunk 1 sum 765\n",
+    },
+    Case {
+        words: &[b"info", b"q", b"p"],
+        page: NONE,
+        status: 1,
+        out: NONE,
+        report: b"q: form DJVU 22\nq: chunk INFO 16 10\np: truncated p 0\n",
+    },
+    Case {
+        words: &[b"draw", b"p", b"p"],
         page: BLANK,
-        status: 0,
-        out: RASTER,
-        report: LINE,
+        status: 2,
+        out: NONE,
+        report: b"words 2\n",
     },
-    // No file.
-    FileCase {
-        page: b"",
-        status: 1,
-        out: b"",
-        report: b"p: truncated p 0\n",
+    Case {
+        words: &[b"draw"],
+        page: BLANK,
+        status: 2,
+        out: NONE,
+        report: b"words 1\n",
     },
-    // Without the four bytes before the FORM, and with bytes behind it.
-    FileCase {
-        page: b"FORM\0\0\0\x16DJVUINFO\0\0\0\x0A\0\x01\0\x01\x18\0\x2C\x01\x16\x01",
-        status: 0,
-        out: RASTER,
-        report: LINE,
+    Case {
+        words: &[b"draw", b"--", b"p"],
+        page: BLANK,
+        status: 2,
+        out: NONE,
+        report: b"words 1\n",
     },
-    FileCase {
-        page: b"FORM\0\0\0\x16DJVUINFO\0\0\0\x0A\0\x01\0\x01\x18\0\x2C\x01\x16\x01FORM",
-        status: 0,
-        out: RASTER,
-        report: LINE,
+    // The second page isn't there, and nothing is drawn.
+    Case {
+        words: &[b"draw", b"p", b"r", b"q"],
+        page: BLANK,
+        status: 2,
+        out: NONE,
+        report: b"words 2\n",
     },
-    // Cut by a byte.
-    FileCase {
-        page: b"FORM\0\0\0\x16DJVUINFO\0\0\0\x0A\0\x01\0\x01\x18\0\x2C\x01\x16",
-        status: 1,
-        out: b"",
-        report: UNSUPPORTED,
-    },
-    // Another length of the FORM, a width of 0, and an area of 67,173,375.
-    FileCase {
-        page: b"FORM\0\0\0\x17DJVUINFO\0\0\0\x0A\0\x01\0\x01\x18\0\x2C\x01\x16\x01",
-        status: 1,
-        out: b"",
-        report: UNSUPPORTED,
-    },
-    FileCase {
-        page: b"FORM\0\0\0\x16DJVUINFO\0\0\0\x0A\0\0\0\x01\x18\0\x2C\x01\x16\x01",
-        status: 1,
-        out: b"",
-        report: UNSUPPORTED,
-    },
-    FileCase {
-        page: b"FORM\0\0\0\x16DJVUINFO\0\0\0\x0A\xFF\xFF\x04\x01\x18\0\x2C\x01\x16\x01",
-        status: 1,
-        out: b"",
-        report: UNSUPPORTED,
+    Case {
+        words: &[b"show", b"p"],
+        page: BLANK,
+        status: 2,
+        out: NONE,
+        report: b"words 0\n",
     },
 ];
 
 #[test]
-fn files(rt: HostRuntime) {
-    for (number, case) in FILES.iter().enumerate() {
-        let words: &[&[u8]] = &[b"draw".as_slice(), b"p".as_slice()];
-        let outcome = outcome_of(rt.alloc(), case.page, words, SOUND);
-        expect_outcome(&rt, outcome, case.status, case.out, case.report, number);
+fn drawn_and_refused_pages(rt: HostRuntime) {
+    for (number, page) in DRAWN.into_iter().enumerate() {
+        let came = came_over(rt.alloc(), page, DRAW_P, SOUND);
+        expect_came(&rt, came, 0, RASTER, LINE, number);
+    }
+    for (number, (page, report)) in REFUSED.into_iter().enumerate() {
+        let came = came_over(rt.alloc(), page, DRAW_P, SOUND);
+        expect_came(&rt, came, 1, NONE, report, number);
     }
 }
 
 #[test]
-fn refused_words(rt: HostRuntime) {
-    let cases: [(&[&[u8]], &[u8]); 7] = [
-        (&[], b"words 0\n".as_slice()),
-        (
-            &[b"show".as_slice(), b"p".as_slice()],
-            b"words 0\n".as_slice(),
-        ),
-        (&[b"draw".as_slice()], b"words 1\n".as_slice()),
-        (
-            &[b"draw".as_slice(), b"--p".as_slice()],
-            b"words 1\n".as_slice(),
-        ),
-        (
-            &[b"draw".as_slice(), b"\xFF".as_slice(), b"p".as_slice()],
-            b"words 1\n".as_slice(),
-        ),
-        (
-            &[b"draw".as_slice(), b"q".as_slice()],
-            b"words 1\n".as_slice(),
-        ),
-        (
-            &[b"draw".as_slice(), b"p".as_slice(), b"p".as_slice()],
-            b"words 2\n".as_slice(),
-        ),
-    ];
-    for (number, (words, report)) in cases.into_iter().enumerate() {
-        let outcome = outcome_of(rt.alloc(), BLANK, words, SOUND);
-        expect_outcome(&rt, outcome, 2, b"".as_slice(), report, number);
+fn commands(rt: HostRuntime) {
+    for (number, case) in COMMANDS.iter().enumerate() {
+        let came = came_over(rt.alloc(), case.page, case.words, SOUND);
+        expect_came(&rt, came, case.status, case.out, case.report, number);
     }
 }
 
-/// Each call of the folder and of both sinks that drawing the blank page makes fails in turn: the folder lists, opens,
-/// and reads until a read gives nothing; the report gets one line; the output gets the raster's head and its rows.
+/// Each call of the folder and of both sinks that drawing two blank pages makes fails in turn. The folder lists; for each
+/// page it opens, and reads until a read gives nothing. The report gets one line for each page; the output gets for each a
+/// raster's head and its rows.
 #[test]
 fn failing_calls(rt: HostRuntime) {
-    let none = b"".as_slice();
-    let cases: [(Option<u64>, Option<u64>, Option<u64>, u8, &[u8], &[u8]); 9] = [
-        (Some(0), None, None, 3, none, none),
-        (Some(1), None, None, 3, none, none),
-        (Some(2), None, None, 3, none, none),
-        (Some(3), None, None, 3, none, none),
-        (Some(4), None, None, 0, RASTER, LINE),
-        (None, Some(0), None, 4, none, LINE),
-        (None, Some(1), None, 4, &RASTER[..11], LINE),
-        (None, Some(2), None, 0, RASTER, LINE),
-        (None, None, Some(0), 4, none, none),
+    let first_lost: &[u8] = b"p: read p 0\nq: chunk 1 sum 765\n";
+    let second_lost: &[u8] = b"p: chunk 1 sum 765\nq: read q 0\n";
+    let cases: [(Option<u64>, Option<u64>, Option<u64>, u8, &[u8], &[u8]); 15] = [
+        (Some(0), None, None, 3, NONE, NONE),
+        (Some(1), None, None, 3, RASTER, first_lost),
+        (Some(2), None, None, 3, RASTER, first_lost),
+        // All bytes had arrived.
+        (Some(3), None, None, 3, BOTH_RASTERS, BOTH_LINES),
+        (Some(4), None, None, 3, RASTER, second_lost),
+        (Some(5), None, None, 3, RASTER, second_lost),
+        (Some(6), None, None, 3, BOTH_RASTERS, BOTH_LINES),
+        (Some(7), None, None, 0, BOTH_RASTERS, BOTH_LINES),
+        (None, Some(0), None, 4, NONE, LINE),
+        (None, Some(1), None, 4, &BOTH_RASTERS[..11], LINE),
+        (None, Some(2), None, 4, RASTER, BOTH_LINES),
+        (None, Some(3), None, 4, &BOTH_RASTERS[..25], BOTH_LINES),
+        (None, Some(4), None, 0, BOTH_RASTERS, BOTH_LINES),
+        (None, None, Some(0), 4, NONE, NONE),
+        // The folder failed before, too.
+        (Some(1), None, Some(1), 4, NONE, b"p: read p 0\n"),
     ];
     for (number, (folder, out_call, report_call, status, out, report)) in cases
         .into_iter()
@@ -246,16 +313,48 @@ fn failing_calls(rt: HostRuntime) {
             out: out_call,
             report: report_call,
         };
-        let words: &[&[u8]] = &[b"draw".as_slice(), b"p".as_slice()];
-        let outcome = outcome_of(rt.alloc(), BLANK, words, failing);
-        expect_outcome(&rt, outcome, status, out, report, number);
+        let words: &[&[u8]] = &[b"draw", b"p", b"q"];
+        let came = came_over(rt.alloc(), BLANK, words, failing);
+        expect_came(&rt, came, status, out, report, number);
     }
 }
 
-/// Runs `draw p` over a folder and sinks that never fail.
-fn sure_outcome(alloc: Global) -> Option<Outcome> {
-    let words = words_of(alloc, &[b"draw", b"p"])?;
-    let mut folder = SureFolder::new(alloc, files_of(alloc, BLANK)?);
+/// Whether the names of these files ascend.
+fn ascend(files: &[(Name, Items<u8>)]) -> bool
+    ensures { result ≡ is_ascending (names_of files.now) }
+{
+    let Some((first, others)) = files.split_first() else {
+        return true;
+    };
+    let Some((next, _)) = others.split_first() else {
+        return true;
+    };
+    first.0.bytes().cmp(next.0.bytes()).is_lt() && ascend(others)
+}
+
+/// 1,025 files, with numbers of four digits as their names.
+fn crowd(alloc: Global) -> Option<Vec<(Name, Items<u8>)>>
+    ensures { IfSome result (λ files. IsAscending (names_of files.items)) }
+{
+    let mut files = Vec::new(alloc);
+    for number in 1_000..2_025_u32 {
+        let name = format!(in alloc; "{number}").ok()?;
+        let name = Name::read(alloc, name.as_bytes()).ok()??;
+        files.push((name, Items::of(Vec::new(alloc)))).ok()?;
+    }
+    ascend(files.as_slice()).then_some(files)
+}
+
+/// Draws a page in a folder that has too many names.
+fn came_in_crowd(alloc: Global) -> Option<Came> {
+    let files = crowd(alloc)?;
+    came_to(alloc, files, &[b"draw", b"1000"], SOUND)
+}
+
+/// Draws both pages over a folder and sinks that never fail.
+fn sure_came(alloc: Global) -> Option<Came> {
+    let words = words_of(alloc, &[b"draw", b"p", b"q"])?;
+    let mut folder = SureFolder::new(alloc, two_files(alloc, BLANK, BLANK)?);
     let mut out = SureSink::new(alloc);
     let mut report = SureSink::new(alloc);
     let mut meter = CountMeter::new();
@@ -267,7 +366,7 @@ fn sure_outcome(alloc: Global) -> Option<Outcome> {
         &mut report,
         &mut meter,
     );
-    Some(Outcome {
+    Some(Came {
         status: status.0,
         out: Vec::from_slice(alloc, out.bytes()).ok()?,
         report: Vec::from_slice(alloc, report.bytes()).ok()?,
@@ -276,6 +375,8 @@ fn sure_outcome(alloc: Global) -> Option<Outcome> {
 }
 
 #[test]
-fn a_page_is_drawn_where_nothing_can_fail(rt: HostRuntime) {
-    expect_outcome(&rt, sure_outcome(rt.alloc()), 0, RASTER, LINE, 0);
+fn other_folders(rt: HostRuntime) {
+    let crowded = came_in_crowd(rt.alloc());
+    expect_came(&rt, crowded, 2, NONE, b"folder 1025\n", 0);
+    expect_came(&rt, sure_came(rt.alloc()), 0, BOTH_RASTERS, BOTH_LINES, 1);
 }

@@ -1,7 +1,7 @@
 use Rattle.std.proofs.Common.{◌≡◌, ◌*◌, ◌++◌, ap, ◌∙◌, subst, replicate}
 use Rattle.std.proofs.lemmas.Result.{err_from_is_err_and}
 use Rattle.djvu_outside.specs.Reading.{GrowsWithin}
-use Rattle.viewer_run.specs.Page.{white_samples}
+use Rattle.viewer_run.specs.Lines.{white_samples}
 use Rattle.viewer_run.specs.Lines.{raster_head, raster_text}
 use Rattle.viewer_run.specs.Outcome.{Delivers}
 use Rattle.viewer_run.proofs.Parts.{grows_within_more, delivers_behind, thrice}

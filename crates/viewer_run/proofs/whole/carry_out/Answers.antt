@@ -1,46 +1,40 @@
-use Rattle.std.proofs.Common.{◌≡◌, ℕ, List, sym, ◌∙◌, subst, IfOk}
-use Rattle.viewer_run.specs.Offline.{Texts}
-use Rattle.viewer_run.specs.Outcome.{Gives, Delivers}
-use Rattle.viewer_run.proofs.Parts.{nothing_put}
-use Rattle.viewer_run.proofs.Texts.{refused_texts, drawn_texts}
+use Rattle.std.proofs.Common.{List, ℕ, Err, ap, sym, ◌∙◌, subst}
+use Rattle.std.proofs.lemmas.Result.{err_from_is_err_and}
+use Rattle.viewer_run.specs.Outcome.{Gives}
+use Rattle.viewer_run.specs.Shown.{Shows}
+use Rattle.viewer_run.specs.Start.{CanShow}
+use Rattle.viewer_run.proofs.Running.{runs_shown, runs_stopped, runs_refused, runs_early, never_folder, sink_only}
 use Rattle.viewer_run.proofs.whole.carry_out.Goals as goal
 
-pub returns-in-Refused-clause-out_text : goal.returns-in-Refused-clause-out_text
-returns-in-Refused-clause-out_text g c told files before given =
-    let texts = refused_texts told c.args.words.now c.in-Refused.line (sym c.in-Refused.is ∙ c.in_ok-line.ensures.told told files) in
-    (before, given, subst (λ (t : Texts). Delivers c.refuse.result before t.out before) (sym texts) (nothing_put c.refuse.result before))
+pub returns-in_err-line-clause-told : goal.returns-in_err-line-clause-told
+returns-in_err-line-clause-told g c told files =
+    let p = err_from_is_err_and c.from_residual.result c.from_residual.ensures.1 in
+    runs_early told c.args.words.now c.find_front.result c.in_err-line.field-0.0 c.from_residual.result _ _ _ _ c.in_err-line.was (c.find_front.ensures.failure told files) (p.1 ∙ ap Err p.2)
 
-pub returns-in-Refused-clause-report_text : goal.returns-in-Refused-clause-report_text
-returns-in-Refused-clause-report_text g c told files =
-    let texts = refused_texts told c.args.words.now c.in-Refused.line (sym c.in-Refused.is ∙ c.in_ok-line.ensures.told told files) in
-    subst (λ (t : Texts). Gives c.refuse.result (g.E.Sink.given c.args.report.now) (g.E.Sink.given c.refuse.new.report) t.report) (sym texts)
-    (subst (λ (line : List ℕ). Gives c.refuse.result (g.E.Sink.given c.args.report.now) (g.E.Sink.given c.refuse.new.report) line) c.slice.ensures c.refuse.ensures.report_text)
+pub returns-in_err-shown-in-Accepted-clause-told : goal.returns-in_err-shown-in-Accepted-clause-told
+returns-in_err-shown-in-Accepted-clause-told g c told files =
+    let p = err_from_is_err_and c.from_residual-in_err-shown-in-Accepted.result c.from_residual-in_err-shown-in-Accepted.ensures.1 in
+    runs_stopped told c.args.words.now c.in-Accepted.pages c.in-Accepted.mode c.show_pages.result c.from_residual-in_err-shown-in-Accepted.result c.in_err-shown-in-Accepted.field-0.0 _ _ _ _ _ _ _
+    (sym c.in-Accepted.is ∙ c.in_ok-line.ensures.told told files) (subst (CanShow told) c.in-Accepted.is (c.in_ok-line.ensures.can_show told files))
+    (c.in_ok-line.ensures.failure told files) (subst (λ (names : List (List ℕ)). Shows c.in-Accepted.mode told names c.show_pages.result (g.F.Folder.failures c.find_front.new.folder) (g.F.Folder.failures c.show_pages.new.folder) (g.S.Sink.given c.args.out.now) (g.S.Sink.given c.show_pages.new.out) (g.E.Sink.given c.args.report.now) (g.E.Sink.given c.show_pages.new.report)) c.slice-in-Accepted.ensures (c.show_pages.ensures.told told (c.in_ok-line.ensures.same_files ∙ files))) c.in_err-shown-in-Accepted.was
+    (never_folder c.show_pages.result c.in_err-shown-in-Accepted.field-0.0 c.show_pages.ensures.no_folder c.in_err-shown-in-Accepted.was) (p.1 ∙ ap Err p.2)
 
-pub returns-in-Refused-clause-status : goal.returns-in-Refused-clause-status
-returns-in-Refused-clause-status g c told files =
-    let texts = refused_texts told c.args.words.now c.in-Refused.line (sym c.in-Refused.is ∙ c.in_ok-line.ensures.told told files) in
-    subst (λ (t : Texts). IfOk c.refuse.result (λ status. status.0 ≡ t.status)) (sym texts) c.refuse.ensures.status
+pub returns-in_err-shown-in-Accepted-clause-words_first : goal.returns-in_err-shown-in-Accepted-clause-words_first
+returns-in_err-shown-in-Accepted-clause-words_first g c number e = let both = sym c.in-Accepted.is ∙ c.in_ok-line.ensures.refused number e in cc
 
-pub returns-in-Draw-clause-out_text : goal.returns-in-Draw-clause-out_text
-returns-in-Draw-clause-out_text g c told files =
-    let texts = drawn_texts told c.args.words.now c.in-Draw.page (sym c.in-Draw.is ∙ c.in_ok-line.ensures.told told files) in
-    subst (λ (t : Texts). Gives c.draw.result (g.S.Sink.given c.args.out.now) (g.S.Sink.given c.draw.new.out) t.out) (sym texts)
-    (c.draw.ensures.out_text told (c.in_ok-line.ensures.same_files ∙ files))
+pub returns-in-Refused-clause-told : goal.returns-in-Refused-clause-told
+returns-in-Refused-clause-told g c told files =
+    runs_refused told c.args.words.now c.in-Refused.line c.refuse.result _ _ _ _ _ (sym c.in-Refused.is ∙ c.in_ok-line.ensures.told told files) (c.in_ok-line.ensures.failure told files)
+    (subst (λ (line : List ℕ). Gives c.refuse.result (g.E.Sink.given c.args.report.now) (g.E.Sink.given c.refuse.new.report) line) c.slice.ensures c.refuse.ensures.report_text) c.refuse.ensures.status (sink_only c.refuse.result _ _ c.refuse.ensures.stops)
 
-pub returns-in-Draw-clause-report_text : goal.returns-in-Draw-clause-report_text
-returns-in-Draw-clause-report_text g c told files =
-    let texts = drawn_texts told c.args.words.now c.in-Draw.page (sym c.in-Draw.is ∙ c.in_ok-line.ensures.told told files) in
-    subst (λ (t : Texts). Gives c.draw.result (g.E.Sink.given c.args.report.now) (g.E.Sink.given c.draw.new.report) t.report) (sym texts)
-    (c.draw.ensures.report_text told (c.in_ok-line.ensures.same_files ∙ files))
+pub returns-in_ok-shown-in-Accepted-clause-told : goal.returns-in_ok-shown-in-Accepted-clause-told
+returns-in_ok-shown-in-Accepted-clause-told g c told files =
+    runs_shown told c.args.words.now c.in-Accepted.pages c.in-Accepted.mode c.show_pages.result c.in_ok-shown-in-Accepted.shown c.status.result _ _ _ _ _ _ _
+    (sym c.in-Accepted.is ∙ c.in_ok-line.ensures.told told files) (subst (CanShow told) c.in-Accepted.is (c.in_ok-line.ensures.can_show told files))
+    (c.in_ok-line.ensures.failure told files) (subst (λ (names : List (List ℕ)). Shows c.in-Accepted.mode told names c.show_pages.result (g.F.Folder.failures c.find_front.new.folder) (g.F.Folder.failures c.show_pages.new.folder) (g.S.Sink.given c.args.out.now) (g.S.Sink.given c.show_pages.new.out) (g.E.Sink.given c.args.report.now) (g.E.Sink.given c.show_pages.new.report)) c.slice-in-Accepted.ensures (c.show_pages.ensures.told told (c.in_ok-line.ensures.same_files ∙ files))) c.in_ok-shown-in-Accepted.was c.status.ensures
 
-pub returns-in-Draw-clause-status : goal.returns-in-Draw-clause-status
-returns-in-Draw-clause-status g c told files =
-    let texts = drawn_texts told c.args.words.now c.in-Draw.page (sym c.in-Draw.is ∙ c.in_ok-line.ensures.told told files) in
-    subst (λ (t : Texts). IfOk c.draw.result (λ status. status.0 ≡ t.status)) (sym texts)
-    (c.draw.ensures.status told (c.in_ok-line.ensures.same_files ∙ files))
+pub returns-in_ok-shown-in-Accepted-clause-words_first : goal.returns-in_ok-shown-in-Accepted-clause-words_first
+returns-in_ok-shown-in-Accepted-clause-words_first g c number e = let both = sym c.in-Accepted.is ∙ c.in_ok-line.ensures.refused number e in cc
 
-pub returns-in-Draw-clause-words_first : goal.returns-in-Draw-clause-words_first
-returns-in-Draw-clause-words_first g c number e = let both = sym c.in-Draw.is ∙ c.in_ok-line.ensures.refused number e in cc
-
-pub returns-in-Draw-clause-refused : goal.returns-in-Draw-clause-refused
-returns-in-Draw-clause-refused g c number e = let both = sym c.in-Draw.is ∙ c.in_ok-line.ensures.refused number e in cc
+pub returns-in_ok-shown-in-Accepted-clause-refused : goal.returns-in_ok-shown-in-Accepted-clause-refused
+returns-in_ok-shown-in-Accepted-clause-refused g c number e = let both = sym c.in-Accepted.is ∙ c.in_ok-line.ensures.refused number e in cc

@@ -1,0 +1,158 @@
+-- The texts of pages, and the failures that were met.
+use Rattle.std.proofs.Common.{◌≡◌, ℕ, ◌+◌, Bool, true, false, cond, ◌||◌, Option, Some, None, Result, Ok, Err, IsErr, IfOk, List, [], ◌∷◌, ◌++◌, length, take, refl, sym, ap, ◌∙◌, subst, arith}
+use Rattle.std.specs.Str.{bytes_eq}
+use Rattle.std.proofs.lemmas.Bool.{true≢false}
+use Rattle.std.proofs.lemmas.Slice.Eq.{bytes_eq-Decides}
+use Rattle.std.proofs.lemmas.List.{append-nil}
+use Rattle.djvu_base.specs.Library.{File, Files, Whole, Broken, file_limit}
+use Rattle.djvu_outside.specs.Faults.{Failure, Reading}
+use Rattle.djvu_outside.specs.Reading.{bytes_in}
+use Rattle.viewer_run.specs.declared.pages.Shown.{Shown}
+use Rattle.viewer_run.specs.declared.reading.FileEnd.{FileEnd}
+use Rattle.viewer_run.specs.declared.reading.FileEnd.TheVariants as file_end
+use Rattle.viewer_run.specs.declared.reading.PageReading.{PageReading}
+use Rattle.viewer_run.specs.declared.stop.Stop.{Stop}
+use Rattle.viewer_run.specs.Came.{IsReadTo}
+use Rattle.viewer_run.specs.Cut.{cut_at, front_failed}
+use Rattle.viewer_run.specs.Shown.{file_of, file_read, texts_of_pages, NamesOnly, HasBroken, Shows}
+use Rattle.viewer_run.specs.declared.front.Mode.{Mode}
+use Rattle.iff_chunks.specs.Chunks.{Tail, InHead, InHeader, InData, InPad, FormEnd, Broken as BrokenOff, chunks_of}
+use Rattle.viewer_run.specs.Info.{fault_text, info_of_file}
+use Rattle.viewer_run.specs.Offline.{texts_by}
+use Rattle.viewer_run.specs.Texts.{Texts, no_texts, joined, texts_at, texts_of_file}
+use Rattle.viewer_run.specs.Outcome.{Gives}
+use Rattle.viewer_run.specs.Progress.{mark_of, is_broken, announced, ending, IsReading}
+use Rattle.viewer_run.specs.Reading.{Reading as PageResult, reading, closed}
+
+pub same_name : (name : List ℕ) → bytes_eq name name ≡ true
+same_name name = (bytes_eq-Decides name name).1 refl
+
+-- what the reading of a file came to, by the failures that it added
+pub record IsReadWith (files : Files) (name bytes : List ℕ) (end : FileEnd) (old new : List Failure) : Type 0 where
+  pub added : List Failure
+  pub grown : new ≡ old ++ added
+  pub only : NamesOnly (name ∷ []) added
+  pub behind : front_failed added ≡ false
+  pub file : file_of files added name ≡ record { name = name; bytes = bytes; mark = mark_of end }
+  pub broken : HasBroken (is_broken end) added
+
+not_other : (other : Bool) (count : ℕ) → (other || false) ≡ false → cond other (Some count) None ≡ None
+not_other true count e = absurd (true≢false e)
+not_other false count e = refl
+
+pub read_with : (files : Files) (name bytes : List ℕ) (end : FileEnd) (old new : List Failure) → IsReadTo end bytes (take file_limit (bytes_in files name)) name 0 old new → IsReadWith files name bytes end old new
+read_with files name bytes file_end.Whole old new r = record {
+  added = [];
+  grown = r.1 ∙ sym (append-nil old);
+  only = λ other e. refl;
+  behind = refl;
+  file = ap (λ b. let f : File = record { name = name; bytes = b; mark = Whole } in f) (sym r.0);
+  broken = refl;
+}
+read_with files name bytes file_end.Broken old new r =
+    let count : 0 + length bytes ≡ length bytes = omega arith in
+    record {
+      added = Reading name (length bytes) ∷ [];
+      grown = r.1 ∙ ap (λ n. old ++ Reading name n ∷ []) count;
+      behind = refl;
+      only = λ other e. not_other (bytes_eq other name) (length bytes) e;
+      file =
+          ap (λ t. cut_at (cond t (Some (length bytes)) None) (record { name = name; bytes = take file_limit (bytes_in files name); mark = Whole })) (same_name name)
+          ∙ ap (λ b. let f : File = record { name = name; bytes = b; mark = Broken } in f) (sym r.0);
+      broken = λ e. cc;
+    }
+
+-- the texts of a page that was read so
+page_texts : (mode : Mode) (files : Files) (name bytes : List ℕ) (end : FileEnd) (old new : List Failure) (w : IsReadWith files name bytes end old new)
+    → texts_of_pages mode files w.added (name ∷ []) ≡ joined (texts_by mode (file_read name bytes end)) no_texts
+page_texts mode files name bytes end old new w = ap (λ f. joined (texts_by mode f) no_texts) w.file
+
+same_texts : {T : Type 0} (result : Result T Stop) (old new : Option (List ℕ)) (text other : List ℕ) → text ≡ other → Gives result old new text → Gives result old new other
+same_texts {T = T} result old new text other e g = subst (λ t. Gives {T = T} result old new t) e g
+
+-- a page that was put, or a front of it
+pub shows_page : (mode : Mode) (files : Files) (name bytes : List ℕ) (end : FileEnd) (old new : List Failure) (put : Result Bool Stop) (result : Result Shown Stop) (old_out new_out old_report new_report : Option (List ℕ))
+    → IsReadWith files name bytes end old new
+    → ((text : List ℕ) → Gives put old_out new_out text → Gives result old_out new_out text) → ((text : List ℕ) → Gives put old_report new_report text → Gives result old_report new_report text)
+    → Gives put old_out new_out (texts_by mode (file_read name bytes end)).out → Gives put old_report new_report (texts_by mode (file_read name bytes end)).report
+    → IfOk result (λ shown. (shown.refused ≡ (texts_by mode (file_read name bytes end)).refused) × (shown.broken ≡ is_broken end))
+    → Shows mode files (name ∷ []) result old new old_out new_out old_report new_report
+shows_page mode files name bytes end old new put result old_out new_out old_report new_report w outs reports gave told done =
+    let texts = page_texts mode files name bytes end old new w in
+    let here = texts_by mode (file_read name bytes end) in
+    record {
+      added = w.added;
+      grown = w.grown;
+      only = w.only;
+      behind = w.behind;
+      out = same_texts result old_out new_out here.out (texts_of_pages mode files w.added (name ∷ [])).out (sym (ap (λ (t : Texts). t.out) texts ∙ append-nil here.out)) (outs here.out gave);
+      report = same_texts result old_report new_report here.report (texts_of_pages mode files w.added (name ∷ [])).report (sym (ap (λ (t : Texts). t.report) texts ∙ append-nil here.report)) (reports here.report told);
+      refused = by_refused result done;
+      broken = by_broken result done;
+    }
+  where
+    or_false : (b : Bool) → (b || false) ≡ b
+    or_false true = refl
+    or_false false = refl
+
+    by_refused : (result : Result Shown Stop) → IfOk result (λ shown. (shown.refused ≡ (texts_by mode (file_read name bytes end)).refused) × (shown.broken ≡ is_broken end)) → IfOk result (λ shown. shown.refused ≡ (texts_of_pages mode files w.added (name ∷ [])).refused)
+    by_refused (Ok shown) d = d.0 ∙ sym (ap (λ (t : Texts). t.refused) (page_texts mode files name bytes end old new w) ∙ or_false (texts_by mode (file_read name bytes end)).refused)
+    by_refused (Err stop) d = tt
+
+    by_broken : (result : Result Shown Stop) → IfOk result (λ shown. (shown.refused ≡ (texts_by mode (file_read name bytes end)).refused) × (shown.broken ≡ is_broken end)) → IfOk result (λ shown. HasBroken shown.broken w.added)
+    by_broken (Ok shown) d = subst (λ b. HasBroken b w.added) (sym d.1) w.broken
+    by_broken (Err stop) d = tt
+
+-- a page that wasn't read
+pub shows_nothing : (mode : Mode) (files : Files) (name : List ℕ) (result : Result Shown Stop) (old new : List Failure) (old_out old_report : Option (List ℕ)) → IsErr result → new ≡ old → Shows mode files (name ∷ []) result old new old_out old_out old_report old_report
+shows_nothing mode files name (Ok drawn) old new old_out old_report is_err e = absurd (cc)
+shows_nothing mode files name (Err stop) old new old_out old_report is_err e = record {
+  added = [];
+  grown = e ∙ sym (append-nil old);
+  only = λ other n. refl;
+  behind = refl;
+  out = λ before given. (before, given, ([], (texts_of_pages mode files [] (name ∷ [])).out, refl, sym (append-nil before)));
+  report = λ before given. (before, given, ([], (texts_of_pages mode files [] (name ∷ [])).report, refl, sym (append-nil before)));
+  refused = tt;
+  broken = tt;
+}
+
+-- a part that stops gives what it gave
+pub gives_err : (put : Result Bool Stop) (fault : Stop) (result : Result Shown Stop) → put ≡ Err fault → IsErr result → (old new : Option (List ℕ)) (text : List ℕ) → Gives put old new text → Gives result old new text
+gives_err put fault (Ok drawn) e is_err old new text g = absurd (cc)
+gives_err put fault (Err stop) e is_err old new text g = λ before given. let there = (subst (λ p. Gives p old new text) e g) before given in (there.0, there.1, there.2)
+
+pub gives_ok : (put : Result Bool Stop) (refused : Bool) (drawn : Shown) → put ≡ Ok refused → (old new : Option (List ℕ)) (text : List ℕ) → Gives put old new text → Gives {T = Shown} (Ok drawn) old new text
+gives_ok put refused drawn e old new text g = λ before given. let there = (subst (λ p. Gives p old new text) e g) before given in (there.0, there.1, there.2)
+
+pub done_err : (result : Result Shown Stop) (refused broken : Bool) → IsErr result → IfOk result (λ drawn. (drawn.refused ≡ refused) × (drawn.broken ≡ broken))
+done_err (Ok drawn) refused broken is_err = absurd (cc)
+done_err (Err stop) refused broken is_err = tt
+
+-- the texts of a page that is drawn, by its reading
+pub drawn_texts : (name bytes : List ℕ) (end : FileEnd) (read : PageReading) → IsReading (reading (mark_of end) bytes) read → texts_at name (announced read.size) (ending read.end) ≡ texts_of_file (file_read name bytes end)
+drawn_texts name bytes end read r =
+    let wanted : PageResult = reading (mark_of end) bytes in
+    sym (ap (λ n. texts_at name n wanted.end) r.notices ∙ ap (λ e. texts_at name (announced read.size) e) r.end)
+
+fault_puts_nothing : (name : List ℕ) (tail : Tail) → (fault_text name tail).out ≡ []
+fault_puts_nothing name InHead = refl
+fault_puts_nothing name (InHeader offset bytes) = refl
+fault_puts_nothing name (InData chunk) = refl
+fault_puts_nothing name (InPad offset is_last) = refl
+fault_puts_nothing name FormEnd = refl
+fault_puts_nothing name (BrokenOff kind offset) = refl
+
+-- a listing of chunks is no raster
+pub info_puts_nothing : (name bytes : List ℕ) (end : FileEnd) → (info_of_file (file_read name bytes end)).out ≡ []
+info_puts_nothing name bytes end = fault_puts_nothing name (closed (mark_of end) (length bytes) (chunks_of bytes).whole (chunks_of bytes).tail)
+
+-- the same, where what was put is that of these bytes
+pub shows_seen : (mode : Mode) (files : Files) (name seen bytes : List ℕ) (end : FileEnd) (old new : List Failure) (put : Result Bool Stop) (result : Result Shown Stop) (old_out new_out old_report new_report : Option (List ℕ))
+    → seen ≡ bytes → IsReadWith files name bytes end old new
+    → ((text : List ℕ) → Gives put old_out new_out text → Gives result old_out new_out text) → ((text : List ℕ) → Gives put old_report new_report text → Gives result old_report new_report text)
+    → Gives put old_out new_out (texts_by mode (file_read name seen end)).out → Gives put old_report new_report (texts_by mode (file_read name seen end)).report
+    → IfOk result (λ shown. (shown.refused ≡ (texts_by mode (file_read name seen end)).refused) × (shown.broken ≡ is_broken end))
+    → Shows mode files (name ∷ []) result old new old_out new_out old_report new_report
+shows_seen mode files name seen bytes end old new put result old_out new_out old_report new_report same w outs reports gave told done =
+    shows_page mode files name seen end old new put result old_out new_out old_report new_report (subst (λ b. IsReadWith files name b end old new) (sym same) w) outs reports gave told done

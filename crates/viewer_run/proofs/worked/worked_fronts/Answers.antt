@@ -1,0 +1,15 @@
+use lib.Utf8.{encode}
+use Rattle.std.proofs.Common.{refl}
+use Rattle.std.specs.Fmt.{digits}
+use Rattle.std.specs.Str.{chars, is_utf8}
+use Rattle.djvu_base.specs.Library.{file_limit}
+use Rattle.viewer_words.specs.Words.{page_limit}
+use Rattle.viewer_run.proofs.worked.worked_fronts.Goals as goal
+
+pub returns-clause-not_listed : goal.returns-clause-not_listed
+unfolding digits is_utf8 chars encode file_limit page_limit
+returns-clause-not_listed c = refl
+
+pub returns-clause-listed : goal.returns-clause-listed
+unfolding digits is_utf8 chars encode file_limit page_limit
+returns-clause-listed c = refl

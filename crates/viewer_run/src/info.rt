@@ -1,0 +1,84 @@
+//! The chunks of a file, in lines.
+ghost use Rattle.std.specs.Prelude.{◌≡◌, ◌<◌, ◌^◌, IfOk, [], length};
+ghost use Rattle.iff_chunks.specs.Told.{Told};
+ghost use Rattle.viewer_run.specs.Info.{info_report, step_line, InformsWhole};
+ghost use Rattle.viewer_run.specs.Progress.{mark_of};
+
+use crate::reading::{FileEnd, PageEnd, ended_so, is_quiet};
+use crate::slices::behind;
+use crate::texts::own_fault;
+use djvu_base::Name;
+use iff_chunks::{WalkStep, Walker};
+use std::alloc::{AllocError, Global};
+use viewer_words::{chunk_line, form_line};
+
+/// What is told of a file's chunks.
+#[derive(Debug, Drop)]
+pub struct InfoText {
+    /// The lines.
+    pub lines: Vec<u8>,
+    /// Whether the file has a fault of form.
+    pub refused: bool,
+}
+
+/// The lines of a file: its FORM, its chunks, and its fault of form.
+pub fn info_of(
+    alloc: Global,
+    name: &Name,
+    bytes: &[u8],
+    end: FileEnd,
+) -> Result<InfoText, AllocError>
+    requires { length bytes.now < 2 ^ 32 }
+    ensures lines { IfOk result (λ text. text.lines.items ≡ (info_report name.now (mark_of end) bytes.now).report) }
+    ensures refused { IfOk result (λ text. text.refused ≡ (info_report name.now (mark_of end) bytes.now).refused) }
+{
+    let mut walker = Walker::new();
+    let mut lines = headings(alloc, name, &mut walker, bytes)?;
+    let last = ended_so(walker.end(), end, bytes.len() as u32);
+    let PageEnd::Refused { kind, offset } = last else {
+        return Ok(InfoText {
+            lines,
+            refused: false,
+        });
+    };
+    let line = own_fault(alloc, name, kind, offset)?;
+    lines.extend_from_slice(line.as_slice())?;
+    Ok(InfoText {
+        lines,
+        refused: true,
+    })
+}
+
+/// The lines of a file's FORM and of its chunks' headers.
+fn headings(
+    alloc: Global,
+    name: &Name,
+    walker: &mut Walker,
+    file: &[u8],
+) -> Result<Vec<u8>, AllocError>
+    requires { Told [] [] walker.old }
+    ensures { IfOk result (λ lines. InformsWhole file.now name.now lines.items walker.new) }
+{
+    let mut lines = Vec::new(alloc);
+    let mut rest = file;
+    loop {
+        let (used, step) = walker.feed(rest);
+        if is_quiet(step) {
+            return Ok(lines);
+        }
+        let line = step_line(alloc, name, step)?;
+        lines.extend_from_slice(line.as_slice())?;
+        rest = behind(rest, used);
+    }
+}
+
+/// The line of an answer of the walker, or none.
+fn step_line(alloc: Global, name: &Name, step: WalkStep) -> Result<Vec<u8>, AllocError>
+    ensures { IfOk result (λ line. line.items ≡ step_line name.now step) }
+{
+    match step {
+        WalkStep::Form { kind, length } => form_line(alloc, name, kind, length),
+        WalkStep::Header { id, offset, length } => chunk_line(alloc, name, id, offset, length),
+        _ => Ok(Vec::new(alloc)),
+    }
+}

@@ -10,23 +10,23 @@ use Rattle.std.proofs.lemmas.List.Elements.{All-push}
 use Rattle.std.proofs.lemmas.List.Folds.{list_any_at, list_any_none}
 use Rattle.std.proofs.lemmas.List.Quantifiers.{all_pairs_push}
 use Rattle.std.proofs.lemmas.Slice.Eq.{bytes_eq-Decides}
-use Rattle.viewer_words.specs.Words.{page_limit, is_page_word, has_room, is_among, fits_behind, pages_behind}
+use Rattle.viewer_words.specs.Words.{page_limit, is_file_word, has_room, is_among, fits_behind, pages_behind}
 
 -- pages that a command may have, if there is one
 pub record IsGood (pages : List (List ℕ)) : Type 0 where
   pub few : length pages ≤ page_limit
-  pub words : AllPass is_page_word pages
+  pub words : AllPass is_file_word pages
   pub distinct : AllPairs (λ page later. page ≢ later) pages
 
 pub record Fits (pages : List (List ℕ)) (word : List ℕ) : Type 0 where
   pub room : length pages < page_limit
-  pub page : is_page_word word ≡ true
+  pub page : is_file_word word ≡ true
   pub other : is_among pages word ≡ false
 
 pub fits_from : (pages : List (List ℕ)) (word : List ℕ) → fits_behind pages word ≡ true → Fits pages word
 fits_from pages word e =
-    let all : ((has_room pages && is_page_word word) ≡ true) × (not (is_among pages word) ≡ true) = and_parts (has_room pages && is_page_word word) (not (is_among pages word)) e in
-    let two : (has_room pages ≡ true) × (is_page_word word ≡ true) = and_parts (has_room pages) (is_page_word word) all.0 in
+    let all : ((has_room pages && is_file_word word) ≡ true) × (not (is_among pages word) ≡ true) = and_parts (has_room pages && is_file_word word) (not (is_among pages word)) e in
+    let two : (has_room pages ≡ true) × (is_file_word word ≡ true) = and_parts (has_room pages) (is_file_word word) all.0 in
     record { room = ltb-true (length pages) page_limit two.0; page = two.1; other = not-true (is_among pages word) all.1 }
 
 not_among : (pages : List (List ℕ)) (word : List ℕ) → is_among pages word ≡ false → (k : ℕ) (d : List ℕ) → k < length pages → get_or pages k d ≢ word
@@ -35,7 +35,7 @@ not_among pages word e k d h same = both_ways (is_among pages word) e (list_any_
 pub good_push : (pages : List (List ℕ)) (word : List ℕ) → IsGood pages → Fits pages word → IsGood (pages ++ word ∷ [])
 good_push pages word good fits = record {
   few = let room : length pages < page_limit = fits.room in simp length-append (omega arith);
-  words = All-push (λ w. is_page_word w ≡ true) pages word good.words fits.page;
+  words = All-push (λ w. is_file_word w ≡ true) pages word good.words fits.page;
   distinct = all_pairs_push (λ page later. page ≢ later) pages word good.distinct (not_among pages word fits.other);
 }
 
@@ -44,24 +44,24 @@ pub record IsTaken (pages words all : List (List ℕ)) : Type 0 where
   pub same : all ≡ pages ++ words
   pub good : IsGood all
 
-taken_step : (pages words all : List (List ℕ)) (word : List ℕ) (t : Bool) → IsGood pages → fits_behind pages word ≡ t
-    → (IsGood (pages ++ word ∷ []) → pages_behind (pages ++ word ∷ []) words ≡ Ok all → IsTaken (pages ++ word ∷ []) words all)
-    → cond t (pages_behind (pages ++ word ∷ []) words) (Err (length pages + 1)) ≡ Ok all → IsTaken pages (word ∷ words) all
-taken_step pages words all word true good fits more e =
+taken_step : (first : ℕ) (pages words all : List (List ℕ)) (word : List ℕ) (t : Bool) → IsGood pages → fits_behind pages word ≡ t
+    → (IsGood (pages ++ word ∷ []) → pages_behind first (pages ++ word ∷ []) words ≡ Ok all → IsTaken (pages ++ word ∷ []) words all)
+    → cond t (pages_behind first (pages ++ word ∷ []) words) (Err (first + length pages)) ≡ Ok all → IsTaken pages (word ∷ words) all
+taken_step first pages words all word true good fits more e =
     let taken : IsTaken (pages ++ word ∷ []) words all = more (good_push pages word good (fits_from pages word fits)) e in
     record { same = taken.same ∙ append_assoc pages (word ∷ []) words; good = taken.good }
-taken_step pages words all word false good fits more e = cc
+taken_step first pages words all word false good fits more e = cc
 
-pub taken : (pages words all : List (List ℕ)) → IsGood pages → pages_behind pages words ≡ Ok all → IsTaken pages words all
-taken pages [] all good e =
+pub taken : (first : ℕ) (pages words all : List (List ℕ)) → IsGood pages → pages_behind first pages words ≡ Ok all → IsTaken pages words all
+taken first pages [] all good e =
     let same : pages ≡ all = cc in
     record { same = sym same ∙ sym (append-nil pages); good = subst IsGood same good }
-taken pages (word ∷ words) all good e = taken_step pages words all word (fits_behind pages word) good refl (taken (pages ++ word ∷ []) words all) e
+taken first pages (word ∷ words) all good e = taken_step first pages words all word (fits_behind pages word) good refl (taken first (pages ++ word ∷ []) words all) e
 
-good_word : (pages words : List (List ℕ)) (word : List ℕ) → IsGood (pages ++ word ∷ words) → is_page_word word ≡ true
+good_word : (pages words : List (List ℕ)) (word : List ℕ) → IsGood (pages ++ word ∷ words) → is_file_word word ≡ true
 good_word pages words word good =
     let here : length pages < length (pages ++ word ∷ words) = simp length-append (omega arith) in
-    subst (λ (w : List ℕ). is_page_word w ≡ true) (get_or-append_seam pages word words []) (good.words (length pages) [] here)
+    subst (λ (w : List ℕ). is_file_word w ≡ true) (get_or-append_seam pages word words []) (good.words (length pages) [] here)
 
 good_other : (pages words : List (List ℕ)) (word : List ℕ) → IsGood (pages ++ word ∷ words) → (k : ℕ) (d : List ℕ) → k < length pages → get_or pages k d ≢ word
 good_other pages words word good k d h same =
@@ -76,41 +76,41 @@ good_fits pages words word good =
     let few : length (pages ++ word ∷ words) ≤ page_limit = good.few in
     let room : length pages < page_limit = omega (arith, length-append pages (word ∷ words)) in
     let other : not (is_among pages word) ≡ true = ap not (other_from pages word (good_other pages words word good)) in
-    and_from (has_room pages && is_page_word word) (not (is_among pages word)) (and_from (has_room pages) (is_page_word word) (lt-ltb (length pages) page_limit room) (good_word pages words word good)) other
+    and_from (has_room pages && is_file_word word) (not (is_among pages word)) (and_from (has_room pages) (is_file_word word) (lt-ltb (length pages) page_limit room) (good_word pages words word good)) other
 
 -- good pages are taken, and what follows them is behind them
-pub good_behind : (pages front words : List (List ℕ)) → IsGood (pages ++ front) → pages_behind pages (front ++ words) ≡ pages_behind (pages ++ front) words
-good_behind pages [] words good = ap (λ (ps : List (List ℕ)). pages_behind ps words) (sym (append-nil pages))
-good_behind pages (page ∷ front) words good =
+pub good_behind : (first : ℕ) (pages front words : List (List ℕ)) → IsGood (pages ++ front) → pages_behind first pages (front ++ words) ≡ pages_behind first (pages ++ front) words
+good_behind first pages [] words good = ap (λ (ps : List (List ℕ)). pages_behind first ps words) (sym (append-nil pages))
+good_behind first pages (page ∷ front) words good =
     let split : (pages ++ page ∷ []) ++ front ≡ pages ++ (page ∷ front) = append_assoc pages (page ∷ []) front in
     let fits : fits_behind pages page ≡ true = good_fits pages front page good in
-    rw fits (good_behind (pages ++ page ∷ []) front words (subst IsGood (sym split) good) ∙ ap (λ (ps : List (List ℕ)). pages_behind ps words) split)
+    rw fits (good_behind first (pages ++ page ∷ []) front words (subst IsGood (sym split) good) ∙ ap (λ (ps : List (List ℕ)). pages_behind first ps words) split)
 
-pub good_taken : (pages : List (List ℕ)) → IsGood pages → pages_behind [] pages ≡ Ok pages
-good_taken pages good = ap (pages_behind []) (sym (append-nil pages)) ∙ good_behind [] pages [] good
+pub good_taken : (first : ℕ) (pages : List (List ℕ)) → IsGood pages → pages_behind first [] pages ≡ Ok pages
+good_taken first pages good = ap (pages_behind first []) (sym (append-nil pages)) ∙ good_behind first [] pages [] good
 
 -- no page has room behind as many as a command may name
-pub full_behind : (pages words : List (List ℕ)) (word : List ℕ) → length pages ≡ page_limit → pages_behind pages (word ∷ words) ≡ Err (length pages + 1)
-full_behind pages words word e =
+pub full_behind : (first : ℕ) (pages words : List (List ℕ)) (word : List ℕ) → length pages ≡ page_limit → pages_behind first pages (word ∷ words) ≡ Err (first + length pages)
+full_behind first pages words word e =
     let full : has_room pages ≡ false = le-ltb (length pages) page_limit (omega (arith, e)) in
-    let unfit : fits_behind pages word ≡ false = and_left (has_room pages && is_page_word word) (not (is_among pages word)) (and_left (has_room pages) (is_page_word word) full) in
+    let unfit : fits_behind pages word ≡ false = and_left (has_room pages && is_file_word word) (not (is_among pages word)) (and_left (has_room pages) (is_file_word word) full) in
     rw unfit refl
 
 -- where words are refused: the pages before the word fit, and nothing that begins with them and the word does
-pub record IsRefused (pages words : List (List ℕ)) (number : ℕ) : Type 0 where
+pub record IsRefused (first : ℕ) (pages words : List (List ℕ)) (number : ℕ) : Type 0 where
   pub front : List (List ℕ)
   pub word : List ℕ
   pub rest : List (List ℕ)
   pub parts : words ≡ front ++ (word ∷ rest)
-  pub place : number ≡ length pages + length front + 1
-  pub before : pages_behind pages front ≡ Ok (pages ++ front)
-  pub never : (more : List (List ℕ)) → pages_behind pages (front ++ (word ∷ more)) ≡ Err number
+  pub place : number ≡ first + (length pages + length front)
+  pub before : pages_behind first pages front ≡ Ok (pages ++ front)
+  pub never : (more : List (List ℕ)) → pages_behind first pages (front ++ (word ∷ more)) ≡ Err number
 
-refused_step : (pages words : List (List ℕ)) (word : List ℕ) (number : ℕ) (t : Bool) → fits_behind pages word ≡ t
-    → (pages_behind (pages ++ word ∷ []) words ≡ Err number → IsRefused (pages ++ word ∷ []) words number)
-    → cond t (pages_behind (pages ++ word ∷ []) words) (Err (length pages + 1)) ≡ Err number → IsRefused pages (word ∷ words) number
-refused_step pages words word number true fits more e =
-    let later : IsRefused (pages ++ word ∷ []) words number = more e in
+refused_step : (first : ℕ) (pages words : List (List ℕ)) (word : List ℕ) (number : ℕ) (t : Bool) → fits_behind pages word ≡ t
+    → (pages_behind first (pages ++ word ∷ []) words ≡ Err number → IsRefused first (pages ++ word ∷ []) words number)
+    → cond t (pages_behind first (pages ++ word ∷ []) words) (Err (first + length pages)) ≡ Err number → IsRefused first pages (word ∷ words) number
+refused_step first pages words word number true fits more e =
+    let later : IsRefused first (pages ++ word ∷ []) words number = more e in
     record {
       front = word ∷ later.front;
       word = later.word;
@@ -120,8 +120,8 @@ refused_step pages words word number true fits more e =
       before = rw fits (later.before ∙ ap Ok (append_assoc pages (word ∷ []) later.front));
       never = λ more. rw fits (later.never more);
     }
-refused_step pages words word number false fits more e =
-    let place : length pages + 1 ≡ number = cc in
+refused_step first pages words word number false fits more e =
+    let place : first + length pages ≡ number = cc in
     record {
       front = [];
       word = word;
@@ -132,6 +132,6 @@ refused_step pages words word number false fits more e =
       never = λ more. rw fits e;
     }
 
-pub refused : (pages words : List (List ℕ)) (number : ℕ) → pages_behind pages words ≡ Err number → IsRefused pages words number
-refused pages [] number e = cc
-refused pages (word ∷ words) number e = refused_step pages words word number (fits_behind pages word) refl (refused (pages ++ word ∷ []) words number) e
+pub refused : (first : ℕ) (pages words : List (List ℕ)) (number : ℕ) → pages_behind first pages words ≡ Err number → IsRefused first pages words number
+refused first pages [] number e = cc
+refused first pages (word ∷ words) number e = refused_step first pages words word number (fits_behind pages word) refl (refused first (pages ++ word ∷ []) words number) e

@@ -1,15 +1,16 @@
 //! Laws of the definitions, and worked values of them: each is a clause of a function that does nothing.
-ghost use Rattle.std.specs.Prelude.{◌≡◌, ℕ, ◌+◌, ◌<◌, ◌≤◌, ◌↔◌, ◌++◌, List, [], ◌∷◌, length, take, Ok, Err, codes};
+ghost use Rattle.std.specs.Prelude.{◌≡◌, ℕ, ◌+◌, ◌<◌, ◌≤◌, ◌↔◌, ◌++◌, List, [], ◌∷◌, length, take, slice_get, Some, Ok, Err, codes};
 ghost use Rattle.djvu_base.specs.declared.faults.FaultKind.TheVariants.{Truncated, CyclicInclude};
 ghost use Rattle.viewer_words.specs.declared.commands.Command.{Command};
 ghost use Rattle.viewer_words.specs.declared.commands.Command.TheVariants.{Draw, Info};
-ghost use Rattle.viewer_words.specs.declared.commands.TableChoice.TheVariants.{Djvu};
-ghost use Rattle.viewer_words.specs.Words.{words_of, page_limit};
+ghost use Rattle.viewer_words.specs.declared.commands.TableChoice.TheVariants.{Djvu, Flat, File};
+ghost use Rattle.viewer_words.specs.Words.{words_of, page_limit, pages_in, page_number};
 ghost use Rattle.viewer_words.specs.Laws.{IsPageList, IsWritten, CanBegin};
 ghost use Rattle.viewer_words.specs.Lines.{notice_line, fault_line, form_line, chunk_line, words_line, folder_line, newline};
 
-/// Words are a command exactly where they are its first word and then its pages: 1 to 1,024 of them, each a name that
-/// doesn't begin with `--`, and none twice.
+/// Words are a command exactly where they are its first word, then its option or none, and then its pages: 1 to 1,024 of
+/// them, each a name that doesn't begin with `--`, and none twice. The table of DjVu files may stand there by its word,
+/// `djvu`, or be left out.
 pub fn written_commands()
     ensures { (words : List (List ℕ)) (command : Command) → (words_of words ≡ Ok command) ↔ IsWritten words command }
 {}
@@ -22,17 +23,39 @@ pub fn refused_words()
     ensures refused_word { (words : List (List ℕ)) (number : ℕ) → words_of words ≡ Err number → number < length words → ¬ CanBegin (take (number + 1) words) }
 {}
 
+/// Where the files of a command stand among its words: its pages are its last words, and a table's file is word 2, before
+/// them.
+pub fn file_words()
+    ensures pages { (words : List (List ℕ)) (command : Command) → words_of words ≡ Ok command → IsPageList (pages_in command) }
+    ensures others_first { (words : List (List ℕ)) (command : Command) → words_of words ≡ Ok command → length (pages_in command) < length words }
+    ensures page { (words : List (List ℕ)) (command : Command) (at : ℕ) → words_of words ≡ Ok command → slice_get words (page_number words (pages_in command) at) ≡ slice_get (pages_in command) at }
+    ensures table { (words pages : List (List ℕ)) (name : List ℕ) → words_of words ≡ Ok (Draw (File name) pages) → slice_get words 2 ≡ Some name }
+    ensures table_first { (words pages : List (List ℕ)) (name : List ℕ) → words_of words ≡ Ok (Draw (File name) pages) → page_number words pages 0 ≡ 3 }
+{}
+
 /// Words that are no command, and by which word.
 pub fn worked_refusals()
     ensures none { words_of [] ≡ Err 0 }
     ensures other_command { words_of (codes "show" ∷ codes "p" ∷ []) ≡ Err 0 }
     ensures option_first { words_of (codes "--table" ∷ codes "draw" ∷ codes "p" ∷ []) ≡ Err 0 }
     ensures no_page { words_of (codes "draw" ∷ []) ≡ Err 1 }
-    ensures option { words_of (codes "draw" ∷ codes "--table" ∷ codes "flat" ∷ codes "p" ∷ []) ≡ Err 1 }
     ensures dashes { words_of (codes "draw" ∷ codes "p" ∷ codes "--" ∷ []) ≡ Err 2 }
     ensures no_name { words_of (codes "info" ∷ codes "p" ∷ codes "a/b" ∷ codes "--" ∷ []) ≡ Err 2 }
     ensures twice { words_of (codes "draw" ∷ codes "p" ∷ codes "p" ∷ []) ≡ Err 2 }
     ensures too_many { (pages words : List (List ℕ)) (word : List ℕ) → IsPageList pages → length pages ≡ 1024 → words_of (codes "draw" ∷ (pages ++ (word ∷ words))) ≡ Err 1025 }
+{}
+
+/// Words in which the option is at fault, or what stands around it.
+pub fn worked_option_refusals()
+    ensures no_table { words_of (codes "draw" ∷ codes "--table" ∷ []) ≡ Err 2 }
+    ensures no_page { words_of (codes "draw" ∷ codes "--table" ∷ codes "flat" ∷ []) ≡ Err 3 }
+    ensures dashes { words_of (codes "draw" ∷ codes "--table" ∷ codes "--" ∷ codes "p" ∷ []) ≡ Err 2 }
+    ensures no_name { words_of (codes "draw" ∷ codes "--table" ∷ codes "a/b" ∷ []) ≡ Err 2 }
+    ensures option_twice { words_of (codes "draw" ∷ codes "--table" ∷ codes "flat" ∷ codes "--table" ∷ codes "djvu" ∷ codes "p" ∷ []) ≡ Err 3 }
+    ensures equals_sign { words_of (codes "draw" ∷ codes "--table=flat" ∷ codes "p" ∷ []) ≡ Err 1 }
+    ensures behind_pages { words_of (codes "draw" ∷ codes "p" ∷ codes "--table" ∷ codes "flat" ∷ []) ≡ Err 2 }
+    ensures of_info { words_of (codes "info" ∷ codes "--table" ∷ codes "flat" ∷ codes "p" ∷ []) ≡ Err 1 }
+    ensures twice { words_of (codes "draw" ∷ codes "--table" ∷ codes "flat" ∷ codes "p" ∷ codes "p" ∷ []) ≡ Err 4 }
 {}
 
 /// Words that are commands, and how many pages one may name.
@@ -40,8 +63,19 @@ pub fn worked_commands()
     ensures limit { page_limit ≡ 1024 }
     ensures one { words_of (codes "draw" ∷ codes "p" ∷ []) ≡ Ok (Draw Djvu (codes "p" ∷ [])) }
     ensures two { words_of (codes "draw" ∷ codes "q" ∷ codes "p" ∷ []) ≡ Ok (Draw Djvu (codes "q" ∷ codes "p" ∷ [])) }
+    ensures second_page { page_number (codes "draw" ∷ codes "q" ∷ codes "p" ∷ []) (codes "q" ∷ codes "p" ∷ []) 1 ≡ 2 }
     ensures one_dash { words_of (codes "draw" ∷ codes "-p" ∷ []) ≡ Ok (Draw Djvu (codes "-p" ∷ [])) }
     ensures like_a_command { words_of (codes "info" ∷ codes "draw" ∷ codes "info" ∷ []) ≡ Ok (Info (codes "draw" ∷ codes "info" ∷ [])) }
+{}
+
+/// Words that are drawings by a table. A table's file and a page may be the same file.
+pub fn worked_tables()
+    ensures djvu { words_of (codes "draw" ∷ codes "--table" ∷ codes "djvu" ∷ codes "p" ∷ []) ≡ Ok (Draw Djvu (codes "p" ∷ [])) }
+    ensures flat { words_of (codes "draw" ∷ codes "--table" ∷ codes "flat" ∷ codes "p" ∷ []) ≡ Ok (Draw Flat (codes "p" ∷ [])) }
+    ensures file { words_of (codes "draw" ∷ codes "--table" ∷ codes "t" ∷ codes "p" ∷ []) ≡ Ok (Draw (File (codes "t")) (codes "p" ∷ [])) }
+    ensures same_file { words_of (codes "draw" ∷ codes "--table" ∷ codes "p" ∷ codes "p" ∷ []) ≡ Ok (Draw (File (codes "p")) (codes "p" ∷ [])) }
+    ensures second_page { page_number (codes "draw" ∷ codes "--table" ∷ codes "t" ∷ codes "q" ∷ codes "p" ∷ []) (codes "q" ∷ codes "p" ∷ []) 1 ≡ 4 }
+    ensures like_a_table { words_of (codes "draw" ∷ codes "flat" ∷ codes "djvu" ∷ []) ≡ Ok (Draw Djvu (codes "flat" ∷ codes "djvu" ∷ [])) }
 {}
 
 /// A line of each kind.

@@ -6,16 +6,25 @@ use std::alloc::Global;
 use std::process::Abort;
 use std::test::Fail;
 
-/// What is said of words: which command they are, with all words behind the first as its pages and with the usual table,
-/// or which word is refused.
+/// What is said of words: which command they are, with the last words as its pages, or which word is refused.
 #[derive(Clone, Copy, Debug, PartialEq, Eq)]
 enum Said {
-    Draw,
-    Info,
+    /// A drawing by this table. The first page's word has this number.
+    Draw(Table, usize),
+    /// A listing. The first page's word has this number.
+    Info(usize),
     Refused(usize),
 }
 
-const ROWS: [(&[&[u8]], Said); 21] = [
+#[derive(Clone, Copy, Debug, PartialEq, Eq)]
+enum Table {
+    Djvu,
+    Flat,
+    /// The table in the file that word 2 names.
+    File,
+}
+
+const ROWS: [(&[&[u8]], Said); 35] = [
     (&[], Said::Refused(0)),
     (&[b""], Said::Refused(0)),
     (&[b"p"], Said::Refused(0)),
@@ -25,18 +34,53 @@ const ROWS: [(&[&[u8]], Said); 21] = [
     (&[b"replay", b"s", b"p"], Said::Refused(0)),
     (&[b"show", b"--workers", b"0", b"p"], Said::Refused(0)),
     (&[b"exercise", b"1"], Said::Refused(0)),
+    (&[b"--table", b"flat", b"draw", b"p"], Said::Refused(0)),
     (&[b"draw"], Said::Refused(1)),
     (&[b"info"], Said::Refused(1)),
-    (&[b"draw", b"--table", b"flat", b"p"], Said::Refused(1)),
     (&[b"draw", b"--", b"p"], Said::Refused(1)),
+    (&[b"draw", b"--table=flat", b"p"], Said::Refused(1)),
+    (&[b"info", b"--table", b"flat", b"p"], Said::Refused(1)),
     (&[b"info", b"\xFF", b"--"], Said::Refused(1)),
+    (&[b"draw", b"--table"], Said::Refused(2)),
+    (&[b"draw", b"--table", b"--", b"p"], Said::Refused(2)),
+    (&[b"draw", b"--table", b"\xFF", b"p"], Said::Refused(2)),
     (&[b"draw", b"p", b"p"], Said::Refused(2)),
+    (&[b"draw", b"p", b"--table", b"flat"], Said::Refused(2)),
+    (&[b"draw", b"--table", b"flat"], Said::Refused(3)),
+    (
+        &[b"draw", b"--table", b"flat", b"--table", b"djvu", b"p"],
+        Said::Refused(3),
+    ),
     (&[b"info", b"p", b"q", b"..", b"p"], Said::Refused(3)),
     (&[b"info", b"p", b"q", b"p", b".."], Said::Refused(3)),
-    (&[b"draw", b"p"], Said::Draw),
-    (&[b"draw", b"q", b"-", b"draw", b"p"], Said::Draw),
-    (&[b"info", b"p"], Said::Info),
-    (&[b"info", b"info", b"page 2"], Said::Info),
+    (&[b"draw", b"--table", b"t", b"p", b"p"], Said::Refused(4)),
+    (&[b"draw", b"p"], Said::Draw(Table::Djvu, 1)),
+    (
+        &[b"draw", b"q", b"-", b"draw", b"p"],
+        Said::Draw(Table::Djvu, 1),
+    ),
+    (
+        &[b"draw", b"--table", b"djvu", b"p"],
+        Said::Draw(Table::Djvu, 3),
+    ),
+    (
+        &[b"draw", b"--table", b"flat", b"q", b"p"],
+        Said::Draw(Table::Flat, 3),
+    ),
+    (
+        &[b"draw", b"--table", b"a table", b"p"],
+        Said::Draw(Table::File, 3),
+    ),
+    (
+        &[b"draw", b"--table", b"p", b"p"],
+        Said::Draw(Table::File, 3),
+    ),
+    (
+        &[b"draw", b"--table", b"-flat", b"flat"],
+        Said::Draw(Table::File, 3),
+    ),
+    (&[b"info", b"p"], Said::Info(1)),
+    (&[b"info", b"info", b"page 2"], Said::Info(1)),
 ];
 
 fn list_of(alloc: Global, words: &[&[u8]]) -> Option<Vec<Items<u8>>> {
@@ -58,19 +102,18 @@ fn numbered_pages(alloc: Global, count: u32) -> Option<Vec<Items<u8>>> {
     Some(list)
 }
 
-/// Whether these are the pages that stand behind the first word.
-fn are_behind(words: &[Items<u8>], pages: &[Name]) -> bool {
-    let Some((_, others)) = words.split_first() else {
-        return false;
-    };
-    others.len() == pages.len()
-        && others
-            .iter()
-            .zip(pages)
-            .all(|(word, page)| word.slice() == page.bytes())
+/// The number of the word from which on these pages stand, if they are the last words.
+fn first_page(words: &[Items<u8>], pages: &[Name]) -> Option<usize> {
+    let first = words.len().checked_sub(pages.len())?;
+    words
+        .iter()
+        .skip(first)
+        .zip(pages)
+        .all(|(word, page)| word.slice() == page.bytes())
+        .then_some(first)
 }
 
-/// `None` where the pages or the table are others, or where there is no memory.
+/// `None` where the pages or the table's file have other names, or where there is no memory.
 fn said_of(alloc: Global, words: &[Items<u8>]) -> Option<Said> {
     match read_words(alloc, words) {
         Ok(command) => command_said(words, command),
@@ -82,16 +125,20 @@ fn said_of(alloc: Global, words: &[Items<u8>]) -> Option<Said> {
 fn command_said(words: &[Items<u8>], command: Command) -> Option<Said> {
     match command {
         Command::Draw { table, pages } => {
-            (is_usual(&table) && are_behind(words, pages.slice())).then_some(Said::Draw)
+            let table = table_said(words, &table)?;
+            first_page(words, pages.slice()).map(|first| Said::Draw(table, first))
         }
-        Command::Info { pages } => are_behind(words, pages.slice()).then_some(Said::Info),
+        Command::Info { pages } => first_page(words, pages.slice()).map(Said::Info),
     }
 }
 
-fn is_usual(table: &TableChoice) -> bool {
+fn table_said(words: &[Items<u8>], table: &TableChoice) -> Option<Table> {
     match table {
-        TableChoice::Djvu => true,
-        TableChoice::Flat | TableChoice::File(_) => false,
+        TableChoice::Djvu => Some(Table::Djvu),
+        TableChoice::Flat => Some(Table::Flat),
+        TableChoice::File(name) => {
+            (words.get(2)?.slice() == name.bytes()).then_some(Table::File)
+        }
     }
 }
 
@@ -106,7 +153,10 @@ fn words_are_read(rt: HostRuntime) -> Result<(), Fail> {
         );
     }
     let most = numbered_pages(rt.alloc(), 1_024).ok_or("no memory")?;
-    assert_eq!(rt; said_of(rt.alloc(), most.as_slice()), Some(Said::Draw));
+    assert_eq!(rt;
+        said_of(rt.alloc(), most.as_slice()),
+        Some(Said::Draw(Table::Djvu, 1))
+    );
     let more = numbered_pages(rt.alloc(), 1_026).ok_or("no memory")?;
     assert_eq!(rt;
         said_of(rt.alloc(), more.as_slice()),

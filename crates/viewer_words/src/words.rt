@@ -1,7 +1,7 @@
 //! The words of a command, read.
-ghost use Rattle.std.specs.Prelude.{◌≡◌, ℕ, ◌⊎◌, IfOk, IfSome, IfErr, IsErrOf, Ok, Err, is_some};
+ghost use Rattle.std.specs.Prelude.{◌≡◌, ℕ, ◌≤◌, ◌⊎◌, IfOk, IfSome, IfErr, IsErrOf, Ok, Err, is_some};
 ghost use Rattle.viewer_words.specs.declared.commands.Command.{Command};
-ghost use Rattle.viewer_words.specs.Words.{words_of, pages_of, fits_behind, has_room, is_among};
+ghost use Rattle.viewer_words.specs.Words.{words_of, drawing_of, drawing_by_word, table_of, pages_of, is_file_word, fits_behind, has_room, is_among};
 ghost use Rattle.viewer_words.specs.Answers.{Answers};
 
 use crate::commands::{Command, TableChoice, WordsError};
@@ -27,30 +27,72 @@ pub fn read_words(alloc: Global, words: &[Items<u8>]) -> Result<Command, WordsEr
         return Err(WordsError::Refused(0));
     };
     if command.slice() == b"draw".as_slice() {
-        let pages = read_pages(alloc, others)?;
-        return Ok(Command::Draw {
-            table: TableChoice::Djvu,
-            pages,
-        });
+        return read_drawing(alloc, others);
     }
     if command.slice() == b"info".as_slice() {
-        let pages = read_pages(alloc, others)?;
+        let pages = read_pages(alloc, 1, others)?;
         return Ok(Command::Info { pages });
     }
     Err(WordsError::Refused(0))
 }
 
-/// The pages that the words behind a command's first name.
-fn read_pages(alloc: Global, words: &[Items<u8>]) -> Result<Items<Name>, WordsError>
-    ensures { Answers (pages_of words.now) result }
+/// The drawing that the words behind `draw` say.
+fn read_drawing(alloc: Global, words: &[Items<u8>]) -> Result<Command, WordsError>
+    ensures { Answers (drawing_of words.now) result }
+{
+    let Some((word, others)) = words.split_first() else {
+        return Err(WordsError::Refused(1));
+    };
+    if word.slice() == b"--table".as_slice() {
+        return read_drawing_by_word(alloc, others);
+    }
+    let pages = read_pages(alloc, 1, words)?;
+    Ok(Command::Draw {
+        table: TableChoice::Djvu,
+        pages,
+    })
+}
+
+/// The drawing that the words behind `draw --table` say.
+fn read_drawing_by_word(alloc: Global, words: &[Items<u8>]) -> Result<Command, WordsError>
+    ensures { Answers (drawing_by_word words.now) result }
+{
+    let Some((word, others)) = words.split_first() else {
+        return Err(WordsError::Refused(2));
+    };
+    let Some(table) = read_table(alloc, word.slice())? else {
+        return Err(WordsError::Refused(2));
+    };
+    let pages = read_pages(alloc, 3, others)?;
+    Ok(Command::Draw { table, pages })
+}
+
+/// The table of a word, or `None` where the word says none.
+fn read_table(alloc: Global, word: &[u8]) -> Result<Option<TableChoice>, AllocError>
+    ensures { IfOk result (λ table. table ≡ table_of word.now) }
+{
+    if word == b"djvu".as_slice() {
+        return Ok(Some(TableChoice::Djvu));
+    }
+    if word == b"flat".as_slice() {
+        return Ok(Some(TableChoice::Flat));
+    }
+    let name = read_file(alloc, word)?;
+    Ok(name.map(TableChoice::File))
+}
+
+/// The pages that these words name. The first of them has the number `first` among the words of the command.
+fn read_pages(alloc: Global, first: usize, words: &[Items<u8>]) -> Result<Items<Name>, WordsError>
+    requires { first ≤ 3 }
+    ensures { Answers (pages_of first words.now) result }
 {
     if words.is_empty() {
-        return Err(WordsError::Refused(1));
+        return Err(WordsError::Refused(first));
     }
     let mut pages = Vec::new(alloc);
     for word in words {
         let Some(page) = page_behind(alloc, pages.as_slice(), word.slice())? else {
-            return Err(WordsError::Refused(pages.len() + 1));
+            return Err(WordsError::Refused(first + pages.len()));
         };
         pages.push(page)?;
     }
@@ -62,7 +104,18 @@ fn page_behind(alloc: Global, pages: &[Name], word: &[u8]) -> Result<Option<Name
     ensures found { IfOk result (λ found. is_some found ≡ fits_behind pages.now word.now) }
     ensures same { IfOk result (λ found. IfSome found (λ name. name ≡ word.now)) }
 {
-    if !has_room(pages) || word.starts_with(b"--".as_slice()) || is_among(pages, word) {
+    if !has_room(pages) || is_among(pages, word) {
+        return Ok(None);
+    }
+    read_file(alloc, word)
+}
+
+/// The name of the file that a word names, or `None` where it names none.
+fn read_file(alloc: Global, word: &[u8]) -> Result<Option<Name>, AllocError>
+    ensures found { IfOk result (λ found. is_some found ≡ is_file_word word.now) }
+    ensures same { IfOk result (λ found. IfSome found (λ name. name ≡ word.now)) }
+{
+    if word.starts_with(b"--".as_slice()) {
         return Ok(None);
     }
     Name::read(alloc, word)

@@ -5,10 +5,6 @@ use Rattle.viewer_words.specs.Words.{page_limit}
 use Rattle.viewer_words.proofs.Writing.{full_refused}
 use Rattle.viewer_words.proofs.laws.worked_refusals.Goals as goal
 
-pub returns-clause-option : goal.returns-clause-option
-unfolding page_limit is_utf8 chars encode
-returns-clause-option c = refl
-
 pub returns-clause-dashes : goal.returns-clause-dashes
 unfolding page_limit is_utf8 chars encode
 returns-clause-dashes c = refl
@@ -25,4 +21,4 @@ pub returns-clause-too_many : goal.returns-clause-too_many
 unfolding page_limit
 returns-clause-too_many c pages words word listed e =
     let full : length pages ≡ page_limit = e in
-    full_refused pages words word listed full ∙ ap (λ n. Err (n + 1)) e
+    full_refused pages words word listed full ∙ ap (λ n. Err (1 + n)) e

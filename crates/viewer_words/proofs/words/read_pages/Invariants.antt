@@ -4,6 +4,6 @@ use Rattle.viewer_words.proofs.words.read_pages.Given as goal
 
 abbrev pub invariant-loop-word : goal.invariant-loop-word
 invariant-loop-word l = record {
-  left : pages_behind l.pages.items (drop l.word-index l.words) ≡ pages_behind [] l.words;
+  left : pages_behind l.first l.pages.items (drop l.word-index l.words) ≡ pages_behind l.first [] l.words;
   count : length l.pages.items ≡ l.word-index;
 }

@@ -9,8 +9,8 @@ use Rattle.djvu_outside.specs.Faults.{Failure, Listing, Reading}
 use Rattle.djvu_outside.specs.Reading.{bytes_in, HasFile}
 use Rattle.viewer_run.specs.declared.pages.Shown.{Shown}
 use Rattle.viewer_run.specs.declared.stop.Stop.{Stop}
-use Rattle.viewer_run.specs.Cut.{first_entry, cut_at, front_failed}
-use Rattle.viewer_run.specs.Shown.{texts_of_pages, file_of, NamesOnly, HasBroken, Shows, both, HasFiles, AreDistinct, BrokenCounts}
+use Rattle.viewer_run.specs.Cut.{first_entry, cut_at}
+use Rattle.viewer_run.specs.Shown.{lists_first, texts_of_pages, file_of, NamesOnly, HasBroken, Shows, both, HasFiles, AreDistinct, BrokenCounts}
 use Rattle.viewer_run.specs.Texts.{Texts, no_texts, joined}
 use Rattle.viewer_run.specs.declared.front.Mode.{Mode}
 use Rattle.viewer_run.specs.Front.{is_listed}
@@ -119,7 +119,7 @@ broken_both true y (e ∷ a) b h k = λ s. cc
 broken_both false true a b h k = λ s. k (ap (λ l. l ++ b) (sym h) ∙ s)
 broken_both false false a b h k = ap (λ l. l ++ b) h ∙ k
 
-both_behind : (a b : List Failure) → front_failed a ≡ false → front_failed b ≡ false → front_failed (a ++ b) ≡ false
+both_behind : (a b : List Failure) → lists_first a ≡ false → lists_first b ≡ false → lists_first (a ++ b) ≡ false
 both_behind [] b e h = h
 both_behind (Listing ∷ a) b e h = absurd (true≢false e)
 both_behind (Reading name count ∷ a) b e h = refl
@@ -215,24 +215,28 @@ here_at (x ∷ names) (suc at) name e h = here_at names at name e (omega arith)
 pub take_here : (names : List (List ℕ)) (at : ℕ) (name : List ℕ) → name ≡ get_or names at name → at < length names → take (at + 1) names ≡ take at names ++ name ∷ []
 take_here names at name e h = take_more names at name h ∙ ap (λ n. take at names ++ n ∷ []) (sym e)
 
-pub counts_both : (x y : Bool) (f0 f1 f2 : ℕ) → BrokenCounts x f0 f1 → BrokenCounts y f1 f2 → BrokenCounts (x || y) f0 f2
+counts_both : (x y : Bool) (f0 f1 f2 : ℕ) → BrokenCounts x f0 f1 → BrokenCounts y f1 f2 → BrokenCounts (x || y) f0 f2
 counts_both true true f0 f1 f2 a b = record { later = omega (arith, a.later, b.later); more = λ h. omega (arith, a.more h, b.later) }
 counts_both true false f0 f1 f2 a b = record { later = omega (arith, a.later, b); more = λ h. omega (arith, a.more h, b) }
 counts_both false true f0 f1 f2 a b = record { later = omega (arith, a, b.later); more = λ h. omega (arith, a, b.more (omega (arith, a, h))) }
 counts_both false false f0 f1 f2 a b = b ∙ a
 
+pub counts_more : (all shown now : Shown) (f0 f1 f2 : ℕ) → now ≡ both all shown → BrokenCounts all.broken f0 f1 → BrokenCounts shown.broken f1 f2 → BrokenCounts now.broken f0 f2
+counts_more all shown now f0 f1 f2 e a b = subst (λ (s : Shown). BrokenCounts s.broken f0 f2) (sym e) (counts_both all.broken shown.broken f0 f1 f2 a b)
+
 pub shows_named : (mode : Mode) (files : Files) (names more : List (List ℕ)) (result : Result Shown Stop) (f0 f1 : List Failure) (o0 o1 r0 r1 : Option (List ℕ)) → names ≡ more → Shows mode files names result f0 f1 o0 o1 r0 r1 → Shows mode files more result f0 f1 o0 o1 r0 r1
 shows_named mode files names more result f0 f1 o0 o1 r0 r1 e d = subst (λ n. Shows mode files n result f0 f1 o0 o1 r0 r1) e d
 
 -- one more page was drawn
-pub one_more : (mode : Mode) (files : Files) (names : List (List ℕ)) (at : ℕ) (name : List ℕ) (all drawn : Shown) (page : Result Shown Stop) (f0 f1 f2 : List Failure) (o0 o1 o2 r0 r1 r2 : Option (List ℕ))
-    → Shows mode files (take at names) (Ok all) f0 f1 o0 o1 r0 r1 → Shows mode files (name ∷ []) page f1 f2 o1 o2 r1 r2 → AreDistinct names → name ≡ get_or names at name → at < length names → page ≡ Ok drawn
-    → Shows mode files (take (at + 1) names) (Ok (both all drawn)) f0 f2 o0 o2 r0 r2
-one_more mode files names at name all drawn page f0 f1 f2 o0 o1 o2 r0 r1 r2 d e distinct is inside ok =
+pub one_more : (mode : Mode) (files : Files) (names : List (List ℕ)) (at : ℕ) (name : List ℕ) (all drawn now : Shown) (page : Result Shown Stop) (f0 f1 f2 : List Failure) (o0 o1 o2 r0 r1 r2 : Option (List ℕ))
+    → Shows mode files (take at names) (Ok all) f0 f1 o0 o1 r0 r1 → Shows mode files (name ∷ []) page f1 f2 o1 o2 r1 r2 → AreDistinct names → name ≡ get_or names at name → at < length names → page ≡ Ok drawn → now ≡ both all drawn
+    → Shows mode files (take (at + 1) names) (Ok now) f0 f2 o0 o2 r0 r2
+one_more mode files names at name all drawn now page f0 f1 f2 o0 o1 o2 r0 r1 r2 d e distinct is inside ok sum =
     let here = here_at names at name is inside in
     let both_drawn = shows_more mode files (take at names) name all page f0 f1 f2 o0 o1 o2 r0 r1 r2 d e (new_at names at name (drop (suc at) names) distinct here) in
-    shows_named mode files (take at names ++ name ∷ []) (take (at + 1) names) (Ok (both all drawn)) f0 f2 o0 o2 r0 r2 (sym (take_here names at name is inside))
-    (subst (λ p. Shows mode files (take at names ++ name ∷ []) (result_with all p) f0 f2 o0 o2 r0 r2) ok both_drawn)
+    subst (λ (s : Shown). Shows mode files (take (at + 1) names) (Ok s) f0 f2 o0 o2 r0 r2) (sym sum)
+    (shows_named mode files (take at names ++ name ∷ []) (take (at + 1) names) (Ok (both all drawn)) f0 f2 o0 o2 r0 r2 (sym (take_here names at name is inside))
+    (subst (λ p. Shows mode files (take at names ++ name ∷ []) (result_with all p) f0 f2 o0 o2 r0 r2) ok both_drawn))
 
 -- the drawing stopped at a page
 pub stopped_at : (mode : Mode) (files : Files) (names : List (List ℕ)) (at : ℕ) (name : List ℕ) (all : Shown) (fault : Stop) (page result : Result Shown Stop) (f0 f1 f2 : List Failure) (o0 o1 o2 r0 r1 r2 : Option (List ℕ))

@@ -1,40 +1,46 @@
 -- What a run puts, by its front and by the failures that it met.
-use Rattle.std.proofs.Common.{◌≡◌, ℕ, Bool, true, false, cond, Option, Some, None, IsSome, unwrap_or, Result, Ok, Err, IfOk, List, [], ◌∷◌, ◌++◌, ◌<◌, map, take, arith, refl, sym, ap, ◌∙◌, subst}
+use Rattle.std.proofs.Common.{◌≡◌, ℕ, Bool, true, false, cond, not, ltb, ◌&&◌, ◌||◌, Option, Some, None, IsSome, unwrap_or, Result, Ok, Err, IfOk, List, [], ◌∷◌, ◌++◌, ◌<◌, length, take, arith, inl, inr, refl, sym, ap, ◌∙◌, subst}
 use Rattle.std.specs.Str.{bytes_eq}
 use Rattle.std.proofs.lemmas.Bool.{true≢false}
 use Rattle.std.proofs.lemmas.List.{append-nil}
 use Rattle.std.proofs.lemmas.Slice.Eq.{bytes_eq-Decides}
-use Rattle.djvu_base.specs.Library.{File, Files, Library, Whole, names_of, contents_of, file_named, library_within, library_of, file_limit}
+use Rattle.djvu_base.specs.Library.{File, Files, Library, Whole, contents_of, file_named, library_within, library_of, file_limit}
 use Rattle.djvu_outside.specs.declared.faults.Status.{Status}
-use Rattle.djvu_outside.specs.Faults.{Failure, Listing}
+use Rattle.djvu_outside.specs.Faults.{Failure, Listing, Reading}
 use Rattle.djvu_outside.specs.Reading.{HasFile, bytes_in, GrowsWithin}
+use Rattle.zp_table.specs.declared.faults.TableFault.{TableFault}
+use Rattle.viewer_words.specs.declared.commands.Command.{Command}
+use Rattle.viewer_words.specs.declared.commands.Command.TheVariants as command
+use Rattle.viewer_words.specs.declared.commands.TableChoice.{TableChoice}
+use Rattle.viewer_words.specs.declared.commands.TableChoice.TheVariants as choice
+use Rattle.viewer_words.specs.Lines.{words_line, folder_line}
+use Rattle.viewer_words.specs.Words.{words_of}
 use Rattle.viewer_run.specs.declared.front.Front.{Front}
 use Rattle.viewer_run.specs.declared.front.Front.TheVariants as front
 use Rattle.viewer_run.specs.declared.front.Mode.{Mode}
+use Rattle.viewer_run.specs.declared.front.Mode.TheVariants as mode
 use Rattle.viewer_run.specs.declared.pages.Shown.{Shown}
 use Rattle.viewer_run.specs.declared.stop.Stop.{Stop}
 use Rattle.viewer_run.specs.declared.stop.Stop.TheVariants as stop
-use Rattle.viewer_run.specs.Cut.{first_entry, cut_at, cut_file, cut, front_failed}
-use Rattle.viewer_run.specs.Front.{front_of}
-use Rattle.viewer_run.specs.Offline.{Written, texts_by, texts_of_found, texts_of_names, written, written_by, offline, with_failures, outcome}
-use Rattle.viewer_run.specs.Outcome.{Gives, Delivers, NeverFolder, SinkStops}
-use Rattle.viewer_run.specs.Runs.{EndsSo, Fronts, Runs}
-use Rattle.viewer_run.specs.Shown.{HasFiles, HasBroken, Shows, file_of, texts_of_pages, status_shown}
-use Rattle.viewer_run.specs.Start.{Lists}
+use Rattle.viewer_run.specs.Cut.{first_entry, cut_at, cut_file, cut, front_may_fail, front_failed, names_table, names_page, NamesRead}
+use Rattle.viewer_run.specs.Front.{front_of, is_listed, name_limit, has_table, first_unlisted, front_by_pages, front_by_names, front_by_table, front_by_words, table_fault, with_table, names_in}
+use Rattle.viewer_run.specs.Offline.{Written, texts_by, texts_of_found, texts_of_names, written, written_by, offline, with_failures, written_cut, nothing_written, IsOutcome}
+use Rattle.viewer_run.specs.Outcome.{Gives, NeverFolder, SinkStops}
+use Rattle.viewer_run.specs.Runs.{EndsSo, GoesOnFrom, Runs, Run}
+use Rattle.viewer_run.specs.Shown.{HasFiles, HasBroken, NamesOnly, Shows, file_of, lists_first, texts_of_pages, status_shown}
+use Rattle.viewer_run.specs.Start.{StartsFor}
 use Rattle.viewer_run.specs.Status.{status_of}
 use Rattle.viewer_run.specs.Texts.{Texts, joined}
 use Rattle.viewer_run.proofs.Parts.{nothing_put}
 
+-- the pages of a front that is accepted
+abbrev PagesAre : List (List ℕ) → Front → Type 0
+PagesAre pages (front.Refused line) = Unit {0}
+PagesAre pages (front.Accepted mode shown) = shown ≡ pages
+
 same_name_at : (o : Option ℕ) (file : File) → (cut_at o file).name ≡ file.name
 same_name_at None file = refl
 same_name_at (Some count) file = refl
-
--- the names of a library stay where it is cut
-names_cut : (failures : List Failure) (limit : ℕ) (files : Files) → map (λ (file : File). file.name) (cut failures (library_within limit files)) ≡ names_of files
-names_cut failures limit [] = refl
-names_cut failures limit (file ∷ files) =
-    let whole : File = record { name = file.0; bytes = take limit file.1; mark = Whole } in
-    ap (λ n. n ∷ map (λ (f : File). f.name) (cut failures (library_within limit files))) (same_name_at (first_entry failures file.0) whole) ∙ ap (λ names. file.0 ∷ names) (names_cut failures limit files)
 
 abbrev whole_at : ℕ → List ℕ → List ℕ → File
 whole_at limit name bytes = record { name = name; bytes = take limit bytes; mark = Whole }
@@ -58,18 +64,58 @@ texts_cut mode failures files (name ∷ names) h =
     ap (λ f. joined (texts_of_found mode f) (texts_of_names mode (cut failures (library_of files)) names)) (found_cut failures file_limit files name h.0)
     ∙ ap (joined (texts_by mode (file_of files failures name))) (texts_cut mode failures files names h.1)
 
-by_front : (failures : List Failure) (files : Files) (words : List (List ℕ)) (front : Front) → front ≡ front_of (names_of files) words → offline (cut failures (library_of files)) words ≡ written_by (cut failures (library_of files)) front
-by_front failures files words front e = ap (λ names. written_by (cut failures (library_of files)) (front_of names words)) (names_cut failures file_limit files) ∙ ap (written_by (cut failures (library_of files))) (sym e)
+-- what is written where pages are shown
+shown_written : (failures : List Failure) (files : Files) (words names : List (List ℕ)) (mode : Mode) → front.Accepted mode names ≡ front_of (library_of files) words → HasFiles files names
+    → written_cut failures (library_of files) words ≡ with_failures failures (written (texts_of_pages mode files failures names))
+shown_written failures files words names mode e h =
+    ap (λ f. with_failures failures (written_by (cut failures (library_of files)) f)) (sym e) ∙ ap (λ t. with_failures failures (written t)) (texts_cut mode failures files names h)
 
-accepted : (failures : List Failure) (files : Files) (words names : List (List ℕ)) (mode : Mode) → front.Accepted mode names ≡ front_of (names_of files) words → HasFiles files names → offline (cut failures (library_of files)) words ≡ written (texts_of_pages mode files failures names)
-accepted failures files words names mode e h = by_front failures files words (front.Accepted mode names) e ∙ ap written (texts_cut mode failures files names h)
+-- the pages of a front that is accepted are those of the words
+pages_by_table : (o : Option TableFault) (mode other : Mode) (names pages : List (List ℕ)) → front.Accepted mode names ≡ front_by_table o other pages → names ≡ pages
+pages_by_table (Some fault) mode other names pages e = cc
+pages_by_table None mode other names pages e = cc
 
-outcome_behind : (failures : List Failure) (files : Files) (words : List (List ℕ)) → front_failed failures ≡ false → outcome failures (library_of files) words ≡ with_failures failures (offline (cut failures (library_of files)) words)
-outcome_behind failures files words e = ap (λ t. let w : Written = cond t (record { out = []; report = []; status = 3 }) (with_failures failures (offline (cut failures (library_of files)) words)) in w) e
+pages_with_table : (library : Library) (table : TableChoice) (before : Front) (mode : Mode) (names pages : List (List ℕ)) → PagesAre pages before → front.Accepted mode names ≡ with_table library table before → names ≡ pages
+pages_with_table library table (front.Refused line) mode names pages h e = cc
+pages_with_table library table (front.Accepted other shown) mode names pages h e = pages_by_table (table_fault library table) mode other names shown e ∙ h
 
--- a run that is refused
-pub refused_outcome : (files : Files) (words : List (List ℕ)) (line : List ℕ) → front.Refused line ≡ front_of (names_of files) words → outcome [] (library_of files) words ≡ record { out = []; report = line; status = 2 }
-refused_outcome files words line e = by_front [] files words (front.Refused line) e
+pages_by_place : (o : Option ℕ) (count : ℕ) (mode : Mode) (pages : List (List ℕ)) → PagesAre pages (front_by_pages o count mode pages)
+pages_by_place (Some at) count mode pages = tt
+pages_by_place None count mode pages = refl
+
+pages_by_tests : (many has : Bool) (o : Option ℕ) (count : ℕ) (mode : Mode) (pages : List (List ℕ)) (line other : List ℕ) → PagesAre pages (cond many (front.Refused line) (cond has (front_by_pages o count mode pages) (front.Refused other)))
+pages_by_tests true has o count mode pages line other = tt
+pages_by_tests false false o count mode pages line other = tt
+pages_by_tests false true o count mode pages line other = pages_by_place o count mode pages
+
+pages_by_names : (names : List (List ℕ)) (count : ℕ) (table : TableChoice) (mode : Mode) (pages : List (List ℕ)) → PagesAre pages (front_by_names names count table mode pages)
+pages_by_names names count table mode pages = pages_by_tests (ltb name_limit (length names)) (has_table names table) (first_unlisted names pages) count mode pages (folder_line (length names)) (words_line 2)
+
+-- a page that is shown is one that the words name
+named_page : (library : Library) (words names : List (List ℕ)) (how : Mode) (name : List ℕ) → front.Accepted how names ≡ front_of library words → names_page (words_of words) name ≡ is_listed names name
+named_page library words names how name = by (words_of words)
+  where
+    by : (r : Result Command ℕ) → front.Accepted how names ≡ front_by_words library (length words) r → names_page r name ≡ is_listed names name
+    by (Ok (command.Draw table pages)) e = ap (λ l. is_listed l name) (sym (pages_with_table library table (front_by_names (names_in library) (length words) table mode.Draw pages) how names pages (pages_by_names (names_in library) (length words) table mode.Draw pages) e))
+    by (Ok (command.Info pages)) e = ap (λ l. is_listed l name) (sym (pages_with_table library choice.Djvu (front_by_names (names_in library) (length words) choice.Djvu mode.Info pages) how names pages (pages_by_names (names_in library) (length words) choice.Djvu mode.Info pages) e))
+    by (Err number) e = cc
+
+and_not : (a b : Bool) → b ≡ true → (a && not b) ≡ false
+and_not true b e = ap not e
+and_not false b e = refl
+
+-- failures of pages alone aren't the front's
+not_front : (library : Library) (words names : List (List ℕ)) (mode : Mode) (failures : List Failure) → front.Accepted mode names ≡ front_of library words → NamesOnly names failures → lists_first failures ≡ false → front_failed words failures ≡ false
+not_front library words names mode [] e only behind = refl
+not_front library words names mode (Listing ∷ failures) e only behind = absurd (true≢false behind)
+not_front library words names mode (Reading name count ∷ failures) e only behind = and_not (names_table (words_of words) name) (names_page (words_of words) name) (named_page library words names mode name e ∙ listed (is_listed names name) refl)
+  where
+    listed : (t : Bool) → is_listed names name ≡ t → is_listed names name ≡ true
+    listed true h = h
+    listed false h =
+        let none : cond (bytes_eq name name) (Some count) (first_entry failures name) ≡ None = only name h in
+        let some : cond (bytes_eq name name) (Some count) (first_entry failures name) ≡ Some count = ap (λ t. cond t (Some count) (first_entry failures name)) ((bytes_eq-Decides name name).1 refl) in
+        let both = sym some ∙ none in cc
 
 out_with : (failures : List Failure) (w : Written) → (with_failures failures w).out ≡ w.out
 out_with [] w = refl
@@ -98,93 +144,134 @@ status_of_all shown failures texts broken refused = by shown.broken shown.refuse
 gives_same : {T : Type 0} (result : Result T Stop) (old new : Option (List ℕ)) (text other : List ℕ) → text ≡ other → Gives result old new text → Gives result old new other
 gives_same {T = T} result old new text other e g = subst (λ t. Gives {T = T} result old new t) e g
 
+or_second : (a b : Bool) → (a || b) ≡ false → b ≡ false
+or_second true b e = absurd (true≢false e)
+or_second false b e = e
+
+only_named : (library : Library) (words names : List (List ℕ)) (mode : Mode) (failures : List Failure) → front.Accepted mode names ≡ front_of library words → NamesOnly names failures → NamesRead words failures
+only_named library words names mode failures e only name other =
+    only name (sym (named_page library words names mode name e) ∙ or_second (names_table (words_of words) name) (names_page (words_of words) name) other)
+
+-- the listing, or the table's reading, names no other file
+early_named : (words : List (List ℕ)) (entry : Failure) → front_may_fail words (entry ∷ []) ≡ true → NamesRead words (entry ∷ [])
+early_named words Listing e name other = refl
+early_named words (Reading table count) e name other = by (bytes_eq name table) refl
+  where
+    by : (t : Bool) → bytes_eq name table ≡ t → cond t (Some count) None ≡ None
+    by false h = refl
+    by true h =
+        let same : name ≡ table = (bytes_eq-Decides name table).0 h in
+        absurd (true≢false (sym (ap (λ b. b || names_page (words_of words) name) (ap (names_table (words_of words)) same ∙ e)) ∙ other))
+
 -- a run that shows pages, up to its end
 pub runs_shown : (files : Files) (words names : List (List ℕ)) (mode : Mode) (result : Result Shown Stop) (shown : Shown) (status : Status) (f0 f1 f2 : List Failure) (o0 o1 r0 r1 : Option (List ℕ))
-    → front.Accepted mode names ≡ front_of (names_of files) words → HasFiles files names → f1 ≡ f0 → Shows mode files names result f1 f2 o0 o1 r0 r1 → result ≡ Ok shown → status.0 ≡ status_shown shown
+    → front.Accepted mode names ≡ front_of (library_of files) words → HasFiles files names → f1 ≡ f0 → Shows mode files names result f1 f2 o0 o1 r0 r1 → result ≡ Ok shown → status.0 ≡ status_shown shown
     → Runs files words (Ok status) f0 f2 o0 o1 r0 r1
 runs_shown files words names mode result shown status f0 f1 f2 o0 o1 r0 r1 front has same shows ok is =
     let s : Shows mode files names (Ok shown) f1 f2 o0 o1 r0 r1 = subst (λ r. Shows mode files names r f1 f2 o0 o1 r0 r1) ok shows in
     let texts = texts_of_pages mode files s.added names in
-    let whole : outcome s.added (library_of files) words ≡ with_failures s.added (written texts) = outcome_behind s.added files words s.behind ∙ ap (with_failures s.added) (accepted s.added files words names mode front has) in
+    let late = not_front (library_of files) words names mode s.added front s.only s.behind in
     record {
       added = s.added;
       grown = s.grown ∙ ap (λ f. f ++ s.added) same;
-      front = s.behind;
-      out = λ before given. let put = s.out before given in (put.0, put.1, put.2 ∙ ap (λ t. before ++ t) (sym (ap (λ (w : Written). w.out) whole ∙ out_with s.added (written texts))));
-      report = λ before given. let put = s.report before given in (put.0, put.1, put.2 ∙ ap (λ t. before ++ t) (sym (ap (λ (w : Written). w.report) whole ∙ report_with s.added (written texts))));
-      status = is ∙ status_of_all shown s.added texts s.broken s.refused ∙ sym (ap (λ (w : Written). w.status) whole);
+      only = only_named (library_of files) words names mode s.added front s.only;
+      goes_on = late;
+      written = with_failures s.added (written texts);
+      outcome = inr (late, sym (shown_written s.added files words names mode front has));
+      out = λ before given. let put = s.out before given in (put.0, put.1, put.2 ∙ ap (λ t. before ++ t) (sym (out_with s.added (written texts))));
+      report = λ before given. let put = s.report before given in (put.0, put.1, put.2 ∙ ap (λ t. before ++ t) (sym (report_with s.added (written texts))));
+      status = is ∙ status_of_all shown s.added texts s.broken s.refused;
+      nothing = λ e. cc;
     }
 
-not_folder : (fault : Stop) → (fault ≡ stop.Folder → ⊥) → (added : List Failure) (n : ℕ) → Fronts (Err fault) added × EndsSo (Err fault) n
-not_folder stop.Folder h added n = absurd (h refl)
-not_folder stop.Sink h added n = (tt, tt)
-not_folder stop.Memory h added n = (tt, tt)
+not_folder : (fault : Stop) → (fault ≡ stop.Folder → ⊥) → (words : List (List ℕ)) (added : List Failure) (n : ℕ) → GoesOnFrom (Err fault) words added × EndsSo (Err fault) n
+not_folder stop.Folder h words added n = absurd (h refl)
+not_folder stop.Sink h words added n = (tt, tt)
+not_folder stop.Memory h words added n = (tt, tt)
+
+err_same : (fault other : Stop) → ◌≡◌ {A = Result Status Stop} (Err fault) (Err other) → fault ≡ other
+err_same fault other e = cc
 
 -- a run that stops at a page
 pub runs_stopped : (files : Files) (words names : List (List ℕ)) (mode : Mode) (pages : Result Shown Stop) (result : Result Status Stop) (fault : Stop) (f0 f1 f2 : List Failure) (o0 o1 r0 r1 : Option (List ℕ))
-    → front.Accepted mode names ≡ front_of (names_of files) words → HasFiles files names → f1 ≡ f0 → Shows mode files names pages f1 f2 o0 o1 r0 r1 → pages ≡ Err fault → (fault ≡ stop.Folder → ⊥) → result ≡ Err fault
+    → front.Accepted mode names ≡ front_of (library_of files) words → HasFiles files names → f1 ≡ f0 → Shows mode files names pages f1 f2 o0 o1 r0 r1 → pages ≡ Err fault → (fault ≡ stop.Folder → ⊥) → result ≡ Err fault
     → Runs files words result f0 f2 o0 o1 r0 r1
 runs_stopped files words names mode pages result fault f0 f1 f2 o0 o1 r0 r1 front has same shows err other is =
     let s : Shows mode files names (Err fault) f1 f2 o0 o1 r0 r1 = subst (λ r. Shows mode files names r f1 f2 o0 o1 r0 r1) err shows in
     let texts = texts_of_pages mode files s.added names in
-    let whole : outcome s.added (library_of files) words ≡ with_failures s.added (written texts) = outcome_behind s.added files words s.behind ∙ ap (with_failures s.added) (accepted s.added files words names mode front has) in
+    let late = not_front (library_of files) words names mode s.added front s.only s.behind in
     subst (λ r. Runs files words r f0 f2 o0 o1 r0 r1) (sym is) (record {
       added = s.added;
       grown = s.grown ∙ ap (λ f. f ++ s.added) same;
-      front = (not_folder fault other s.added 0).0;
-      out = λ before given. let put = s.out before given in (put.0, put.1, subst (λ t. GrowsWithin before t put.0) (sym (ap (λ (w : Written). w.out) whole ∙ out_with s.added (written texts))) put.2);
-      report = λ before given. let put = s.report before given in (put.0, put.1, subst (λ t. GrowsWithin before t put.0) (sym (ap (λ (w : Written). w.report) whole ∙ report_with s.added (written texts))) put.2);
-      status = (not_folder fault other s.added (outcome s.added (library_of files) words).status).1;
+      only = only_named (library_of files) words names mode s.added front s.only;
+      goes_on = (not_folder fault other words s.added 0).0;
+      written = with_failures s.added (written texts);
+      outcome = inr (late, sym (shown_written s.added files words names mode front has));
+      out = λ before given. let put = s.out before given in (put.0, put.1, subst (λ t. GrowsWithin before t put.0) (sym (out_with s.added (written texts))) put.2);
+      report = λ before given. let put = s.report before given in (put.0, put.1, subst (λ t. GrowsWithin before t put.0) (sym (report_with s.added (written texts))) put.2);
+      status = (not_folder fault other words s.added (with_failures s.added (written texts)).status).1;
+      nothing = λ e. absurd (other (err_same fault stop.Folder e));
     })
 
 -- a run that is refused, or stops at its line
 pub runs_refused : (files : Files) (words : List (List ℕ)) (line : List ℕ) (result : Result Status Stop) (f0 f1 : List Failure) (o r0 r1 : Option (List ℕ))
-    → front.Refused line ≡ front_of (names_of files) words → f1 ≡ f0 → Gives result r0 r1 line → IfOk result (λ status. status.0 ≡ 2) → (result ≡ Err stop.Folder → ⊥) → Runs files words result f0 f1 o o r0 r1
+    → front.Refused line ≡ front_of (library_of files) words → f1 ≡ f0 → Gives result r0 r1 line → IfOk result (λ status. status.0 ≡ 2) → (result ≡ Err stop.Folder → ⊥) → Runs files words result f0 f1 o o r0 r1
 runs_refused files words line result f0 f1 o r0 r1 front same gives status other =
-    let whole = refused_outcome files words line front in
     record {
       added = [];
       grown = same ∙ sym (append-nil f0);
-      front = by_result result other;
-      out = λ before given. (before, given, subst (λ t. Delivers result before t before) (sym (ap (λ (w : Written). w.out) whole)) (nothing_put result before));
-      report = gives_same result r0 r1 line (outcome [] (library_of files) words).report (sym (ap (λ (w : Written). w.report) whole)) gives;
+      only = λ name other. refl;
+      goes_on = by_result result other;
+      written = record { out = []; report = line; status = 2 };
+      outcome = inr (refl, ap (λ f. written_by (cut [] (library_of files)) f) front);
+      out = λ before given. (before, given, nothing_put result before);
+      report = gives;
       status = by_status result status other;
+      nothing = λ e. absurd (other e);
     }
   where
-    by_result : (result : Result Status Stop) → (result ≡ Err stop.Folder → ⊥) → Fronts result []
+    by_result : (result : Result Status Stop) → (result ≡ Err stop.Folder → ⊥) → GoesOnFrom result words []
     by_result (Ok status) other = refl
     by_result (Err stop.Folder) other = absurd (other refl)
     by_result (Err stop.Sink) other = tt
     by_result (Err stop.Memory) other = tt
 
-    by_status : (result : Result Status Stop) → IfOk result (λ status. status.0 ≡ 2) → (result ≡ Err stop.Folder → ⊥) → EndsSo result (outcome [] (library_of files) words).status
-    by_status (Ok status) is other = is ∙ sym (ap (λ (w : Written). w.status) (refused_outcome files words line front))
+    by_status : (result : Result Status Stop) → IfOk result (λ status. status.0 ≡ 2) → (result ≡ Err stop.Folder → ⊥) → EndsSo result 2
+    by_status (Ok status) is other = is
     by_status (Err stop.Folder) is other = absurd (other refl)
     by_status (Err stop.Sink) is other = tt
     by_status (Err stop.Memory) is other = tt
 
 -- a run that stops before its pages
 pub runs_early : (files : Files) (words : List (List ℕ)) (front : Result Front Stop) (fault : Stop) (result : Result Status Stop) (f0 f1 : List Failure) (o r : Option (List ℕ))
-    → front ≡ Err fault → Lists front f0 f1 → result ≡ Err fault → Runs files words result f0 f1 o o r r
-runs_early files words front fault result f0 f1 o r e lists is = subst (λ x. Runs files words x f0 f1 o o r r) (sym is) (by fault (subst (λ x. Lists x f0 f1) e lists))
+    → front ≡ Err fault → StartsFor front words f0 f1 → result ≡ Err fault → Runs files words result f0 f1 o o r r
+runs_early files words front fault result f0 f1 o r e starts is = subst (λ x. Runs files words x f0 f1 o o r r) (sym is) (by fault (subst (λ x. StartsFor x words f0 f1) e starts))
   where
-    by : (fault : Stop) → Lists {T = Front} (Err fault) f0 f1 → Runs files words (Err fault) f0 f1 o o r r
+    by : (fault : Stop) → StartsFor {T = Front} (Err fault) words f0 f1 → Runs files words (Err fault) f0 f1 o o r r
     by stop.Folder l = record {
-      added = Listing ∷ [];
-      grown = l;
-      front = refl;
+      added = l.0 ∷ [];
+      grown = l.1;
+      only = early_named words l.0 l.2;
+      goes_on = tt;
+      written = nothing_written;
+      outcome = inl (l.2, refl);
       out = λ before given. (before, given, ([], [], refl, sym (append-nil before)));
       report = λ before given. (before, given, ([], [], refl, sym (append-nil before)));
       status = refl;
+      nothing = λ e. (refl, refl);
     }
     by stop.Sink l = absurd l
     by stop.Memory l = record {
       added = [];
       grown = l ∙ sym (append-nil f0);
-      front = tt;
-      out = λ before given. (before, given, ([], (outcome [] (library_of files) words).out, refl, sym (append-nil before)));
-      report = λ before given. (before, given, ([], (outcome [] (library_of files) words).report, refl, sym (append-nil before)));
+      only = λ name other. refl;
+      goes_on = tt;
+      written = written_cut [] (library_of files) words;
+      outcome = inr (refl, refl);
+      out = λ before given. (before, given, ([], (written_cut [] (library_of files) words).out, refl, sym (append-nil before)));
+      report = λ before given. (before, given, ([], (written_cut [] (library_of files) words).report, refl, sym (append-nil before)));
       status = tt;
+      nothing = λ e. cc;
     }
 
 cancel : (a b c : List Failure) → a ++ b ≡ a ++ c → b ≡ c
@@ -195,25 +282,9 @@ cancel (x ∷ a) b c e = let rest : a ++ b ≡ a ++ c = cc in cancel a b c rest
 pub same_added : (old new a b : List Failure) → new ≡ old ++ a → new ≡ old ++ b → a ≡ b
 same_added old new a b e f = cancel old a b (sym e ∙ f)
 
-pub ended_out : (files : Files) (words : List (List ℕ)) (status : Status) (f0 f1 : List Failure) (o0 o1 r0 r1 : Option (List ℕ)) (added : List Failure) (before : List ℕ)
-    → Runs files words (Ok status) f0 f1 o0 o1 r0 r1 → f1 ≡ f0 ++ added → o0 ≡ Some before → o1 ≡ Some (before ++ (outcome added (library_of files) words).out)
-ended_out files words status f0 f1 o0 o1 r0 r1 added before r grown given =
-    let put = r.out before given in
-    put.1 ∙ ap Some (put.2 ∙ ap (λ a. before ++ (outcome a (library_of files) words).out) (same_added f0 f1 r.added added r.grown grown))
-
-pub ended_report : (files : Files) (words : List (List ℕ)) (status : Status) (f0 f1 : List Failure) (o0 o1 r0 r1 : Option (List ℕ)) (added : List Failure) (before : List ℕ)
-    → Runs files words (Ok status) f0 f1 o0 o1 r0 r1 → f1 ≡ f0 ++ added → r0 ≡ Some before → r1 ≡ Some (before ++ (outcome added (library_of files) words).report)
-ended_report files words status f0 f1 o0 o1 r0 r1 added before r grown given =
-    let put = r.report before given in
-    put.1 ∙ ap Some (put.2 ∙ ap (λ a. before ++ (outcome a (library_of files) words).report) (same_added f0 f1 r.added added r.grown grown))
-
-pub ended_status : (files : Files) (words : List (List ℕ)) (status : Status) (f0 f1 : List Failure) (o0 o1 r0 r1 : Option (List ℕ)) (added : List Failure)
-    → Runs files words (Ok status) f0 f1 o0 o1 r0 r1 → f1 ≡ f0 ++ added → status.0 ≡ (outcome added (library_of files) words).status
-ended_status files words status f0 f1 o0 o1 r0 r1 added r grown = r.status ∙ ap (λ a. (outcome a (library_of files) words).status) (same_added f0 f1 r.added added r.grown grown)
-
-pub ended_front : (files : Files) (words : List (List ℕ)) (status : Status) (f0 f1 : List Failure) (o0 o1 r0 r1 : Option (List ℕ)) (added : List Failure)
-    → Runs files words (Ok status) f0 f1 o0 o1 r0 r1 → f1 ≡ f0 ++ added → front_failed added ≡ true → ⊥
-ended_front files words status f0 f1 o0 o1 r0 r1 added r grown failed = true≢false (sym failed ∙ ap front_failed (same_added f0 f1 added r.added grown r.grown) ∙ r.front)
+-- all of a text is a front of it
+whole_grows : (before text after : List ℕ) → after ≡ before ++ text → GrowsWithin before text after
+whole_grows before text after e = (text, [], sym (append-nil text), e)
 
 no_part : (part rest : List ℕ) → [] ≡ part ++ rest → part ≡ []
 no_part [] rest e = refl
@@ -222,58 +293,58 @@ no_part (x ∷ part) rest e = cc
 nothing_grown : (before text after : List ℕ) → text ≡ [] → GrowsWithin before text after → after ≡ before ++ text
 nothing_grown before text after e g = g.3 ∙ ap (λ t. before ++ t) (no_part g.0 g.1 (sym e ∙ g.2) ∙ sym e)
 
-none_written : (failures : List Failure) (library : Library) (words : List (List ℕ)) → front_failed failures ≡ true → outcome failures library words ≡ record { out = []; report = []; status = 3 }
-none_written failures library words e = ap (λ t. let w : Written = cond t (record { out = []; report = []; status = 3 }) (with_failures failures (offline (cut failures library) words)) in w) e
+-- a run that came to its end
+pub run_ended : (files : Files) (words : List (List ℕ)) (status : Status) (f0 f1 : List Failure) (o0 o1 r0 r1 : Option (List ℕ)) → Runs files words (Ok status) f0 f1 o0 o1 r0 r1 → Run files words status.0 f0 f1 o0 o1 r0 r1
+run_ended files words status f0 f1 o0 o1 r0 r1 r = record {
+  added = r.added;
+  grown = r.grown;
+  only = r.only;
+  written = r.written;
+  outcome = r.outcome;
+  out = λ before given. let put = r.out before given in (put.0, put.1, (λ below. put.2), whole_grows before r.written.out put.0 put.2);
+  report = λ before given. let put = r.report before given in (put.0, put.1, (λ below. put.2), whole_grows before r.written.report put.0 put.2);
+  same_status = λ below. r.status;
+}
 
 is_folder : (fault : Stop) → status_of fault < 4 → fault ≡ stop.Folder
 is_folder stop.Folder h = refl
 is_folder stop.Sink h = absurd (omega arith)
 is_folder stop.Memory h = absurd (omega arith)
 
-abbrev early_end : (files : Files) (words : List (List ℕ)) (f0 f1 : List Failure) (o0 o1 r0 r1 : Option (List ℕ)) (fault : Stop) → Runs files words (Err fault) f0 f1 o0 o1 r0 r1 → status_of fault < 4 → Runs files words (Err stop.Folder) f0 f1 o0 o1 r0 r1
-early_end files words f0 f1 o0 o1 r0 r1 fault r h = subst (λ s. Runs files words (Err s) f0 f1 o0 o1 r0 r1) (is_folder fault h) r
+stopped_status : (files : Files) (words : List (List ℕ)) (fault : Stop) (wanted : ℕ) → fault ≡ stop.Folder → EndsSo (Err fault) wanted → status_of fault ≡ wanted
+stopped_status files words fault wanted e h = ap status_of e ∙ sym (subst (λ f. EndsSo (Err f) wanted) e h)
 
-pub stopped_out : (files : Files) (words : List (List ℕ)) (fault : Stop) (f0 f1 : List Failure) (o0 o1 r0 r1 : Option (List ℕ)) (added : List Failure) (before : List ℕ)
-    → Runs files words (Err fault) f0 f1 o0 o1 r0 r1 → f1 ≡ f0 ++ added → o0 ≡ Some before → status_of fault < 4 → o1 ≡ Some (before ++ (outcome added (library_of files) words).out)
-stopped_out files words fault f0 f1 o0 o1 r0 r1 added before r grown given early =
-    let e = early_end files words f0 f1 o0 o1 r0 r1 fault r early in
-    let put = e.out before given in
-    put.1 ∙ ap Some (nothing_grown before (outcome e.added (library_of files) words).out put.0 (ap (λ (w : Written). w.out) (none_written e.added (library_of files) words e.front)) put.2 ∙ ap (λ a. before ++ (outcome a (library_of files) words).out) (same_added f0 f1 e.added added e.grown grown))
+-- a run that stopped
+pub run_stopped : (files : Files) (words : List (List ℕ)) (fault : Stop) (status : ℕ) (f0 f1 : List Failure) (o0 o1 r0 r1 : Option (List ℕ)) → status ≡ status_of fault → Runs files words (Err fault) f0 f1 o0 o1 r0 r1 → Run files words status f0 f1 o0 o1 r0 r1
+run_stopped files words fault status f0 f1 o0 o1 r0 r1 e r =
+    let early : status < 4 → fault ≡ stop.Folder = λ below. is_folder fault (subst (λ n. n < 4) e below) in
+    let none : status < 4 → (r.written.out ≡ []) × (r.written.report ≡ []) = λ below. r.nothing (ap Err (early below)) in
+    record {
+      added = r.added;
+      grown = r.grown;
+      only = r.only;
+      written = r.written;
+      outcome = r.outcome;
+      out = λ before given. let put = r.out before given in (put.0, put.1, (λ below. nothing_grown before r.written.out put.0 (none below).0 put.2), put.2);
+      report = λ before given. let put = r.report before given in (put.0, put.1, (λ below. nothing_grown before r.written.report put.0 (none below).1 put.2), put.2);
+      same_status = λ below. e ∙ stopped_status files words fault r.written.status (early below) r.status;
+    }
 
-pub stopped_report : (files : Files) (words : List (List ℕ)) (fault : Stop) (f0 f1 : List Failure) (o0 o1 r0 r1 : Option (List ℕ)) (added : List Failure) (before : List ℕ)
-    → Runs files words (Err fault) f0 f1 o0 o1 r0 r1 → f1 ≡ f0 ++ added → r0 ≡ Some before → status_of fault < 4 → r1 ≡ Some (before ++ (outcome added (library_of files) words).report)
-stopped_report files words fault f0 f1 o0 o1 r0 r1 added before r grown given early =
-    let e = early_end files words f0 f1 o0 o1 r0 r1 fault r early in
-    let put = e.report before given in
-    put.1 ∙ ap Some (nothing_grown before (outcome e.added (library_of files) words).report put.0 (ap (λ (w : Written). w.report) (none_written e.added (library_of files) words e.front)) put.2 ∙ ap (λ a. before ++ (outcome a (library_of files) words).report) (same_added f0 f1 e.added added e.grown grown))
+-- a run whose front failed doesn't come to its end
+pub front_stops : (files : Files) (words : List (List ℕ)) (status : Status) (f0 f1 : List Failure) (o0 o1 r0 r1 : Option (List ℕ)) (added : List Failure) → Runs files words (Ok status) f0 f1 o0 o1 r0 r1 → f1 ≡ f0 ++ added → front_failed words added ≡ true → ⊥
+front_stops files words status f0 f1 o0 o1 r0 r1 added r grown failed = true≢false (sym failed ∙ ap (front_failed words) (same_added f0 f1 added r.added grown r.grown) ∙ r.goes_on)
 
-pub stopped_status : (files : Files) (words : List (List ℕ)) (fault : Stop) (f0 f1 : List Failure) (o0 o1 r0 r1 : Option (List ℕ)) (added : List Failure)
-    → Runs files words (Err fault) f0 f1 o0 o1 r0 r1 → f1 ≡ f0 ++ added → status_of fault < 4 → status_of fault ≡ (outcome added (library_of files) words).status
-stopped_status files words fault f0 f1 o0 o1 r0 r1 added r grown early =
-    let e = early_end files words f0 f1 o0 o1 r0 r1 fault r early in
-    ap status_of (is_folder fault early) ∙ sym e.status ∙ ap (λ a. (outcome a (library_of files) words).status) (same_added f0 f1 e.added added e.grown grown)
+pub nothing_cut : (library : Library) → cut [] library ≡ library
+nothing_cut [] = refl
+nothing_cut (file ∷ library) = ap (λ l. file ∷ l) (nothing_cut library)
 
-pub stopped_part : (files : Files) (words : List (List ℕ)) (fault : Stop) (f0 f1 : List Failure) (o0 o1 r0 r1 : Option (List ℕ)) (added : List Failure) (before : List ℕ)
-    → Runs files words (Err fault) f0 f1 o0 o1 r0 r1 → f1 ≡ f0 ++ added → o0 ≡ Some before → (after : List ℕ) × (o1 ≡ Some after) × GrowsWithin before (outcome added (library_of files) words).out after
-stopped_part files words fault f0 f1 o0 o1 r0 r1 added before r grown given =
-    let put = r.out before given in
-    (put.0, put.1, subst (λ a. GrowsWithin before (outcome a (library_of files) words).out put.0) (same_added f0 f1 r.added added r.grown grown) put.2)
-
-pub stopped_lines : (files : Files) (words : List (List ℕ)) (fault : Stop) (f0 f1 : List Failure) (o0 o1 r0 r1 : Option (List ℕ)) (added : List Failure) (before : List ℕ)
-    → Runs files words (Err fault) f0 f1 o0 o1 r0 r1 → f1 ≡ f0 ++ added → r0 ≡ Some before → (after : List ℕ) × (r1 ≡ Some after) × GrowsWithin before (outcome added (library_of files) words).report after
-stopped_lines files words fault f0 f1 o0 o1 r0 r1 added before r grown given =
-    let put = r.report before given in
-    (put.0, put.1, subst (λ a. GrowsWithin before (outcome a (library_of files) words).report put.0) (same_added f0 f1 r.added added r.grown grown) put.2)
+-- where nothing failed
+pub sound_outcome : (library : Library) (words : List (List ℕ)) (texts : Written) → IsOutcome [] library words texts → texts ≡ offline library words
+sound_outcome library words texts (inl early) = absurd (true≢false (sym early.0))
+sound_outcome library words texts (inr late) = late.1 ∙ ap (λ l. written_by l (front_of library words)) (nothing_cut library)
 
 pub never_folder : {T : Type 0} (result : Result T Stop) (fault : Stop) → NeverFolder result → result ≡ Err fault → (fault ≡ stop.Folder → ⊥)
 never_folder {T = T} result fault h e f = subst (λ r. NeverFolder {T = T} r) (e ∙ ap Err f) h
 
 pub sink_only : {T : Type 0} (result : Result T Stop) (before after : ℕ) → SinkStops result before after → (result ≡ Err stop.Folder → ⊥)
 sink_only {T = T} result before after h e = subst (λ r. SinkStops {T = T} r before after) e h
-
-pub nothing_cut : (library : Library) → cut [] library ≡ library
-nothing_cut [] = refl
-nothing_cut (file ∷ library) = ap (λ l. file ∷ l) (nothing_cut library)
-
-pub sound_outcome : (library : Library) (words : List (List ℕ)) → outcome [] library words ≡ offline library words
-sound_outcome library words = ap (λ l. offline l words) (nothing_cut library)

@@ -13,8 +13,8 @@ use Rattle.viewer_run.specs.declared.reading.FileEnd.TheVariants as file_end
 use Rattle.viewer_run.specs.declared.reading.PageReading.{PageReading}
 use Rattle.viewer_run.specs.declared.stop.Stop.{Stop}
 use Rattle.viewer_run.specs.Came.{IsReadTo}
-use Rattle.viewer_run.specs.Cut.{cut_at, front_failed}
-use Rattle.viewer_run.specs.Shown.{file_of, file_read, texts_of_pages, NamesOnly, HasBroken, Shows}
+use Rattle.viewer_run.specs.Cut.{cut_at}
+use Rattle.viewer_run.specs.Shown.{lists_first, file_of, file_read, texts_of_pages, NamesOnly, HasBroken, Shows}
 use Rattle.viewer_run.specs.declared.front.Mode.{Mode}
 use Rattle.iff_chunks.specs.Chunks.{Tail, InHead, InHeader, InData, InPad, FormEnd, Broken as BrokenOff, chunks_of}
 use Rattle.viewer_run.specs.Info.{fault_text, info_of_file}
@@ -32,7 +32,7 @@ pub record IsReadWith (files : Files) (name bytes : List ℕ) (end : FileEnd) (o
   pub added : List Failure
   pub grown : new ≡ old ++ added
   pub only : NamesOnly (name ∷ []) added
-  pub behind : front_failed added ≡ false
+  pub behind : lists_first added ≡ false
   pub file : file_of files added name ≡ record { name = name; bytes = bytes; mark = mark_of end }
   pub broken : HasBroken (is_broken end) added
 

@@ -1,19 +1,35 @@
 -- What the start of a run leaves to its pages.
-use Rattle.std.proofs.Common.{◌≡◌, ◌≢◌, ℕ, suc, ◌<◌, ◌≤◌, Bool, true, false, cond, not, ltb, ◌||◌, Option, Some, None, IsSome, List, [], ◌∷◌, length, get_or, refl, sym, arith}
+use Rattle.std.proofs.Common.{◌≡◌, ◌≢◌, ℕ, suc, ◌<◌, ◌≤◌, Bool, true, false, cond, not, ltb, ◌||◌, Option, Some, None, Result, Ok, Err, IsSome, unwrap_or, List, [], ◌∷◌, ◌++◌, length, take, get_or, refl, sym, arith, ap, subst, ◌+◌, ◌∙◌}
 use Rattle.std.specs.List.{AllPairs, position_or_len}
 use Rattle.std.specs.Str.{bytes_eq}
 use Rattle.std.proofs.lemmas.Bool.{true≢false, ltb-false}
+use Rattle.std.proofs.lemmas.List.{take_all}
 use Rattle.std.proofs.lemmas.List.Folds.{list_any_none}
 use Rattle.std.proofs.lemmas.List.Sums.{fails_before_first}
 use Rattle.std.proofs.lemmas.Slice.Eq.{bytes_eq-Decides}
-use Rattle.djvu_base.specs.Library.{Files, names_of, contents_of}
-use Rattle.djvu_outside.specs.Reading.{HasFile}
-use Rattle.viewer_words.specs.Lines.{folder_line}
+use Rattle.djvu_base.specs.Library.{Files, Whole, names_of, contents_of, file_named, library_within, library_of, file_limit}
+use Rattle.djvu_outside.specs.Faults.{Failure, Listing, Reading}
+use Rattle.djvu_outside.specs.Reading.{HasFile, bytes_in}
+use Rattle.viewer_words.specs.Lines.{words_line, folder_line}
 use Rattle.viewer_run.specs.declared.front.Front.TheVariants as front
 use Rattle.viewer_run.specs.declared.front.Mode.{Mode}
-use Rattle.viewer_run.specs.Front.{name_limit, is_listed, first_unlisted, front_by_listing, front_of_pages}
+use Rattle.viewer_run.specs.declared.reading.FileEnd.{FileEnd}
+use Rattle.viewer_run.specs.declared.reading.FileEnd.TheVariants as file_end
+use Rattle.viewer_run.specs.Came.{IsReadTo}
+use Rattle.viewer_run.specs.Progress.{is_broken}
+use Rattle.viewer_words.specs.declared.commands.TableChoice.{TableChoice}
+use Rattle.viewer_words.specs.declared.commands.TableChoice.TheVariants as choice
+use Rattle.zp_table.specs.declared.faults.TableFault.{TableFault}
+use Rattle.zp_table.specs.Reading.{fault_of}
+use Rattle.viewer_run.specs.declared.front.Front.{Front}
+use Rattle.viewer_run.specs.Front.{name_limit, is_listed, first_unlisted, has_table, front_by_pages, front_by_names, names_in, bytes_of_found, table_fault, front_by_table, with_table}
 use Rattle.viewer_run.specs.Shown.{HasFiles, AreDistinct}
-use Rattle.viewer_run.specs.Start.{CanShow}
+use Rattle.viewer_run.specs.Start.{IsEarly, Starts, StartsFor, CanRead, CanStart}
+use Rattle.viewer_run.specs.Cut.{front_may_fail, names_table}
+use Rattle.viewer_run.specs.declared.stop.Stop.{Stop}
+use Rattle.viewer_run.specs.declared.stop.Stop.TheVariants as stop
+use Rattle.viewer_words.specs.declared.commands.Command.TheVariants as command
+use Rattle.viewer_words.specs.Words.{words_of}
 
 one_listed : (files : Files) (name : List ℕ) (bytes : List ℕ) (t : Bool) → (is_listed (names_of files) name ≡ true → HasFile files name) → (t || is_listed (names_of files) name) ≡ true → IsSome (cond t (Some bytes) (contents_of name files))
 one_listed files name bytes true more h = refl
@@ -43,16 +59,56 @@ each_has : (files : Files) (pages : List (List ℕ)) → ((k : ℕ) (d : List �
 each_has files [] h = tt
 each_has files (page ∷ pages) h = (h 0 [] (omega arith), each_has files pages (λ k d within. h (suc k) d (omega arith)))
 
-by_listing : (files : Files) (mode : Mode) (pages : List (List ℕ)) (o : Option ℕ) → first_unlisted (names_of files) pages ≡ o → CanShow files (front_by_listing o mode pages)
-by_listing files mode pages (Some at) e = tt
-by_listing files mode pages None e = each_has files pages (λ k d h. listed_file files (get_or pages k d) (all_listed (names_of files) pages e k d h))
+by_pages : (files : Files) (count : ℕ) (table : TableChoice) (mode : Mode) (pages : List (List ℕ)) (o : Option ℕ) → first_unlisted (names_of files) pages ≡ o → CanRead files table → CanStart files table (front_by_pages o count mode pages)
+by_pages files count table mode pages (Some at) e read = tt
+by_pages files count table mode pages None e read = (read, each_has files pages (λ k d h. listed_file files (get_or pages k d) (all_listed (names_of files) pages e k d h)))
 
-by_count : (files : Files) (mode : Mode) (pages : List (List ℕ)) (line : List ℕ) (t : Bool) → CanShow files (cond t (front.Refused line) (front_by_listing (first_unlisted (names_of files) pages) mode pages))
-by_count files mode pages line true = tt
-by_count files mode pages line false = by_listing files mode pages (first_unlisted (names_of files) pages) refl
+can_read : (files : Files) (table : TableChoice) → has_table (names_of files) table ≡ true → CanRead files table
+can_read files choice.Djvu e = tt
+can_read files choice.Flat e = tt
+can_read files (choice.File name) e = listed_file files name e
 
-pub can_show : (files : Files) (mode : Mode) (pages : List (List ℕ)) → CanShow files (front_of_pages (names_of files) mode pages)
-can_show files mode pages = by_count files mode pages (folder_line (length (names_of files))) (ltb name_limit (length (names_of files)))
+by_names : (files : Files) (count : ℕ) (table : TableChoice) (mode : Mode) (pages : List (List ℕ)) (line other : List ℕ) (many has : Bool) → has_table (names_of files) table ≡ has
+    → CanStart files table (cond many (front.Refused line) (cond has (front_by_pages (first_unlisted (names_of files) pages) count mode pages) (front.Refused other)))
+by_names files count table mode pages line other true has e = tt
+by_names files count table mode pages line other false false e = tt
+by_names files count table mode pages line other false true e = by_pages files count table mode pages (first_unlisted (names_of files) pages) refl (can_read files table e)
+
+pub can_start : (files : Files) (count : ℕ) (table : TableChoice) (mode : Mode) (pages : List (List ℕ)) → CanStart files table (front_by_names (names_of files) count table mode pages)
+can_start files count table mode pages = by_names files count table mode pages (folder_line (length (names_of files))) (words_line 2) (ltb name_limit (length (names_of files))) (has_table (names_of files) table) refl
+
+-- the library's names are the folder's
+pub names_of_library : (limit : ℕ) (files : Files) → names_in (library_within limit files) ≡ names_of files
+names_of_library limit [] = refl
+names_of_library limit (file ∷ files) = ap (λ names. file.0 ∷ names) (names_of_library limit files)
+
+bytes_found : (limit : ℕ) (files : Files) (name : List ℕ) → bytes_of_found (file_named name (library_within limit files)) ≡ take limit (bytes_in files name)
+bytes_found limit [] name = sym (take_all limit [] (omega arith))
+bytes_found limit (file ∷ files) name = by (bytes_eq name file.0) (bytes_found limit files name)
+  where
+    by : (t : Bool) → bytes_of_found (file_named name (library_within limit files)) ≡ take limit (bytes_in files name)
+        → bytes_of_found (cond t (Some (record { name = file.0; bytes = take limit file.1; mark = Whole })) (file_named name (library_within limit files))) ≡ take limit (unwrap_or (cond t (Some file.1) (contents_of name files)) [])
+    by true h = refl
+    by false h = h
+
+-- a front once its table's file was read
+pub with_file : (files : Files) (before : Front) (table : TableChoice) (mode : Mode) (pages : List (List ℕ)) (name : List ℕ) (o : Option TableFault) → before ≡ front.Accepted mode pages → table ≡ choice.File name
+    → o ≡ fault_of (take file_limit (bytes_in files name)) → with_table (library_of files) table before ≡ front_by_table o mode pages
+with_file files before table mode pages name o f t e =
+    ap (with_table (library_of files) table) f ∙ ap (λ t. front_by_table (table_fault (library_of files) t) mode pages) t
+    ∙ ap (λ b. front_by_table (fault_of b) mode pages) (bytes_found file_limit files name) ∙ ap (λ x. front_by_table x mode pages) (sym e)
+
+pub can_read_file : (files : Files) (before : Front) (table : TableChoice) (mode : Mode) (pages : List (List ℕ)) (name : List ℕ) → CanStart files table before → before ≡ front.Accepted mode pages → table ≡ choice.File name → HasFile files name
+can_read_file files before table mode pages name c f t = subst (λ x. CanRead files x) t (subst (CanStart files table) f c).0
+
+-- a reading that failed, and one that didn't
+pub broken_read : (end : FileEnd) (bytes content name : List ℕ) (position : ℕ) (old new : List Failure) → is_broken end ≡ true → IsReadTo end bytes content name position old new → (entry : Failure) × (new ≡ old ++ entry ∷ []) × IsEarly (choice.File name) entry
+broken_read file_end.Whole bytes content name position old new e r = absurd (true≢false (sym e))
+broken_read file_end.Broken bytes content name position old new e r = (Reading name (position + length bytes), r.1, (bytes_eq-Decides name name).1 refl)
+
+pub whole_read : (end : FileEnd) (bytes content name : List ℕ) (position : ℕ) (old new : List Failure) → is_broken end ≡ false → IsReadTo end bytes content name position old new → new ≡ old
+whole_read file_end.Whole bytes content name position old new e r = r.1
+whole_read file_end.Broken bytes content name position old new e r = absurd (true≢false e)
 
 not_same : (a b : List ℕ) → a ≢ b → bytes_eq a b ≡ false
 not_same a b n = by (bytes_eq a b) refl
@@ -68,3 +124,24 @@ are_distinct (page ∷ pages) h = (
   list_any_none (bytes_eq page) pages (λ k d within. not_same page (get_or pages k d) (h 0 (suc k) d (omega arith) (omega arith))),
   are_distinct pages (λ i j d less within. h (suc i) (suc j) d (omega arith) (omega arith)),
 )
+
+-- failures of the listing and of the table, by the words
+pub starts_draw : {T : Type 0} (result : Result T Stop) (words pages : List (List ℕ)) (table : TableChoice) (old new : List Failure) → words_of words ≡ Ok (command.Draw table pages) → Starts result table old new → StartsFor result words old new
+starts_draw (Ok value) words pages table old new e s = s
+starts_draw (Err stop.Folder) words pages table old new e s = (s.0, s.1, by s.0 s.2)
+  where
+    by : (entry : Failure) → IsEarly table entry → front_may_fail words (entry ∷ []) ≡ true
+    by Listing h = refl
+    by (Reading name count) h = ap (λ r. names_table r name) e ∙ h
+starts_draw (Err stop.Sink) words pages table old new e s = s
+starts_draw (Err stop.Memory) words pages table old new e s = s
+
+pub starts_info : {T : Type 0} (result : Result T Stop) (words : List (List ℕ)) (old new : List Failure) → Starts result choice.Djvu old new → StartsFor result words old new
+starts_info (Ok value) words old new s = s
+starts_info (Err stop.Folder) words old new s = (s.0, s.1, by s.0 s.2)
+  where
+    by : (entry : Failure) → IsEarly choice.Djvu entry → front_may_fail words (entry ∷ []) ≡ true
+    by Listing h = refl
+    by (Reading name count) h = absurd (true≢false (sym h))
+starts_info (Err stop.Sink) words old new s = s
+starts_info (Err stop.Memory) words old new s = s

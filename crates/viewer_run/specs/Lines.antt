@@ -1,5 +1,7 @@
 -- What a run writes, as bytes.
 use Rattle.std.specs.Prelude.{ℕ, ◌*◌, ◌++◌, List, [], ◌∷◌, codes, decimal, replicate}
+use Rattle.zp_table.specs.declared.faults.TableFault.{TableFault}
+use Rattle.zp_table.specs.Reading.{word_of}
 use Rattle.viewer_run.specs.declared.page.Size.{Size}
 
 abbrev pub newline : List ℕ
@@ -19,3 +21,7 @@ raster_text size = raster_head size ++ white_samples size
 -- the sum of the samples of a blank page
 abbrev pub white_sum : Size → ℕ
 white_sum size = 765 * (size.width * size.height)
+
+-- `table ROW WHY`: the row of a table's file that is no table, and the reason
+abbrev pub table_line : TableFault → List ℕ
+table_line fault = codes "table " ++ (decimal fault.row ++ (codes " " ++ (word_of fault.why ++ newline)))

@@ -1,5 +1,5 @@
 -- What a run writes, and its status.
-use Rattle.std.specs.Prelude.{ℕ, Bool, true, false, List, [], ◌∷◌, map, Option, Some, None, if◌then◌else◌}
+use Rattle.std.specs.Prelude.{ℕ, Bool, true, false, ◌≡◌, ◌⊎◌, List, [], ◌∷◌, Option, Some, None}
 use Rattle.djvu_base.specs.Library.{File, Library, file_named}
 use Rattle.djvu_outside.specs.Faults.{Failure}
 use Rattle.viewer_run.specs.declared.front.Front.{Front}
@@ -9,7 +9,7 @@ use Rattle.viewer_run.specs.declared.front.Mode.TheVariants as mode
 use Rattle.viewer_run.specs.Texts.{Texts, no_texts, joined, texts_of_file}
 use Rattle.viewer_run.specs.Info.{info_of_file}
 use Rattle.viewer_run.specs.Front.{front_of}
-use Rattle.viewer_run.specs.Cut.{cut, front_failed}
+use Rattle.viewer_run.specs.Cut.{cut, front_may_fail, front_failed}
 
 -- a page is drawn, or its chunks are listed
 abbrev pub texts_by : Mode → File → Texts
@@ -45,15 +45,23 @@ written_by library (front.Accepted mode pages) = written (texts_of_names mode li
 
 -- a run over a library, where nothing outside fails
 abbrev pub offline : Library → List (List ℕ) → Written
-offline library words = written_by library (front_of (map (λ file. file.name) library) words)
+offline library words = written_by library (front_of library words)
 
 abbrev pub with_failures : List Failure → Written → Written
 with_failures [] texts = texts
 with_failures (entry ∷ entries) texts = record { out = texts.out; report = texts.report; status = 3 }
 
--- a run over a library, where the folder failed so: nothing is written where its listing failed, and else what is
--- written for the files as far as they came; the status is 3 where anything failed
-abbrev pub outcome : List Failure → Library → List (List ℕ) → Written
-outcome failures library words =
-    if front_failed failures then record { out = []; report = []; status = 3 }
-    else with_failures failures (offline (cut failures library) words)
+-- the words and the table are those of the library, and the pages are its files as far as they came; the status is 3 where
+-- any reading failed
+abbrev pub written_cut : List Failure → Library → List (List ℕ) → Written
+written_cut failures library words = with_failures failures (written_by (cut failures library) (front_of library words))
+
+abbrev pub nothing_written : Written
+nothing_written = record { out = []; report = []; status = 3 }
+
+-- what a run over a library comes to, where the folder failed so: nothing where the listing or the table failed, and else
+-- what is written for the files as far as they came
+abbrev pub IsOutcome : List Failure → Library → List (List ℕ) → Written → Type 0
+IsOutcome failures library words texts =
+    ((front_may_fail words failures ≡ true) × (texts ≡ nothing_written))
+    ⊎ ((front_failed words failures ≡ false) × (texts ≡ written_cut failures library words))

@@ -28,13 +28,6 @@ SinkStops (Err stop.Memory) before after = after ≡ before
 abbrev pub Gives : {T : Type 0} → Result T Stop → Option (List ℕ) → Option (List ℕ) → List ℕ → Type 0
 Gives result old new text = (before : List ℕ) → old ≡ Some before → (after : List ℕ) × (new ≡ Some after) × Delivers result before text after
 
--- of a part that reads and then puts: the folder's count rose exactly where it stopped for the folder
-abbrev pub FolderEnds : {T : Type 0} → Result T Stop → ℕ → ℕ → Type 0
-FolderEnds (Ok value) before after = after ≡ before
-FolderEnds (Err stop.Folder) before after = Rises before after
-FolderEnds (Err stop.Sink) before after = after ≡ before
-FolderEnds (Err stop.Memory) before after = after ≡ before
-
 -- one sink's count rose, and the other's didn't; first the counts of the one sink, and then those of the other
 abbrev pub OneRises : ℕ → ℕ → ℕ → ℕ → Type 0
 OneRises before after other_before other_after =

@@ -1,13 +1,31 @@
 -- A whole run.
-use Rattle.std.specs.Prelude.{ℕ, true, false, ◌≡◌, ◌++◌, ◌<◌, ⊤, List, Option, Result, Ok, Err}
+use Rattle.std.specs.Prelude.{ℕ, false, ◌≡◌, ◌++◌, ◌<◌, ⊤, List, [], Option, Some, Result, Ok, Err}
 use Rattle.djvu_base.specs.Library.{Files, library_of}
 use Rattle.djvu_outside.specs.declared.faults.Status.{Status}
 use Rattle.djvu_outside.specs.Faults.{Failure, Rises}
+use Rattle.djvu_outside.specs.Reading.{GrowsWithin}
 use Rattle.viewer_run.specs.declared.stop.Stop.{Stop}
 use Rattle.viewer_run.specs.declared.stop.Stop.TheVariants as stop
-use Rattle.viewer_run.specs.Cut.{front_failed}
-use Rattle.viewer_run.specs.Offline.{outcome}
+use Rattle.viewer_run.specs.Cut.{front_failed, NamesRead}
+use Rattle.viewer_run.specs.Offline.{Written, IsOutcome}
 use Rattle.viewer_run.specs.Outcome.{Gives}
+
+-- a sink that tells what it was given got all of a text where the status is below 4, and else a front of it
+abbrev pub Gets : ℕ → Option (List ℕ) → Option (List ℕ) → List ℕ → Type 0
+Gets status old new text =
+    (before : List ℕ) → old ≡ Some before → (after : List ℕ) × (new ≡ Some after) × (status < 4 → after ≡ before ++ text) × GrowsWithin before text after
+
+-- a run with these words over a folder with these files: the failures that it added to the folder's, what they leave to be
+-- written, and that it was written
+pub record Run (files : Files) (words : List (List ℕ)) (status : ℕ) (old_failures new_failures : List Failure) (old_out new_out old_report new_report : Option (List ℕ)) : Type 0 where
+  pub added : List Failure
+  pub grown : new_failures ≡ old_failures ++ added
+  pub only : NamesRead words added
+  pub written : Written
+  pub outcome : IsOutcome added (library_of files) words written
+  pub out : Gets status old_out new_out written.out
+  pub report : Gets status old_report new_report written.report
+  pub same_status : status < 4 → status ≡ written.status
 
 -- a run that stops for the folder has the status 3
 abbrev pub EndsSo : Result Status Stop → ℕ → Type 0
@@ -16,12 +34,12 @@ EndsSo (Err stop.Folder) wanted = wanted ≡ 3
 EndsSo (Err stop.Sink) wanted = ⊤
 EndsSo (Err stop.Memory) wanted = ⊤
 
--- it stops so where its listing failed
-abbrev pub Fronts : Result Status Stop → List Failure → Type 0
-Fronts (Ok status) added = front_failed added ≡ false
-Fronts (Err stop.Folder) added = front_failed added ≡ true
-Fronts (Err stop.Sink) added = ⊤
-Fronts (Err stop.Memory) added = ⊤
+-- a run doesn't go on to its end where the listing or the table failed
+abbrev pub GoesOnFrom : Result Status Stop → List (List ℕ) → List Failure → Type 0
+GoesOnFrom (Ok status) words added = front_failed words added ≡ false
+GoesOnFrom (Err stop.Folder) words added = ⊤
+GoesOnFrom (Err stop.Sink) words added = ⊤
+GoesOnFrom (Err stop.Memory) words added = ⊤
 
 -- the folder's count rose where the status is 3, and else, below 3, stayed
 abbrev pub RunCounts : Result Status Stop → ℕ → ℕ → Type 0
@@ -30,11 +48,15 @@ RunCounts (Err stop.Folder) before after = Rises before after
 RunCounts (Err stop.Sink) before after = ⊤
 RunCounts (Err stop.Memory) before after = ⊤
 
--- a run over a folder with these files: which failures it met, and that it put what they leave to be written
+-- the same of a run that may have stopped; where it stopped for the folder it put nothing
 pub record Runs (files : Files) (words : List (List ℕ)) (result : Result Status Stop) (old_failures new_failures : List Failure) (old_out new_out old_report new_report : Option (List ℕ)) : Type 0 where
   pub added : List Failure
   pub grown : new_failures ≡ old_failures ++ added
-  pub front : Fronts result added
-  pub out : Gives result old_out new_out (outcome added (library_of files) words).out
-  pub report : Gives result old_report new_report (outcome added (library_of files) words).report
-  pub status : EndsSo result (outcome added (library_of files) words).status
+  pub only : NamesRead words added
+  pub goes_on : GoesOnFrom result words added
+  pub written : Written
+  pub outcome : IsOutcome added (library_of files) words written
+  pub out : Gives result old_out new_out written.out
+  pub report : Gives result old_report new_report written.report
+  pub status : EndsSo result written.status
+  pub nothing : result ≡ Err stop.Folder → (written.out ≡ []) × (written.report ≡ [])

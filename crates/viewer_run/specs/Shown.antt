@@ -1,14 +1,14 @@
 -- What pages that are drawn came to, and which failures were met.
 use Rattle.std.specs.Prelude.{ℕ, Bool, true, false, ◌≡◌, ◌++◌, ◌≢◌, ◌||◌, ⊤, List, [], ◌∷◌, Option, None, Result, IfOk, take, if◌then◌else◌}
 use Rattle.djvu_base.specs.Library.{File, Files, Whole, file_limit}
-use Rattle.djvu_outside.specs.Faults.{Failure, Rises}
+use Rattle.djvu_outside.specs.Faults.{Failure, Listing, Reading, Rises}
 use Rattle.djvu_outside.specs.Reading.{HasFile, bytes_in}
 use Rattle.viewer_run.specs.declared.pages.Shown.{Shown}
 use Rattle.viewer_run.specs.declared.stop.Stop.{Stop}
 use Rattle.viewer_run.specs.declared.front.Mode.{Mode}
 use Rattle.viewer_run.specs.declared.reading.FileEnd.{FileEnd}
 use Rattle.viewer_run.specs.Progress.{mark_of}
-use Rattle.viewer_run.specs.Cut.{first_entry, cut_file, front_failed}
+use Rattle.viewer_run.specs.Cut.{first_entry, cut_file}
 use Rattle.viewer_run.specs.Texts.{Texts, no_texts, joined}
 use Rattle.viewer_run.specs.Front.{is_listed}
 use Rattle.viewer_run.specs.Offline.{texts_by}
@@ -31,6 +31,12 @@ texts_of_pages mode files failures (name ∷ names) = joined (texts_by mode (fil
 abbrev pub NamesOnly : List (List ℕ) → List Failure → Type 0
 NamesOnly names failures = (name : List ℕ) → is_listed names name ≡ false → first_entry failures name ≡ None
 
+-- what failed first was the listing
+abbrev pub lists_first : List Failure → Bool
+lists_first [] = false
+lists_first (Listing ∷ failures) = true
+lists_first (Reading name count ∷ failures) = false
+
 -- the reading of a page failed exactly where it has an entry
 abbrev pub HasBroken : Bool → List Failure → Type 0
 HasBroken true failures = failures ≢ []
@@ -41,7 +47,7 @@ pub record Shows (mode : Mode) (files : Files) (names : List (List ℕ)) (result
   pub added : List Failure
   pub grown : new_failures ≡ old_failures ++ added
   pub only : NamesOnly names added
-  pub behind : front_failed added ≡ false
+  pub behind : lists_first added ≡ false
   pub out : Gives result old_out new_out (texts_of_pages mode files added names).out
   pub report : Gives result old_report new_report (texts_of_pages mode files added names).report
   pub refused : IfOk result (λ drawn. drawn.refused ≡ (texts_of_pages mode files added names).refused)

@@ -1,24 +1,51 @@
 -- The start of a run, up to its pages.
-use Rattle.std.specs.Prelude.{◌≡◌, ◌++◌, ⊤, List, [], ◌∷◌, Result, Ok, Err}
+use Rattle.std.specs.Prelude.{ℕ, ◌≡◌, ◌++◌, true, ⊤, List, [], ◌∷◌, Result, Ok, Err}
 use Rattle.djvu_base.specs.Library.{Files}
-use Rattle.djvu_outside.specs.Faults.{Failure, Listing}
+use Rattle.djvu_outside.specs.Faults.{Failure, Listing, Reading}
+use Rattle.djvu_outside.specs.Reading.{HasFile}
+use Rattle.viewer_words.specs.declared.commands.TableChoice.{TableChoice}
+use Rattle.viewer_words.specs.declared.commands.TableChoice.TheVariants as choice
 use Rattle.viewer_run.specs.declared.front.Front.{Front}
 use Rattle.viewer_run.specs.declared.front.Front.TheVariants as front
 use Rattle.viewer_run.specs.declared.stop.Stop.{Stop}
 use Rattle.viewer_run.specs.declared.stop.Stop.TheVariants as stop
+use Rattle.viewer_run.specs.Cut.{is_table, front_may_fail}
 use Rattle.viewer_run.specs.Shown.{HasFiles, AreDistinct}
 
--- of a part that lists the folder: that was added to the failures where it stopped for the folder
-abbrev pub Lists : {T : Type 0} → Result T Stop → List Failure → List Failure → Type 0
-Lists (Ok value) before after = after ≡ before
-Lists (Err stop.Folder) before after = after ≡ before ++ Listing ∷ []
-Lists (Err stop.Sink) before after = ⊥
-Lists (Err stop.Memory) before after = after ≡ before
+-- a failure of the listing, or of the reading of this table
+abbrev pub IsEarly : TableChoice → Failure → Type 0
+IsEarly table Listing = ⊤
+IsEarly table (Reading name count) = is_table table name ≡ true
+
+-- of a part that lists the folder and reads the table: one such failure was met where it stopped for the folder
+abbrev pub Starts : {T : Type 0} → Result T Stop → TableChoice → List Failure → List Failure → Type 0
+Starts (Ok value) table before after = after ≡ before
+Starts (Err stop.Folder) table before after = (entry : Failure) × (after ≡ before ++ entry ∷ []) × IsEarly table entry
+Starts (Err stop.Sink) table before after = ⊥
+Starts (Err stop.Memory) table before after = after ≡ before
+
+-- the same by the words
+abbrev pub StartsFor : {T : Type 0} → Result T Stop → List (List ℕ) → List Failure → List Failure → Type 0
+StartsFor (Ok value) words before after = after ≡ before
+StartsFor (Err stop.Folder) words before after = (entry : Failure) × (after ≡ before ++ entry ∷ []) × (front_may_fail words (entry ∷ []) ≡ true)
+StartsFor (Err stop.Sink) words before after = ⊥
+StartsFor (Err stop.Memory) words before after = after ≡ before
 
 -- the folder has the pages of a front
 abbrev pub CanShow : Files → Front → Type 0
 CanShow files (front.Refused line) = ⊤
 CanShow files (front.Accepted mode pages) = HasFiles files pages
+
+-- the folder has the table's file
+abbrev pub CanRead : Files → TableChoice → Type 0
+CanRead files choice.Djvu = ⊤
+CanRead files choice.Flat = ⊤
+CanRead files (choice.File name) = HasFile files name
+
+-- and that of the table, where the words are accepted
+abbrev pub CanStart : Files → TableChoice → Front → Type 0
+CanStart files table (front.Refused line) = ⊤
+CanStart files table (front.Accepted mode pages) = CanRead files table × HasFiles files pages
 
 abbrev pub ShowsEachOnce : Front → Type 0
 ShowsEachOnce (front.Refused line) = ⊤

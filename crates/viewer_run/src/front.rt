@@ -1,18 +1,19 @@
-//! What stands before the pages: the words, the listing, the number of names, and whether the pages are listed.
+//! What stands before the pages: the words, the listing, the number of names, the words that name files, and the table.
 ghost use Rattle.std.specs.Prelude.{◌≡◌, ◌≢◌, ℕ, Some, Err, IfOk, IfSome, ◌<◌, length};
-ghost use Rattle.djvu_base.specs.Library.{Files, names_of};
+ghost use Rattle.djvu_base.specs.Library.{Files, library_of, names_of};
 ghost use Rattle.viewer_words.specs.Words.{words_of};
 ghost use Rattle.viewer_words.specs.Lines.{words_line};
-ghost use Rattle.viewer_run.specs.Front.{is_listed, first_unlisted, front_of, front_of_pages};
+ghost use Rattle.viewer_run.specs.Front.{is_listed, first_unlisted, has_table, front_of, front_by_library, front_by_names};
 ghost use Rattle.viewer_run.specs.Shown.{AreDistinct};
 ghost use Rattle.viewer_run.specs.Outcome.{FolderStops};
-ghost use Rattle.viewer_run.specs.Start.{Lists, CanShow, ShowsEachOnce};
+ghost use Rattle.viewer_run.specs.Start.{Starts, StartsFor, CanShow, ShowsEachOnce};
 
 use crate::stop::Stop;
+use crate::tables::with_table;
 use djvu_base::{Items, Name};
 use djvu_outside::{Folder, FolderFault};
 use std::alloc::{AllocError, Global};
-use viewer_words::{Command, WordsError, folder_line, read_words, words_line};
+use viewer_words::{Command, TableChoice, WordsError, folder_line, read_words, words_line};
 
 /// The most names that a folder may have.
 const NAME_LIMIT: usize = 1_024;
@@ -35,14 +36,15 @@ pub enum Front {
     Accepted { mode: Mode, pages: Items<Name> },
 }
 
-/// What a run with these words does over this folder. Only where the words fit is the folder listed.
+/// What a run with these words does over this folder. Only where the words fit is the folder listed, and only where what
+/// they name is listed is the table read.
 pub fn find_front<F: Folder>(
     alloc: Global,
     words: &[Items<u8>],
     folder: &mut F,
 ) -> Result<Front, Stop>
-    ensures told { (told : Files) → F.files folder.old ≡ Some told → IfOk result (λ front. front ≡ front_of (names_of told) words.now) }
-    ensures failure { (told : Files) → F.files folder.old ≡ Some told → Lists result (F.failures folder.old) (F.failures folder.new) }
+    ensures told { (told : Files) → F.files folder.old ≡ Some told → IfOk result (λ front. front ≡ front_of (library_of told) words.now) }
+    ensures failure { (told : Files) → F.files folder.old ≡ Some told → StartsFor result words.now (F.failures folder.old) (F.failures folder.new) }
     ensures can_show { (told : Files) → F.files folder.old ≡ Some told → IfOk result (λ front. CanShow told front) }
     ensures each_once { IfOk result ShowsEachOnce }
     ensures stops { FolderStops result (F.faults folder.old) (F.faults folder.new) }
@@ -53,8 +55,13 @@ pub fn find_front<F: Folder>(
 {
     viewer_words::written_commands();
     match read_words(alloc, words) {
-        Ok(Command::Draw { pages, .. }) => listed_front(alloc, Mode::Draw, pages, folder),
-        Ok(Command::Info { pages }) => listed_front(alloc, Mode::Info, pages, folder),
+        Ok(Command::Draw { table, pages }) => {
+            listed_front(alloc, words.len(), table, Mode::Draw, pages, folder)
+        }
+        Ok(Command::Info { pages }) => {
+            let table = TableChoice::Djvu;
+            listed_front(alloc, words.len(), table, Mode::Info, pages, folder)
+        }
         Err(WordsError::Refused(number)) => {
             Ok(Front::Refused(Items::of(words_line(alloc, number)?)))
         }
@@ -62,16 +69,19 @@ pub fn find_front<F: Folder>(
     }
 }
 
-/// What a run that is to do this with these pages does over this folder.
+/// What a run with so many words that is to do this with these pages, by this table, does over this folder.
 fn listed_front<F: Folder>(
     alloc: Global,
+    count: usize,
+    table: TableChoice,
     mode: Mode,
     pages: Items<Name>,
     folder: &mut F,
 ) -> Result<Front, Stop>
-    requires { AreDistinct pages }
-    ensures told { (told : Files) → F.files folder.old ≡ Some told → IfOk result (λ front. front ≡ front_of_pages (names_of told) mode pages) }
-    ensures failure { (told : Files) → F.files folder.old ≡ Some told → Lists result (F.failures folder.old) (F.failures folder.new) }
+    requires distinct { AreDistinct pages }
+    requires behind { length pages < count }
+    ensures told { (told : Files) → F.files folder.old ≡ Some told → IfOk result (λ front. front ≡ front_by_library (library_of told) count table mode pages) }
+    ensures failure { (told : Files) → F.files folder.old ≡ Some told → Starts result table (F.failures folder.old) (F.failures folder.new) }
     ensures can_show { (told : Files) → F.files folder.old ≡ Some told → IfOk result (λ front. CanShow told front) }
     ensures each_once { IfOk result ShowsEachOnce }
     ensures stops { FolderStops result (F.faults folder.old) (F.faults folder.new) }
@@ -82,24 +92,42 @@ fn listed_front<F: Folder>(
         Err(FolderFault::Failed) => return Err(Stop::Folder),
         Err(FolderFault::OutOfMemory) => return Err(Stop::Memory),
     };
-    Ok(front_among(alloc, names.as_slice(), mode, pages)?)
+    let front = front_among(alloc, names.as_slice(), count, &table, mode, pages)?;
+    with_table(alloc, front, &table, folder)
 }
 
-/// What a run that is to do this with these pages does where these names are listed.
+/// What a run with so many words that is to do this with these pages, by this table, does where these names are listed.
 fn front_among(
     alloc: Global,
     names: &[Name],
+    count: usize,
+    table: &TableChoice,
     mode: Mode,
     pages: Items<Name>,
 ) -> Result<Front, AllocError>
-    ensures { IfOk result (λ front. front ≡ front_of_pages names.now mode pages) }
+    requires { length pages < count }
+    ensures { IfOk result (λ front. front ≡ front_by_names names.now count table.now mode pages) }
 {
     if NAME_LIMIT < names.len() {
         return Ok(Front::Refused(Items::of(folder_line(alloc, names.len())?)));
     }
-    match first_unlisted(names, pages.slice()) {
-        Some(at) => Ok(Front::Refused(Items::of(words_line(alloc, at + 1)?))),
-        None => Ok(Front::Accepted { mode, pages }),
+    if !has_table(names, table) {
+        return Ok(Front::Refused(Items::of(words_line(alloc, 2)?)));
+    }
+    let Some(at) = first_unlisted(names, pages.slice()) else {
+        return Ok(Front::Accepted { mode, pages });
+    };
+    let number = count - pages.slice().len() + at;
+    Ok(Front::Refused(Items::of(words_line(alloc, number)?)))
+}
+
+/// Whether a table's file is listed.
+fn has_table(names: &[Name], table: &TableChoice) -> bool
+    ensures { result ≡ has_table names.now table.now }
+{
+    match table {
+        TableChoice::Djvu | TableChoice::Flat => true,
+        TableChoice::File(name) => is_listed(names, name.bytes()),
     }
 }
 

@@ -8,7 +8,7 @@ ghost use Rattle.viewer_run.specs.declared.page.Size.{Size};
 ghost use Rattle.viewer_run.specs.declared.progress.Progress.TheVariants.{Before};
 ghost use Rattle.viewer_run.specs.Cut.{cut};
 ghost use Rattle.viewer_run.specs.Lines.{white_samples, white_sum};
-ghost use Rattle.viewer_run.specs.Offline.{offline, outcome};
+ghost use Rattle.viewer_run.specs.Offline.{Written, offline, IsOutcome};
 ghost use Rattle.viewer_run.specs.Progress.{after_events, concluded};
 ghost use Rattle.viewer_run.specs.Reading.{Notice, Finished, Fault, reading, closed, ending_of, chunks_place};
 
@@ -33,7 +33,7 @@ pub fn growth()
 /// Where nothing failed, no file is cut, and a run comes to what the definition `offline` says of the library.
 pub fn sound_folders()
     ensures files { (library : Library) → cut [] library ≡ library }
-    ensures run { (library : Library) (words : List (List ℕ)) → outcome [] library words ≡ offline library words }
+    ensures run { (library : Library) (words : List (List ℕ)) (texts : Written) → IsOutcome [] library words texts → texts ≡ offline library words }
 {}
 
 /// The sum that the line of a blank page tells is that of its samples.

@@ -23,6 +23,7 @@ mod read;
 mod reading;
 mod slices;
 mod stop;
+mod tables;
 #[cfg(test)]
 mod tests;
 mod texts;

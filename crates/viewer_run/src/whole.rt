@@ -1,13 +1,11 @@
 //! A whole run.
-ghost use Rattle.std.specs.Prelude.{◌≡◌, ℕ, ◌<◌, ◌≤◌, ◌++◌, List, Some, Err, IfOk, true, ◌≢◌};
-ghost use Rattle.djvu_base.specs.Library.{Files, library_of};
+ghost use Rattle.std.specs.Prelude.{◌≡◌, ◌≢◌, ℕ, ◌<◌, ◌≤◌, ◌++◌, List, Some, Err, IfOk, true};
+ghost use Rattle.djvu_base.specs.Library.{Files};
 ghost use Rattle.djvu_outside.specs.Faults.{Failure, Rises};
-ghost use Rattle.djvu_outside.specs.Reading.{GrowsWithin};
 ghost use Rattle.viewer_words.specs.Words.{words_of};
 ghost use Rattle.viewer_run.specs.Cut.{front_failed};
-ghost use Rattle.viewer_run.specs.Offline.{outcome};
 ghost use Rattle.viewer_run.specs.Outcome.{Gives, OneRises, SinkStops, SinksEnd};
-ghost use Rattle.viewer_run.specs.Runs.{Runs, RunCounts};
+ghost use Rattle.viewer_run.specs.Runs.{Run, Runs, RunCounts};
 
 use crate::front::{Front, find_front};
 use crate::pages::show_pages;
@@ -22,10 +20,11 @@ const RUN_REFUSED: Status = Status(2);
 
 /// Does what the words say, each word the list of its bytes. Rasters go to `out`, and lines to `report`.
 ///
-/// Both grow by what the definition `outcome` says of the folder's files and of the failures that the folder met in this
-/// call, and the status is the definition's: 0 where every page was drawn or listed, 1 where one was refused, 2 where the
-/// run was, and 3 where the folder failed. The status is 4 where a sink failed, and 5 where there was no memory; then both
-/// grow by fronts of what the definition says.
+/// Where nothing outside fails, both grow by what the definition `offline` says of the folder's files, and the status is the
+/// definition's: 0 where every page was drawn or listed, 1 where one was refused, 2 where the run was. Where the folder
+/// failed, the status is 3: nothing is written where it was the listing or the table that failed, and else the pages are
+/// those of the files as far as they came. The status is 4 where a sink failed, and 5 where there was no memory; then both
+/// grow by fronts of what would have been written.
 pub fn run<F: Folder, S: Sink, E: Sink, M: Meter>(
     alloc: Global,
     words: &[Items<u8>],
@@ -34,29 +33,20 @@ pub fn run<F: Folder, S: Sink, E: Sink, M: Meter>(
     report: &mut E,
     meter: &mut M,
 ) -> Status
-    // What is written, and the status below 4, by the failures that were met.
-    ensures failures { (told : Files) → F.files folder.old ≡ Some told → (added : List Failure) × (F.failures folder.new ≡ F.failures folder.old ++ added) }
-    ensures out_text { (told : Files) (added : List Failure) (before : List ℕ) → F.files folder.old ≡ Some told → F.failures folder.new ≡ F.failures folder.old ++ added → S.given out.old ≡ Some before →
-        result.0 < 4 → S.given out.new ≡ Some (before ++ (outcome added (library_of told) words.now).out) }
-    ensures report_text { (told : Files) (added : List Failure) (before : List ℕ) → F.files folder.old ≡ Some told → F.failures folder.new ≡ F.failures folder.old ++ added → E.given report.old ≡ Some before →
-        result.0 < 4 → E.given report.new ≡ Some (before ++ (outcome added (library_of told) words.now).report) }
-    ensures status { (told : Files) (added : List Failure) → F.files folder.old ≡ Some told → F.failures folder.new ≡ F.failures folder.old ++ added →
-        result.0 < 4 → result.0 ≡ (outcome added (library_of told) words.now).status }
-    ensures untouched { (told : Files) (added : List Failure) → F.files folder.old ≡ Some told → F.failures folder.new ≡ F.failures folder.old ++ added → front_failed added ≡ true →
+    // What is written, and the status below 4, by the failures that the folder met; with 4 and 5 a front of it.
+    ensures told { (told : Files) → F.files folder.old ≡ Some told →
+        Run told words.now result.0 (F.failures folder.old) (F.failures folder.new) (S.given out.old) (S.given out.new) (E.given report.old) (E.given report.new) }
+    ensures untouched { (told : Files) (added : List Failure) → F.files folder.old ≡ Some told → F.failures folder.new ≡ F.failures folder.old ++ added → front_failed words.now added ≡ true →
         result.0 < 4 → (out.new ≡ out.old) × (report.new ≡ report.old) }
 
-    // 3 comes exactly where the folder failed, and no higher status does.
+    // 3 comes where the folder failed, and a lower status where it didn't.
     ensures folder_failed { result.0 ≡ 3 → Rises (F.faults folder.old) (F.faults folder.new) }
     ensures folder_kept { result.0 < 3 → F.faults folder.new ≡ F.faults folder.old }
 
-    // 4 comes where a sink failed. With 4 and 5 both grew by fronts of what would have been written.
+    // 4 comes where a sink failed, and 5 where none did.
     ensures sink_failed { result.0 ≡ 4 → OneRises (S.faults out.old) (S.faults out.new) (E.faults report.old) (E.faults report.new) }
     ensures sinks_kept { result.0 < 4 → (S.faults out.new ≡ S.faults out.old) × (E.faults report.new ≡ E.faults report.old) }
     ensures memory_alone { result.0 ≡ 5 → (S.faults out.new ≡ S.faults out.old) × (E.faults report.new ≡ E.faults report.old) }
-    ensures out_part { (told : Files) (added : List Failure) (before : List ℕ) → F.files folder.old ≡ Some told → F.failures folder.new ≡ F.failures folder.old ++ added → S.given out.old ≡ Some before →
-        3 < result.0 → (after : List ℕ) × (S.given out.new ≡ Some after) × GrowsWithin before (outcome added (library_of told) words.now).out after }
-    ensures report_part { (told : Files) (added : List Failure) (before : List ℕ) → F.files folder.old ≡ Some told → F.failures folder.new ≡ F.failures folder.old ++ added → E.given report.old ≡ Some before →
-        3 < result.0 → (after : List ℕ) × (E.given report.new ≡ Some after) × GrowsWithin before (outcome added (library_of told) words.now).report after }
 
     // Words that don't fit are refused, whatever the folder is, and it isn't asked for anything.
     ensures words_first { (number : ℕ) → words_of words.now ≡ Err number → folder.new ≡ folder.old }

@@ -3,15 +3,16 @@ ghost use Rattle.std.specs.Prelude.{◌≡◌, ℕ, ◌++◌, List, [], ◌∷�
 ghost use Rattle.djvu_base.specs.declared.faults.FaultKind.TheVariants.{Truncated, Read, NoInfo, SecondInfo, BadInfo, Unsupported, WrongForm, TooLarge, Overrun, BadId};
 ghost use Rattle.djvu_base.specs.Library.{Open, Whole, Broken};
 ghost use Rattle.djvu_outside.specs.Faults.{Listing, Reading};
-ghost use Rattle.viewer_words.specs.declared.commands.Command.TheVariants as command;
+ghost use Rattle.viewer_words.specs.declared.commands.TableChoice.{TableChoice};
+ghost use Rattle.viewer_words.specs.declared.commands.TableChoice.TheVariants.{Djvu, Flat, File};
 ghost use Rattle.viewer_words.specs.Lines.{folder_line, words_line};
-ghost use Rattle.viewer_words.specs.Words.{words_of};
 ghost use Rattle.viewer_run.specs.declared.front.Front.TheVariants as front;
 ghost use Rattle.viewer_run.specs.declared.front.Mode.TheVariants as mode;
-ghost use Rattle.viewer_run.specs.Front.{front_of, front_of_pages, first_unlisted};
+ghost use Rattle.viewer_run.specs.Front.{front_of, front_by_names, front_by_library, first_unlisted};
+ghost use Rattle.viewer_run.specs.Cut.{front_may_fail, front_failed};
 ghost use Rattle.viewer_run.specs.Info.{info_report};
 ghost use Rattle.viewer_run.specs.Lines.{raster_head, white_sum};
-ghost use Rattle.viewer_run.specs.Offline.{offline, outcome};
+ghost use Rattle.viewer_run.specs.Offline.{offline, written_cut};
 ghost use Rattle.viewer_run.specs.Reading.{reading, size_in, size_fault, Finished, Fault, NeedBytes};
 ghost use Rattle.viewer_run.specs.Worked.{form_with, header, sized_page, page, blank_file, file, white_pixel, newline, pixel_line};
 
@@ -69,10 +70,15 @@ pub fn worked_infos()
 
 /// What stands before the pages.
 pub fn worked_fronts()
-    ensures many { (names pages : List (List ℕ)) → length names ≡ 1025 → front_of_pages names mode.Draw pages ≡ front.Refused (folder_line 1025) }
-    ensures not_many { (names pages : List (List ℕ)) → length names ≡ 1024 → first_unlisted names pages ≡ None → front_of_pages names mode.Info pages ≡ front.Accepted mode.Info pages }
-    ensures not_listed { front_of (codes "p" ∷ []) (codes "draw" ∷ codes "p" ∷ codes "q" ∷ codes "r" ∷ []) ≡ front.Refused (words_line 2) }
-    ensures listed { front_of (codes "p" ∷ codes "q" ∷ []) (codes "info" ∷ codes "q" ∷ codes "p" ∷ []) ≡ front.Accepted mode.Info (codes "q" ∷ codes "p" ∷ []) }
+    ensures many { (names pages : List (List ℕ)) (table : TableChoice) → length names ≡ 1025 → front_by_names names 2 table mode.Draw pages ≡ front.Refused (folder_line 1025) }
+    ensures not_many { (names pages : List (List ℕ)) → length names ≡ 1024 → first_unlisted names pages ≡ None → front_by_names names 2 Djvu mode.Info pages ≡ front.Accepted mode.Info pages }
+    ensures not_listed { front_by_names (codes "p" ∷ []) 4 Djvu mode.Draw (codes "p" ∷ codes "q" ∷ codes "r" ∷ []) ≡ front.Refused (words_line 2) }
+    ensures not_listed_behind { front_by_names (codes "p" ∷ []) 5 Flat mode.Draw (codes "p" ∷ codes "q" ∷ []) ≡ front.Refused (words_line 4) }
+    ensures table_first { front_by_names (codes "p" ∷ []) 4 (File (codes "t")) mode.Draw (codes "q" ∷ []) ≡ front.Refused (words_line 2) }
+    ensures listed { front_of (file (codes "p") [] ∷ file (codes "q") [] ∷ []) (codes "info" ∷ codes "q" ∷ codes "p" ∷ []) ≡ front.Accepted mode.Info (codes "q" ∷ codes "p" ∷ []) }
+    ensures table { front_by_library (file (codes "p") [] ∷ file (codes "t") (0x80 ∷ 0 ∷ 0 ∷ 0 ∷ 0 ∷ 0 ∷ []) ∷ []) 4 (File (codes "t")) mode.Draw (codes "p" ∷ []) ≡ front.Accepted mode.Draw (codes "p" ∷ []) }
+    ensures no_table { front_by_library (file (codes "p") [] ∷ file (codes "t") (0 ∷ 0 ∷ 0 ∷ 0 ∷ 0 ∷ []) ∷ []) 4 (File (codes "t")) mode.Draw (codes "p" ∷ []) ≡ front.Refused (codes "table 0 short" ++ newline) }
+    ensures no_chance { front_by_library (file (codes "p") [] ∷ file (codes "t") (0x80 ∷ 0 ∷ 0 ∷ 0 ∷ 1 ∷ 0 ∷ 0 ∷ 0 ∷ 0 ∷ 0 ∷ 0 ∷ 0 ∷ []) ∷ []) 4 (File (codes "t")) mode.Draw (codes "p" ∷ []) ≡ front.Refused (codes "table 1 chance" ++ newline) }
 {}
 
 /// All of a run over a few files.
@@ -82,9 +88,13 @@ pub fn worked_runs()
         record { out = []; report = pixel_line (codes "p") ++ (codes "p: second-info p 34" ++ newline); status = 1 } }
     ensures twice { offline (file (codes "p") blank_file ∷ []) (codes "draw" ∷ codes "p" ∷ codes "p" ∷ []) ≡ record { out = []; report = codes "words 2" ++ newline; status = 2 } }
     ensures no_page { offline (file (codes "p") blank_file ∷ []) (codes "draw" ∷ []) ≡ record { out = []; report = codes "words 1" ++ newline; status = 2 } }
+    ensures table { offline (file (codes "p") blank_file ∷ []) (codes "draw" ∷ codes "--table" ∷ codes "flat" ∷ codes "p" ∷ []) ≡ record { out = white_pixel; report = pixel_line (codes "p"); status = 0 } }
+    ensures no_table { offline (file (codes "p") blank_file ∷ file (codes "t") (0 ∷ 0 ∷ 0 ∷ 0 ∷ 0 ∷ []) ∷ []) (codes "draw" ∷ codes "--table" ∷ codes "t" ∷ codes "p" ∷ []) ≡
+        record { out = []; report = codes "table 0 short" ++ newline; status = 2 } }
     ensures first_refused { offline (file (codes "p") [] ∷ file (codes "q") blank_file ∷ []) (codes "draw" ∷ codes "p" ∷ codes "q" ∷ []) ≡
         record { out = white_pixel; report = codes "p: truncated p 0" ++ (newline ++ pixel_line (codes "q")); status = 1 } }
-    ensures listing_failed { outcome (Listing ∷ []) (file (codes "p") blank_file ∷ []) (codes "draw" ∷ codes "p" ∷ []) ≡ record { out = []; report = []; status = 3 } }
-    ensures reading_failed { outcome (Reading (codes "p") 20 ∷ []) (file (codes "p") blank_file ∷ file (codes "q") blank_file ∷ []) (codes "draw" ∷ codes "p" ∷ codes "q" ∷ []) ≡
+    ensures listing_failed { front_failed (codes "draw" ∷ codes "p" ∷ []) (Listing ∷ []) ≡ true }
+    ensures no_front { front_may_fail (codes "draw" ∷ codes "p" ∷ []) (Reading (codes "p") 20 ∷ []) ≡ false }
+    ensures reading_failed { written_cut (Reading (codes "p") 20 ∷ []) (file (codes "p") blank_file ∷ file (codes "q") blank_file ∷ []) (codes "draw" ∷ codes "p" ∷ codes "q" ∷ []) ≡
         record { out = white_pixel; report = codes "p: read p 20" ++ (newline ++ pixel_line (codes "q")); status = 3 } }
 {}

@@ -5,4 +5,4 @@ pub returns-clause-files : goal.returns-clause-files
 returns-clause-files c library = nothing_cut library
 
 pub returns-clause-run : goal.returns-clause-run
-returns-clause-run c library words = sound_outcome library words
+returns-clause-run c library words texts o = sound_outcome library words texts o

@@ -1,9 +1,7 @@
-use Rattle.std.proofs.Common.{◌+◌, ℕ, suc, Ok, Err, List, take, drop, sym, ap, subst, ◌∙◌}
+use Rattle.std.proofs.Common.{ℕ, suc, Ok, Err, List, take, drop, sym, ap, ◌∙◌}
 use Rattle.std.proofs.lemmas.List.{take_all}
 use Rattle.std.proofs.lemmas.Result.{err_from_is_err_and}
-use Rattle.viewer_run.specs.declared.pages.Shown.{Shown}
-use Rattle.viewer_run.specs.Shown.{Shows, BrokenCounts}
-use Rattle.viewer_run.proofs.Joining.{one_more, stopped_at, shows_named, has_file_at, here_at, counts_both}
+use Rattle.viewer_run.proofs.Joining.{one_more, stopped_at, shows_named, has_file_at, here_at, counts_more}
 use Rattle.viewer_run.proofs.pages.show_pages.Goals as goal
 
 pub show_page-requires : goal.show_page-requires
@@ -26,13 +24,12 @@ loop-at-preserved g c =
     let with = c.with-all.ensures in
     record {
       drawn = λ told files.
-          subst (λ (d : Shown). Shows c.args.mode told (take (c.loop-at.at + 1) c.args.pages.now) (Ok d) (g.F.Folder.failures c.args.folder.now) (g.F.Folder.failures c.show_page.new.folder) (g.S.Sink.given c.args.out.now) (g.S.Sink.given c.show_page.new.out) (g.E.Sink.given c.args.report.now) (g.E.Sink.given c.show_page.new.report)) (sym with)
-          (one_more c.args.mode told c.args.pages.now c.loop-at.at c.index-pages-at.result c.loop-at.all c.in_ok-shown.shown c.show_page.result
+          one_more c.args.mode told c.args.pages.now c.loop-at.at c.index-pages-at.result c.loop-at.all c.in_ok-shown.shown c.with-all.result c.show_page.result
           (g.F.Folder.failures c.args.folder.now) (g.F.Folder.failures c.loop-at.folder) (g.F.Folder.failures c.show_page.new.folder)
           (g.S.Sink.given c.args.out.now) (g.S.Sink.given c.loop-at.out) (g.S.Sink.given c.show_page.new.out) (g.E.Sink.given c.args.report.now) (g.E.Sink.given c.loop-at.report) (g.E.Sink.given c.show_page.new.report)
-          (inv.drawn told files) (c.show_page.ensures.told told (inv.files ∙ files)) c.requires.distinct c.index-pages-at.is c.loop-at-test.true c.in_ok-shown.was);
+          (inv.drawn told files) (c.show_page.ensures.told told (inv.files ∙ files)) c.requires.distinct c.index-pages-at.is c.loop-at-test.true c.in_ok-shown.was with;
       files = c.in_ok-shown.ensures.same_files ∙ inv.files;
-      counts = subst (λ (d : Shown). BrokenCounts d.broken (g.F.Folder.faults c.args.folder.now) (g.F.Folder.faults c.show_page.new.folder)) (sym with) (counts_both c.loop-at.all.broken c.in_ok-shown.shown.broken (g.F.Folder.faults c.args.folder.now) (g.F.Folder.faults c.loop-at.folder) (g.F.Folder.faults c.show_page.new.folder) inv.counts c.in_ok-shown.ensures.counts);
+      counts = counts_more c.loop-at.all c.in_ok-shown.shown c.with-all.result _ _ _ with inv.counts c.in_ok-shown.ensures.counts;
       out_faults = c.in_ok-shown.ensures.sinks_end.0 ∙ inv.out_faults;
       report_faults = c.in_ok-shown.ensures.sinks_end.1 ∙ inv.report_faults;
     }

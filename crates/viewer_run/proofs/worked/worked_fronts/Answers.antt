@@ -10,6 +10,26 @@ pub returns-clause-not_listed : goal.returns-clause-not_listed
 unfolding digits is_utf8 chars encode file_limit page_limit
 returns-clause-not_listed c = refl
 
+pub returns-clause-not_listed_behind : goal.returns-clause-not_listed_behind
+unfolding digits is_utf8 chars encode file_limit page_limit
+returns-clause-not_listed_behind c = refl
+
+pub returns-clause-table_first : goal.returns-clause-table_first
+unfolding digits is_utf8 chars encode file_limit page_limit
+returns-clause-table_first c = refl
+
 pub returns-clause-listed : goal.returns-clause-listed
 unfolding digits is_utf8 chars encode file_limit page_limit
 returns-clause-listed c = refl
+
+pub returns-clause-table : goal.returns-clause-table
+unfolding digits is_utf8 chars encode file_limit page_limit
+returns-clause-table c = refl
+
+pub returns-clause-no_table : goal.returns-clause-no_table
+unfolding digits is_utf8 chars encode file_limit page_limit
+returns-clause-no_table c = refl
+
+pub returns-clause-no_chance : goal.returns-clause-no_chance
+unfolding digits is_utf8 chars encode file_limit page_limit
+returns-clause-no_chance c = refl

@@ -22,6 +22,14 @@ pub returns-clause-no_page : goal.returns-clause-no_page
 unfolding digits is_utf8 chars encode file_limit page_limit
 returns-clause-no_page c = refl
 
+pub returns-clause-table : goal.returns-clause-table
+unfolding digits is_utf8 chars encode file_limit page_limit
+returns-clause-table c = refl
+
+pub returns-clause-no_table : goal.returns-clause-no_table
+unfolding digits is_utf8 chars encode file_limit page_limit
+returns-clause-no_table c = refl
+
 pub returns-clause-first_refused : goal.returns-clause-first_refused
 unfolding digits is_utf8 chars encode file_limit page_limit
 returns-clause-first_refused c = refl
@@ -29,6 +37,10 @@ returns-clause-first_refused c = refl
 pub returns-clause-listing_failed : goal.returns-clause-listing_failed
 unfolding digits is_utf8 chars encode file_limit page_limit
 returns-clause-listing_failed c = refl
+
+pub returns-clause-no_front : goal.returns-clause-no_front
+unfolding digits is_utf8 chars encode file_limit page_limit
+returns-clause-no_front c = refl
 
 pub returns-clause-reading_failed : goal.returns-clause-reading_failed
 unfolding digits is_utf8 chars encode file_limit page_limit

@@ -79,6 +79,11 @@ const NOT_FORM: WalkStep = WalkStep::Broken {
     offset: 0,
 };
 
+const OVERRUN: WalkStep = WalkStep::Broken {
+    kind: FaultKind::Overrun,
+    offset: 12,
+};
+
 const PAGE_13: WalkStep = WalkStep::Form {
     kind: *b"DJVU",
     length: 13,
@@ -121,7 +126,7 @@ const TXTZ_12_OF_3: WalkStep = WalkStep::Header {
     length: 3,
 };
 
-const FILES: [File; 18] = [
+const FILES: [File; 19] = [
     // A whole page, and one without the magic, with a pad byte, an empty chunk and bytes behind the FORM.
     File {
         bytes: b"AT&TFORM\0\0\0\x16DJVUINFO\0\0\0\x0A\0\x01\0\x01\x18\0\x2C\x01\x16\x01",
@@ -228,7 +233,7 @@ const FILES: [File; 18] = [
         end: CUT_22,
     },
     // Broken: no FORM, a length without room for the kind, one that is too large, a header that doesn't fit, an
-    // identifier with a byte that isn't printable, and data that don't fit.
+    // identifier with a byte that isn't printable in front of data that don't fit, and data alone that don't.
     File {
         bytes: b"AT&TFARM\0\0\0\x16DJVU",
         events: &[],
@@ -263,6 +268,13 @@ const FILES: [File; 18] = [
         data: b"",
         last: BAD_ID,
         end: BAD_ID,
+    },
+    File {
+        bytes: b"FORM\0\0\0\x0EDJVUSjbz\0\0\0\x03ab",
+        events: &[PAGE_14],
+        data: b"",
+        last: OVERRUN,
+        end: OVERRUN,
     },
 ];
 

@@ -145,7 +145,7 @@ fn commands(rt: HostRuntime) {
 fn failing_calls(rt: HostRuntime) {
     let first_lost: &[u8] = b"p: read p 0\nq: chunk 1 sum 765\n";
     let second_lost: &[u8] = b"p: chunk 1 sum 765\nq: read q 0\n";
-    let cases: [(Option<u64>, Option<u64>, Option<u64>, u8, &[u8], &[u8]); 15] = [
+    let cases: [(Option<u64>, Option<u64>, Option<u64>, u8, &[u8], &[u8]); 16] = [
         (Some(0), None, None, 3, NONE, NONE),
         (Some(1), None, None, 3, RASTER, first_lost),
         (Some(2), None, None, 3, RASTER, first_lost),
@@ -161,6 +161,7 @@ fn failing_calls(rt: HostRuntime) {
         (None, Some(3), None, 4, &BOTH_RASTERS[..25], BOTH_LINES),
         (None, Some(4), None, 0, BOTH_RASTERS, BOTH_LINES),
         (None, None, Some(0), 4, NONE, NONE),
+        (None, None, Some(1), 4, RASTER, LINE),
         // The folder failed before, too.
         (Some(1), None, Some(1), 4, NONE, b"p: read p 0\n"),
     ];
@@ -180,7 +181,7 @@ fn failing_calls(rt: HostRuntime) {
 }
 
 /// A table's file that can't be opened or read ends the run, and nothing is put. Where it is a page as well, it is read
-/// again.
+/// again. Where a page isn't listed, the table isn't read.
 #[test]
 fn failing_tables(rt: HostRuntime) {
     let words: &[&[u8]] = &[b"draw", b"--table", b"p", b"p", b"q"];
@@ -203,6 +204,13 @@ fn failing_tables(rt: HostRuntime) {
         let came = came_over(rt.alloc(), table, words, failing);
         expect_came(&rt, came, status, out, report, number);
     }
+    let unlisted: &[&[u8]] = &[b"draw", b"--table", b"p", b"r"];
+    let failing = Failing {
+        folder: Some(1),
+        ..SOUND
+    };
+    let came = came_over(rt.alloc(), table, unlisted, failing);
+    expect_came(&rt, came, 2, NONE, b"words 3\n", 6);
 }
 
 /// Whether the names of these files ascend.

@@ -77,7 +77,7 @@ pub const REFUSED: [(&[u8], &[u8]); 9] = [
     ),
 ];
 
-pub const COMMANDS: [Case; 15] = [
+pub const COMMANDS: [Case; 17] = [
     Case {
         words: INFO_P,
         page: MASKED,
@@ -157,6 +157,20 @@ pub const COMMANDS: [Case; 15] = [
         status: 2,
         out: NONE,
         report: b"table 0 short\n",
+    },
+    Case {
+        words: &[b"draw", b"--table", b"p", b"q"],
+        page: NONE,
+        status: 2,
+        out: NONE,
+        report: b"table 0 empty\n",
+    },
+    Case {
+        words: &[b"draw", b"--table", b"p", b"q"],
+        page: b"\x80\0\0\0\x01\0\x80\0\0\0\x02\0",
+        status: 2,
+        out: NONE,
+        report: b"table 1 up\n",
     },
     Case {
         words: &[b"draw", b"--table", b"q", b"q"],

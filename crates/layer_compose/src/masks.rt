@@ -36,8 +36,15 @@ pub fn blacken_steps(mask: &Plane, step: u32, out: &mut [u8])
     for pixel in 0..out.len() / 3 {
         let x = pixel % width * step as usize;
         let y = mask.height() as usize - 1 - pixel / width * step as usize;
-        if mask.get(x as i64, y as i64) {
+        if has_pixel(mask, x as u32, y as u32) {
             blacken(out, pixel);
         }
     }
+}
+
+/// Whether a mask has the pixel at a place.
+fn has_pixel(mask: &Plane, x: u32, y: u32) -> bool
+    ensures { result ≡ is_black_at mask.now x y }
+{
+    mask.get(i64::from(x), i64::from(y))
 }

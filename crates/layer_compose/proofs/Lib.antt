@@ -1,0 +1,3 @@
+pub mod Pixelwise
+pub mod MaskRows
+pub mod Steps

@@ -1,3 +1,4 @@
 pub mod Pixelwise
 pub mod MaskRows
 pub mod Steps
+pub mod DrawnRows

@@ -2,3 +2,4 @@ pub mod Pixelwise
 pub mod MaskRows
 pub mod Steps
 pub mod DrawnRows
+pub mod RowLists

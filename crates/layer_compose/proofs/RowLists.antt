@@ -1,10 +1,12 @@
 -- Rows one behind the other.
-use Rattle.std.proofs.Common.{◌≡◌, ℕ, zero, suc, ◌+◌, ◌-◌, ◌*◌, ◌/◌, ◌%◌, ◌<◌, ◌≤◌, List, [], ◌∷◌, ◌++◌, length, get_or, map, arith, refl, ap, sym, add-zero, add-suc, add-one, append_assoc, ◌∙◌}
+use Rattle.std.proofs.Common.{◌≡◌, ℕ, zero, suc, ◌+◌, ◌-◌, ◌*◌, ◌/◌, ◌%◌, ◌<◌, ◌≤◌, List, [], ◌∷◌, ◌++◌, length, get_or, take, map, arith, refl, ap, sym, add-zero, add-suc, add-one, append_assoc, ◌∙◌}
 use Rattle.std.specs.List.{range_with_len}
 use Rattle.std.proofs.Math.Nat.{mod-eq_of_lt, mul_assoc}
 use Rattle.std.proofs.lemmas.Nat.{mul-add-lt, div_below, mod_below, div-add-mod', div-mul-add, mod-mul-add}
 use Rattle.std.proofs.lemmas.List.{same_lists, append-nil}
+use Rattle.std.proofs.lemmas.Slice.{take-put_mid}
 use Rattle.std.proofs.lemmas.List.FromFn.{length-map-range_with_len, get_or-map-range_with_len, map-range_with_len_more}
+use borrow.Rule.Slice.PartMut.{put_mid}
 use Rattle.layer_compose.specs.declared.layers.Layers.{Layers}
 use Rattle.layer_compose.specs.Drawing.{samples_by, sample_from_top, samples_of, row_of, rows_of}
 
@@ -112,3 +114,16 @@ pub rows_length : (layers : Layers) (from count : ℕ) → length (rows_of layer
 unfolding rows_of
 rows_length layers from count =
     length-map-range_with_len (λ i. sample_from_top layers (i / 3 % layers.width) (from + i / 3 / layers.width) (i % 3)) 0 (3 * layers.width * count)
+
+-- the rows after one more was put behind those before
+pub row_put : (layers : Layers) (from row size : ℕ) (out part : List ℕ) → take (3 * layers.width * row) out ≡ rows_of layers from row →
+    part ≡ row_of layers (from + row) → 3 * layers.width * row ≤ length out →
+    take (3 * layers.width * (row + 1)) (put_mid (3 * layers.width * row) size out part) ≡ rows_of layers from (row + 1)
+row_put layers from row size out part before is room =
+    let whole : length part ≡ 3 * layers.width * 1 = ap length (is ∙ sym (one_row layers (from + row))) ∙ rows_length layers (from + row) 1 in
+    let all : 3 * layers.width * (row + 1) ≡ 3 * layers.width * row + 3 * layers.width * 1 = grind arith in
+    let end : 3 * layers.width * (row + 1) ≡ 3 * layers.width * row + length part = omega arith in
+    take-put_mid (3 * layers.width * row) size out part (3 * layers.width * (row + 1)) end room
+    ∙ ap (λ (xs : List ℕ). xs ++ part) before
+    ∙ ap (λ (xs : List ℕ). rows_of layers from row ++ xs) (is ∙ sym (one_row layers (from + row)))
+    ∙ sym (rows_joined layers from row 1)

@@ -1,9 +1,13 @@
 -- How many bits of words are set, and how many pixels of a plane are black.
-use Rattle.std.proofs.Common.{◌≡◌, ℕ, zero, suc, ◌+◌, ◌-◌, ◌*◌, ◌/◌, ◌%◌, ◌^◌, ◌<◌, ◌≤◌, Bool, true, false, cond, eqb, List, length, get_or, min, arith, refl, ap, sym, ◌∙◌}
+use Rattle.std.proofs.Common.{◌≡◌, ℕ, zero, suc, ◌+◌, ◌-◌, ◌*◌, ◌/◌, ◌%◌, ◌^◌, ◌<◌, ◌≤◌, Bool, true, false, cond, ◌&&◌, eqb, ltb, List, length, get_or, count_by, min, arith, refl, ap, sym, ◌∙◌}
+use Rattle.std.specs.List.{range_with_len}
+use Rattle.std.proofs.Math.Nat.{mul_comm}
 use Rattle.std.specs.Int.Count.{ones, ones_step, ones-le}
-use Rattle.std.proofs.lemmas.Nat.{mod_below, div-add-mod'}
+use Rattle.std.proofs.lemmas.Nat.{mod_below, div_below, div-add-mod'}
+use Rattle.std.proofs.lemmas.Bool.{lt-ltb}
+use Rattle.std.proofs.lemmas.List.FromFn.{fill_by_all}
 use Rattle.bit_plane.specs.Bits.{bit, digit, set_count}
-use Rattle.bit_plane.specs.Pixels.{IsPlane, is_black_at, black_count}
+use Rattle.bit_plane.specs.Pixels.{Pixels, IsPlane, is_black_at, black_count, blank}
 use Rattle.bit_plane.specs.Packed.{pixels_of, IsPacked}
 use Rattle.bit_plane.proofs.BitLemmas.{digit-shr, bit_of, bit-lt}
 use Rattle.bit_plane.proofs.PixelLemmas.{wide, whole_where}
@@ -70,3 +74,28 @@ read_digits w h words x y count result i below within row is =
     is ∙ ap (bit words) {x = x + y * w + i} {y = y * w + (x + i)} (omega arith)
     ∙ sym (as_digit (bit words (y * w + (x + i))) (bit-lt words (y * w + (x + i))))
     ∙ ap (λ b. cond b 1 0) (sym (black_packed w h words (x + i) y (omega arith) row))
+
+-- ---- places
+
+at_place : (plane : Pixels) (p : ℕ) → p < plane.width * plane.height → is_black_at plane (p % plane.width) (p / plane.width) ≡ get_or plane.black p false
+at_place plane p within =
+    let some = wide plane.width plane.height p within in
+    let column = lt-ltb (p % plane.width) plane.width (mod_below p plane.width some) in
+    let row = lt-ltb (p / plane.width) plane.height (div_below p plane.width plane.height some (omega (arith, mul_comm plane.width plane.height))) in
+    ap (λ t. (t && ltb (p / plane.width) plane.height) && get_or plane.black (p / plane.width * plane.width + p % plane.width) false) column
+    ∙ ap (λ t. (true && t) && get_or plane.black (p / plane.width * plane.width + p % plane.width) false) row
+    ∙ ap (λ n. get_or plane.black n false) (div-add-mod' p plane.width)
+
+-- the black pixels, counted place by place
+pub black_places : (plane : Pixels) → IsPlane plane →
+    black_count plane ≡ count_by (λ p. is_black_at plane (p % plane.width) (p / plane.width)) (range_with_len 0 (plane.width * plane.height))
+black_places plane whole =
+    let n : ℕ = plane.width * plane.height in
+    let f : ℕ → Bool = λ p. get_or plane.black p false in
+    ap (count_by (λ black. black)) (fill_by_all f plane.black n false whole (λ p below. refl))
+    ∙ sum_of_map (λ black. cond black 1 0) f n
+    ∙ sym (total_same (λ p. cond (is_black_at plane (p % plane.width) (p / plane.width)) 1 0) (λ p. cond (f p) 1 0) n (λ p below. ap (λ b. cond b 1 0) (at_place plane p below)))
+    ∙ sym (sum_of_range (λ p. cond (is_black_at plane (p % plane.width) (p / plane.width)) 1 0) n)
+
+pub blank_count : (w h : ℕ) → black_count (blank w h) ≡ 0
+blank_count w h = sum_of_map (λ black. cond black 1 0) (λ i. false) (w * h) ∙ total_nothing (λ i. 0) (w * h) (λ i p. refl)

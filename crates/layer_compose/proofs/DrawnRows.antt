@@ -42,7 +42,7 @@ row_drawn layers y old out size white black =
 
 -- ---- previews
 
-sizes_of : (layers : Layers) (plane : Pixels) → layers.mask ≡ Some plane → MaskFits layers → (plane.width ≡ layers.width) × (plane.height ≡ layers.height)
+pub sizes_of : (layers : Layers) (plane : Pixels) → layers.mask ≡ Some plane → MaskFits layers → (plane.width ≡ layers.width) × (plane.height ≡ layers.height)
 sizes_of layers plane is fits =
     let P : Option Pixels → Type 0 = λ mask. IfSome mask (λ plane. (plane.width ≡ layers.width) × (plane.height ≡ layers.height)) in
     subst P is fits

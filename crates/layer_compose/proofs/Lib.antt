@@ -3,3 +3,4 @@ pub mod MaskRows
 pub mod Steps
 pub mod DrawnRows
 pub mod RowLists
+pub mod Summing

@@ -5,6 +5,7 @@ use Rattle.std.proofs.Math.Nat.{mul_comm, mul_assoc}
 use Rattle.std.proofs.lemmas.Bool.{cases_lt}
 use Rattle.std.proofs.lemmas.Nat.{mul-le, div_below, mod_below, div-add-mod'}
 use Rattle.bit_plane.proofs.PixelLemmas.{wide}
+use Rattle.layer_compose.specs.Drawing.{step_of}
 
 -- what so many whole steps lead to is within, as long as they are fewer than there are
 within_steps : (q n step : ℕ) → 0 < step → q < div_ceil n step → q * step < n
@@ -48,3 +49,26 @@ pub row_below : (w h step across count pixel : ℕ) → across ≡ div_ceil w st
     pixel / across * step < h
 row_below w h step across count pixel is some room below =
     omega (arith, row_within w h step count pixel some room below, ap (λ n. pixel / n * step) is)
+
+-- ---- the least step
+
+-- so many steps of this size cover it
+covered : (n step : ℕ) → 1 ≤ step → div_ceil n step ≤ 128 → n ≤ 128 * step
+covered n step some few =
+    let all = div-add-mod' n step in
+    elim (cases_lt (n / step) 128) [
+      | inl below ↦
+          let enough : (n / step + 1) * step ≤ 128 * step = mul-le (n / step + 1) step 128 step (omega arith) (omega arith) in
+          let next : (n / step + 1) * step ≡ n / step * step + step = grind arith in
+          omega arith
+      | inr full ↦
+          let is : n / step ≡ 128 = omega arith in
+          let same : n / step * step ≡ 128 * step = ap (λ k. k * step) is in
+          omega arith
+    ]
+
+pub least_step : (width height step : ℕ) → 1 ≤ step → div_ceil width step ≤ 128 → div_ceil height step ≤ 128 → step_of width height ≤ step
+least_step width height step some wide high =
+    let across = covered width step some wide in
+    let down = covered height step some high in
+    omega arith

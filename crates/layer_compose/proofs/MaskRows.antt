@@ -1,7 +1,6 @@
 -- Rows of masks that become black a word at a time.
 use Rattle.std.proofs.Common.{◌≡◌, ◌≢◌, ℕ, ◌+◌, ◌-◌, ◌*◌, ◌/◌, ◌^◌, ◌<◌, ◌≤◌, inl, inr, Bool, true, false, cond, ◌&&◌, ◌||◌, eqb, ltb, leb, List, get_or, arith, tests, refl, ap, sym, ◌∙◌}
 use Rattle.std.proofs.lemmas.Bool.{cases_lt, cases_order, lt-ltb, le-ltb, le-leb, lt-leb}
-use Rattle.std.proofs.lemmas.Nat.Bits.{bit_at-zero}
 use Rattle.bit_plane.specs.Bits.{digit}
 use Rattle.bit_plane.specs.Pixels.{Pixels, is_black_at}
 use Rattle.layer_compose.specs.Blackening.{Blackens, in_run}
@@ -45,16 +44,6 @@ pub first_more : (test : ℕ → Bool) (d x count : ℕ) (old middle new : List 
     Blackens (first x test) old middle → Blackens (in_run d x count) middle new → Blackens (first (x + count) test) old new
 first_more test d x count old middle new told before after =
     blackens_both (first x test) (in_run d x count) (first (x + count) test) old middle new before after (λ p. more test d x count p told)
-
-none_of_zero : (x count p : ℕ) → in_run 0 x count p ≡ false
-unfolding digit
-none_of_zero x count p =
-    let none = bit_at-zero (p - x) in
-    grind (arith, tests)
-
--- a word without a black pixel
-pub skipped : (x count : ℕ) (out : List ℕ) → Blackens (in_run 0 x count) out out
-skipped x count out = blackens_none (in_run 0 x count) out (none_of_zero x count)
 
 whole_row : (mask : Pixels) (x y p : ℕ) → mask.width ≤ x → first x (λ p. is_black_at mask p y) p ≡ is_black_at mask p y
 whole_row mask x y p all =

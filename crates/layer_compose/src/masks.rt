@@ -18,9 +18,7 @@ pub fn blacken_row(mask: &Plane, y: u32, out: &mut [u8])
     while x < width {
         let count = (width - x).min(64);
         let digits = mask.bits(x, y, count);
-        if digits != 0 {
-            blacken_run(out, x as usize, digits, count as usize);
-        }
+        blacken_run(out, x as usize, digits, count as usize);
         x += count;
     }
 }

@@ -1,23 +1,38 @@
-use Rattle.std.proofs.Common.{◌≡◌, ◌≢◌, ◌+◌, eqb, arith, subst, sym, ◌∙◌, List, ℕ}
-use Rattle.std.proofs.lemmas.Nat.Bits.{shr_and_one}
-use Rattle.bit_plane.specs.Bits.{digit}
-use Rattle.layer_compose.specs.Blackening.{Blackens, in_run}
-use Rattle.layer_compose.proofs.Pixelwise.{blackens_both, blackens_same, run_set, run_unset, set_digit, unset_digit}
+use Rattle.std.proofs.Common.{◌≡◌, ◌/◌, ◌^◌, ◌+◌, ◌<◌, ℕ, w64, arith, sym, ap, ◌∙◌}
+use Rattle.std.specs.Int.{trailing_zeros}
+use Rattle.layer_compose.proofs.Pixelwise.{next_of, rest_next, run_goes_on, run_ends}
 use Rattle.layer_compose.proofs.blackening.blacken_run.Goals as goal
-use Rattle.layer_compose.proofs.blackening.blacken_run.Goals.{then-digits-i-eq1, else-digits-i-eq1}
 
-pub loop-i-preserved : goal.loop-i-preserved
-loop-i-preserved c =
-    let P : List ℕ → Type 0 = λ out. Blackens (in_run c.args.digits c.args.from (c.loop-i.i + 1)) c.args.out.now out in
-    elim c.if-digits-i-eq1.branch [
-      | then-digits-i-eq1 w ↦
-          let set : digit c.args.digits c.loop-i.i ≡ 1 = set_digit c.args.digits c.loop-i.i w.if-digits-i-eq1.true in
-          subst P (sym w.out-is)
-          (blackens_both (in_run c.args.digits c.args.from c.loop-i.i) (λ p. eqb p (c.args.from + c.loop-i.i)) (in_run c.args.digits c.args.from (c.loop-i.i + 1))
-           c.args.out.now c.loop-i.out w.blacken.new.out c.loop-i.invariant w.blacken.ensures (λ p. run_set c.args.digits c.args.from c.loop-i.i p set))
-      | else-digits-i-eq1 w ↦
-          let unset : digit c.args.digits c.loop-i.i ≢ 1 = unset_digit c.args.digits c.loop-i.i w.if-digits-i-eq1.false in
-          subst P (sym w.out-is)
-          (blackens_same (in_run c.args.digits c.args.from c.loop-i.i) (in_run c.args.digits c.args.from (c.loop-i.i + 1)) c.args.out.now c.loop-i.out
-           c.loop-i.invariant (λ p. sym (run_unset c.args.digits c.args.from c.loop-i.i p unset)))
-    ]
+pub overflow_add-from : goal.overflow_add-from
+overflow_add-from c =
+    let next = next_of c.args.digits c.loop-rest.done c.loop-rest.rest c.args.count c.loop-rest.invariant.0 c.loop-rest-test.true (omega arith) c.requires.below in
+    omega (arith, next.within)
+
+pub overflow_add-from-in-loop-rest : goal.overflow_add-from-in-loop-rest
+overflow_add-from-in-loop-rest c =
+    let next = next_of c.args.digits c.loop-rest.done c.loop-rest.rest c.args.count c.loop-rest.invariant.0 c.loop-rest-test.true (omega arith) c.requires.below in
+    omega (arith, next.within)
+
+pub blacken-requires : goal.blacken-requires
+blacken-requires c =
+    let next = next_of c.args.digits c.loop-rest.done c.loop-rest.rest c.args.count c.loop-rest.invariant.0 c.loop-rest-test.true (omega arith) c.requires.below in
+    omega (arith, next.within)
+
+pub overflow_add-done-in-loop-rest : goal.overflow_add-done-in-loop-rest
+overflow_add-done-in-loop-rest c =
+    let next = next_of c.args.digits c.loop-rest.done c.loop-rest.rest c.args.count c.loop-rest.invariant.0 c.loop-rest-test.true (omega arith) c.requires.below in
+    omega (arith, next.within)
+
+pub loop-rest-preserved : goal.loop-rest-preserved
+loop-rest-preserved c =
+    let next = next_of c.args.digits c.loop-rest.done c.loop-rest.rest c.args.count c.loop-rest.invariant.0 c.loop-rest-test.true (omega arith) c.requires.below in
+    (
+      rest_next c.args.digits c.loop-rest.done c.loop-rest.rest (trailing_zeros w64 c.loop-rest.rest) c.loop-rest.invariant.0,
+      run_goes_on c.args.digits c.args.from c.loop-rest.done c.args.count (trailing_zeros w64 c.loop-rest.rest) c.args.out.now c.loop-rest.out c.blacken.new.out
+          next c.loop-rest.invariant.1 c.blacken.ensures,
+    )
+
+pub returns : goal.returns
+returns c =
+    run_ends c.args.digits c.args.from c.loop-rest.done c.args.count c.args.out.now c.loop-rest.out
+    (sym c.loop-rest.invariant.0 ∙ c.loop-rest-test.false) c.requires.below c.loop-rest.invariant.1

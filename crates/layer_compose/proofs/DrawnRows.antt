@@ -37,8 +37,8 @@ row_drawn layers y old out size white black =
     let P : List ℕ → Type 0 = λ samples. Blackens test samples out in
     drawn n test (λ k. cond (in_mask layers.mask (k / 3 % layers.width) (layers.height - 1 - y)) 0 255) out (omega arith) (subst P filled black)
     (λ k below.
-      let column : k / 3 < layers.width = omega arith in
-      ap (λ x. cond (in_mask layers.mask x (layers.height - 1 - y)) 0 255) (mod-eq_of_lt column))
+    let column : k / 3 < layers.width = omega arith in
+    ap (λ x. cond (in_mask layers.mask x (layers.height - 1 - y)) 0 255) (mod-eq_of_lt column))
 
 -- ---- previews
 

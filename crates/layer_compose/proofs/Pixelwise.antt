@@ -49,9 +49,9 @@ next_of digits done rest count is some fits below =
     let set : digit digits (done + skipped) ≡ 1 = sym (digit-shr digits done skipped) ∙ ap (λ n. digit n skipped) (sym is) ∙ low.set in
     record {
       within = elim (cases_lt (done + skipped) count) [
-          | inl before ↦ before
-          | inr behind ↦ omega (arith, digit_above digits count (done + skipped) below behind)
-        ];
+        | inl before ↦ before
+        | inr behind ↦ omega (arith, digit_above digits count (done + skipped) below behind)
+      ];
       set = set;
       between = λ i from to.
           let at : done + (i - done) ≡ i = omega arith in
@@ -107,7 +107,7 @@ run_end digits from done count p none below =
             | inr late ↦
                 let at : done + (i - done) ≡ i = omega arith in
                 let clear : digit digits (p - from) ≡ 0 =
-                    ap (digit digits) (sym at) ∙ sym (digit-shr digits done (i - done)) ∙ ap (λ n. digit n (i - done)) none ∙ digit-zero (i - done) in
+                ap (digit digits) (sym at) ∙ sym (digit-shr digits done (i - done)) ∙ ap (λ n. digit n (i - done)) none ∙ digit-zero (i - done) in
                 grind (arith, tests)
           ]
     ]

@@ -18,8 +18,8 @@ map_same f g n same =
     let first = length-map-range_with_len f 0 n in
     same_lists (map f (range_with_len 0 n)) (map g (range_with_len 0 n)) (first ∙ sym size)
     (λ i d p.
-      let within : i < n = omega arith in
-      get_or-map-range_with_len f 0 n i i d within (omega arith) ∙ same i within ∙ sym (get_or-map-range_with_len g 0 n i i d within (omega arith)))
+    let within : i < n = omega arith in
+    get_or-map-range_with_len f 0 n i i d within (omega arith) ∙ same i within ∙ sym (get_or-map-range_with_len g 0 n i i d within (omega arith)))
 
 pub map_joined : (f : ℕ → ℕ) (a b : ℕ) → map f (range_with_len 0 (a + b)) ≡ map f (range_with_len 0 a) ++ map (λ i. f (a + i)) (range_with_len 0 b)
 map_joined f a zero = ap (λ n. map f (range_with_len 0 n)) (add-zero a) ∙ sym (append-nil (map f (range_with_len 0 a)))
@@ -43,8 +43,8 @@ pub samples_same : (width count : ℕ) (f g : ℕ → ℕ → ℕ → ℕ) → (
 samples_same width count f g same =
     map_same (λ n. f (n / 3 % width) (n / 3 / width) (n % 3)) (λ n. g (n / 3 % width) (n / 3 / width) (n % 3)) (3 * width * count)
     (λ n below.
-      let within = wide_samples width count n below in
-      same (n / 3 % width) (n / 3 / width) (n % 3) (mod_below (n / 3) width within.0) (div_below (n / 3) width count within.0 within.1))
+    let within = wide_samples width count n below in
+    same (n / 3 % width) (n / 3 / width) (n % 3) (mod_below (n / 3) width within.0) (div_below (n / 3) width count within.0 within.1))
 
 -- so many samples further is so many rows further
 further : (width count n : ℕ) → 0 < width → ((3 * width * count + n) / 3 % width ≡ n / 3 % width) × ((3 * width * count + n) / 3 / width ≡ count + n / 3 / width) × ((3 * width * count + n) % 3 ≡ n % 3)
@@ -54,8 +54,7 @@ further width count n some =
     let split = div-add-mod' (n / 3) width in
     let both : (count + n / 3 / width) * width ≡ count * width + n / 3 / width * width = grind arith in
     let at : (3 * width * count + n) / 3 ≡ (count + n / 3 / width) * width + n / 3 % width = omega arith in
-    let rest = mod_below (n / 3) width some in
-    (
+    let rest = mod_below (n / 3) width some in (
       ap (λ k. k % width) at ∙ mod-mul-add (count + n / 3 / width) width (n / 3 % width) rest,
       ap (λ k. k / width) at ∙ div-mul-add (count + n / 3 / width) width (n / 3 % width) rest,
       omega arith,
@@ -69,12 +68,12 @@ samples_joined width count more sample =
     ap (λ n. map f (range_with_len 0 n)) sizes
     ∙ map_joined f (3 * width * count) (3 * width * more)
     ∙ ap (λ (xs : List ℕ). map f (range_with_len 0 (3 * width * count)) ++ xs)
-      (map_same (λ n. f (3 * width * count + n)) (λ n. sample (n / 3 % width) (count + n / 3 / width) (n % 3)) (3 * width * more)
-       (λ n below.
-         let moved = further width count n (wide_samples width more n below).0 in
-         ap (λ x. sample x ((3 * width * count + n) / 3 / width) ((3 * width * count + n) % 3)) moved.0
-         ∙ ap (λ y. sample (n / 3 % width) y ((3 * width * count + n) % 3)) moved.1
-         ∙ ap (sample (n / 3 % width) (count + n / 3 / width)) moved.2))
+    (map_same (λ n. f (3 * width * count + n)) (λ n. sample (n / 3 % width) (count + n / 3 / width) (n % 3)) (3 * width * more)
+    (λ n below.
+    let moved = further width count n (wide_samples width more n below).0 in
+    ap (λ x. sample x ((3 * width * count + n) / 3 / width) ((3 * width * count + n) % 3)) moved.0
+    ∙ ap (λ y. sample (n / 3 % width) y ((3 * width * count + n) % 3)) moved.1
+    ∙ ap (sample (n / 3 % width) (count + n / 3 / width)) moved.2))
 
 -- ---- rows of a drawing
 
@@ -101,8 +100,8 @@ unfolding rows_of
 rows_joined layers from count more =
     samples_joined layers.width count more (λ x row channel. sample_from_top layers x (from + row) channel)
     ∙ ap (λ (xs : List ℕ). samples_by layers.width count (λ x row channel. sample_from_top layers x (from + row) channel) ++ xs)
-      (samples_same layers.width more (λ x row channel. sample_from_top layers x (from + (count + row)) channel) (λ x row channel. sample_from_top layers x (from + count + row) channel)
-       (λ x row channel column within. ap (λ y. sample_from_top layers x y channel) (omega arith)))
+    (samples_same layers.width more (λ x row channel. sample_from_top layers x (from + (count + row)) channel) (λ x row channel. sample_from_top layers x (from + count + row) channel)
+    (λ x row channel column within. ap (λ y. sample_from_top layers x y channel) (omega arith)))
 
 pub next_row : (layers : Layers) (from count : ℕ) → rows_of layers from (suc count) ≡ rows_of layers from count ++ row_of layers (from + count)
 next_row layers from count =

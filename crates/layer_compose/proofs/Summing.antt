@@ -51,7 +51,7 @@ total_rows f width (suc height) =
     let size : suc height * width ≡ height * width + width = grind arith in
     let all = ap (total (λ p. f (p % width) (p / width))) size ∙ total_joined (λ p. f (p % width) (p / width)) (height * width) width in
     let last = total_same (λ x. f ((height * width + x) % width) ((height * width + x) / width)) (λ x. f x height) width
-        (λ x p. ap (λ column. f column ((height * width + x) / width)) (mod-mul-add height width x p) ∙ ap (f x) (div-mul-add height width x p)) in
+    (λ x p. ap (λ column. f column ((height * width + x) / width)) (mod-mul-add height width x p) ∙ ap (f x) (div-mul-add height width x p)) in
     omega arith
 
 total_both : (f g : ℕ → ℕ) (n : ℕ) → ((i : ℕ) → f i + g i ≡ 1) → total f n + total g n ≡ n
@@ -85,8 +85,8 @@ sum_of_white layers =
     let turned = total_reversed (λ y. total (λ x. value x y) w) h in
     let back = total_rows value w h in
     let whites : total (λ p. value (p % w) (p / w)) (h * w) ≡ 255 * total (λ p. is_white (p % w) (p / w)) (h * w) =
-        total_same (λ p. value (p % w) (p / w)) (λ p. 255 * is_white (p % w) (p / w)) (h * w) (λ p below. white_value (in_mask layers.mask (p % w) (p / w)))
-        ∙ total_times 255 (λ p. is_white (p % w) (p / w)) (h * w) in
+    total_same (λ p. value (p % w) (p / w)) (λ p. 255 * is_white (p % w) (p / w)) (h * w) (λ p below. white_value (in_mask layers.mask (p % w) (p / w)))
+    ∙ total_times 255 (λ p. is_white (p % w) (p / w)) (h * w) in
     let count : white_count layers ≡ total (λ p. is_white (p % w) (p / w)) (h * w) = counted_white layers ∙ ap (total (λ p. is_white (p % w) (p / w))) (mul_comm w h) in
     omega arith
 
@@ -100,16 +100,16 @@ others_white layers plane is fits whole =
     let n : ℕ = layers.width * layers.height in
     let sizes = sizes_of layers plane is fits in
     let places : black_count plane ≡ count_by (λ p. is_black_at plane (p % layers.width) (p / layers.width)) (range_with_len 0 n) =
-        black_places plane whole
-        ∙ ap (λ w. count_by (λ p. is_black_at plane (p % w) (p / w)) (range_with_len 0 (w * plane.height))) sizes.0
-        ∙ ap (λ h. count_by (λ p. is_black_at plane (p % layers.width) (p / layers.width)) (range_with_len 0 (layers.width * h))) sizes.1 in
+    black_places plane whole
+    ∙ ap (λ w. count_by (λ p. is_black_at plane (p % w) (p / w)) (range_with_len 0 (w * plane.height))) sizes.0
+    ∙ ap (λ h. count_by (λ p. is_black_at plane (p % layers.width) (p / layers.width)) (range_with_len 0 (layers.width * h))) sizes.1 in
     let black : black_count plane ≡ total (λ p. cond (in_mask layers.mask (p % layers.width) (p / layers.width)) 1 0) n =
-        places
-        ∙ sum_of_range (λ p. cond (is_black_at plane (p % layers.width) (p / layers.width)) 1 0) n
-        ∙ ap (λ mask. total (λ p. cond (in_mask mask (p % layers.width) (p / layers.width)) 1 0) n) (sym is) in
+    places
+    ∙ sum_of_range (λ p. cond (is_black_at plane (p % layers.width) (p / layers.width)) 1 0) n
+    ∙ ap (λ mask. total (λ p. cond (in_mask mask (p % layers.width) (p / layers.width)) 1 0) n) (sym is) in
     let both = total_both (λ p. cond (in_mask layers.mask (p % layers.width) (p / layers.width)) 1 0)
-        (λ p. cond (not (in_mask layers.mask (p % layers.width) (p / layers.width))) 1 0) n
-        (λ p. one_or_other (in_mask layers.mask (p % layers.width) (p / layers.width))) in
+    (λ p. cond (not (in_mask layers.mask (p % layers.width) (p / layers.width))) 1 0) n
+    (λ p. one_or_other (in_mask layers.mask (p % layers.width) (p / layers.width))) in
     omega (arith, counted_white layers)
 
 total_ones : (n : ℕ) → total (λ i. 1) n ≡ n
@@ -130,4 +130,4 @@ white_samples layers is =
     let n : ℕ = 3 * layers.width * layers.height in
     let f : ℕ → ℕ = λ k. cond (in_mask layers.mask (k / 3 % layers.width) (layers.height - 1 - k / 3 / layers.width)) 0 255 in
     sym (fill_by_all f (replicate n 255) n 0 (length-replicate n 255)
-         (λ k below. get_or-replicate n k 255 0 below ∙ ap (λ mask. cond (in_mask mask (k / 3 % layers.width) (layers.height - 1 - k / 3 / layers.width)) 0 255) (sym is)))
+    (λ k below. get_or-replicate n k 255 0 below ∙ ap (λ mask. cond (in_mask mask (k / 3 % layers.width) (layers.height - 1 - k / 3 / layers.width)) 0 255) (sym is)))

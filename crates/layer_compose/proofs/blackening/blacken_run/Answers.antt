@@ -25,8 +25,7 @@ overflow_add-done-in-loop-rest c =
 
 pub loop-rest-preserved : goal.loop-rest-preserved
 loop-rest-preserved c =
-    let next = next_of c.args.digits c.loop-rest.done c.loop-rest.rest c.args.count c.loop-rest.invariant.0 c.loop-rest-test.true (omega arith) c.requires.below in
-    (
+    let next = next_of c.args.digits c.loop-rest.done c.loop-rest.rest c.args.count c.loop-rest.invariant.0 c.loop-rest-test.true (omega arith) c.requires.below in (
       rest_next c.args.digits c.loop-rest.done c.loop-rest.rest (trailing_zeros w64 c.loop-rest.rest) c.loop-rest.invariant.0,
       run_goes_on c.args.digits c.args.from c.loop-rest.done c.args.count (trailing_zeros w64 c.loop-rest.rest) c.args.out.now c.loop-rest.out c.blacken.new.out
           next c.loop-rest.invariant.1 c.blacken.ensures,

@@ -11,17 +11,17 @@ use Rattle.bit_plane.proofs.BitLemmas.{digit-lt, digit-or, digit_above, bit_of}
 
 -- ---- the ends of a word
 
-digit-zero : (i : ℕ) → digit 0 i ≡ 0
+pub digit-zero : (i : ℕ) → digit 0 i ≡ 0
 unfolding digit
 digit-zero i = omega arith
 
 -- the lowest digit that is set
-record Lowest (n at : ℕ) : Type 0 where
-  small : at < 64
-  set : digit n at ≡ 1
-  below : (i : ℕ) → i < at → digit n i ≡ 0
+pub record Lowest (n at : ℕ) : Type 0 where
+  pub small : at < 64
+  pub set : digit n at ≡ 1
+  pub below : (i : ℕ) → i < at → digit n i ≡ 0
 
-lowest : (n : ℕ) → (n ≡ 0 → ⊥) → n < 2 ^ 64 → Lowest n (trailing_zeros w64 n)
+pub lowest : (n : ℕ) → (n ≡ 0 → ⊥) → n < 2 ^ 64 → Lowest n (trailing_zeros w64 n)
 unfolding digit
 lowest n some fits =
     let found = bit_at-trailing_zeros w64 n (omega arith) fits in

@@ -1,4 +1,6 @@
 pub mod BitLemmas
+pub mod Totals
+pub mod Counting
 pub mod Setting
 pub mod RunSteps
 pub mod RowSteps

@@ -1,5 +1,5 @@
 -- Planes of pixels: a width, a height, and which pixels are black. Places count from 0 at the bottom left.
-use Rattle.std.specs.Prelude.{◌≡◌, ℕ, ◌+◌, ◌*◌, ◌/◌, ◌%◌, ◌==◌, nat_lt, Bool, false, ◌&&◌, ◌||◌, List, length, map, slice_index_or, ℤ, pos, negsuc, ◌-ℤ◌}
+use Rattle.std.specs.Prelude.{◌≡◌, ℕ, ◌+◌, ◌*◌, ◌/◌, ◌%◌, ◌==◌, nat_lt, Bool, false, ◌&&◌, ◌||◌, List, length, map, count_by, slice_index_or, ℤ, pos, negsuc, ◌-ℤ◌}
 use Rattle.std.specs.List.{range_with_len}
 
 pub record Pixels : Type 0 where
@@ -31,6 +31,10 @@ is_black plane (negsuc x) y = false
 -- a plane has a pixel for each place
 abbrev pub IsPlane : Pixels → Type 0
 IsPlane plane = length plane.black ≡ plane.width * plane.height
+
+-- how many pixels are black
+abbrev pub black_count : Pixels → ℕ
+black_count plane = count_by (λ black. black) plane.black
 
 -- whether a place is (x, y)
 abbrev pub is_place : ℤ → ℤ → ℕ → ℕ → Bool

@@ -1,6 +1,7 @@
 //! Laws and worked values of the definitions, as clauses of functions that do nothing.
-ghost use Rattle.std.specs.Prelude.{◌≡◌, ℕ, ◌<◌, ◌*◌, Bool, true, false, ◌&&◌, ◌||◌, [], ◌∷◌, ℤ, pos, negsuc, ◌-ℤ◌};
-ghost use Rattle.bit_plane.specs.Pixels.{Pixels, IsPlane, is_inside, is_black, is_place, pixels_where, blank, with_black, painted};
+ghost use Rattle.std.specs.Prelude.{◌≡◌, ℕ, ◌<◌, ◌*◌, ◌/◌, ◌%◌, Bool, true, false, ◌&&◌, ◌||◌, [], ◌∷◌, count_by, ℤ, pos, negsuc, ◌-ℤ◌};
+ghost use Rattle.std.specs.List.{range_with_len};
+ghost use Rattle.bit_plane.specs.Pixels.{Pixels, IsPlane, is_inside, is_black, is_black_at, is_place, pixels_where, black_count, blank, with_black, painted};
 ghost use Rattle.bit_plane.specs.Ink.{IsInkBox, IsWithin, ink_box_of, no_ink};
 ghost use Rattle.bit_plane.specs.Worked.{dash, corner, post, copy};
 
@@ -19,6 +20,14 @@ pub fn pixel_laws()
     ensures whole { (width height : ℕ) (test : ℕ → ℕ → Bool) → IsPlane (pixels_where width height test) }
     ensures same { (plane other : Pixels) → IsPlane plane → IsPlane other → plane.width ≡ other.width → plane.height ≡ other.height →
         ((x y : ℤ) → is_black plane x y ≡ is_black other x y) → plane ≡ other }
+{}
+
+/// The black pixels are those places of a plane that are black, and a blank plane has none.
+pub fn count_laws()
+    ensures places { (plane : Pixels) → IsPlane plane →
+        black_count plane ≡ count_by (λ n. is_black_at plane (n % plane.width) (n / plane.width)) (range_with_len 0 (plane.width * plane.height)) }
+    ensures blank { (width height : ℕ) → black_count (blank width height) ≡ 0 }
+    ensures dash { black_count dash ≡ 2 }
 {}
 
 /// Painting twice is painting once, the order doesn't matter, a shape without a black pixel changes no pixel, and what

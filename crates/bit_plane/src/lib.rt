@@ -18,5 +18,5 @@ mod tests;
 mod words;
 
 pub use ink::InkBox;
-pub use laws::{ink_laws, paint_laws, pixel_laws, worked_boxes};
+pub use laws::{count_laws, ink_laws, paint_laws, pixel_laws, worked_boxes};
 pub use planes::Plane;

@@ -1,11 +1,12 @@
 //! Planes of pixels.
-ghost use Rattle.std.specs.Prelude.{◌≡◌, ℕ, ◌+◌, ◌*◌, ◌<◌, ◌≤◌, IfOk, MatchOption, ℤ, pos, ◌-ℤ◌, false, ◌&&◌, ◌||◌, replicate};
-ghost use Rattle.bit_plane.specs.Pixels.{is_black, is_inside, is_place, area_limit, blank, with_black, painted};
+ghost use Rattle.std.specs.Prelude.{◌≡◌, ℕ, ◌+◌, ◌*◌, ◌^◌, ◌<◌, ◌≤◌, IfOk, MatchOption, ℤ, pos, ◌-ℤ◌, false, ◌&&◌, ◌||◌, replicate, if◌then◌else◌};
+ghost use Rattle.bit_plane.specs.Bits.{digit};
+ghost use Rattle.bit_plane.specs.Pixels.{IsPlane, is_black, is_black_at, is_inside, is_place, area_limit, black_count, blank, with_black, painted};
 ghost use Rattle.bit_plane.specs.Ink.{ink_box_of, IsInkBox, IsWithin};
 
 use crate::ink::{InkBox, behind_ink, first_set, last_set, left_of_ink, no_ink, signed};
 use crate::painting::{or_rows, overlap};
-use crate::words::{is_set, or_bits};
+use crate::words::{count_set, is_set, or_bits, read_bits};
 use std::alloc::{AllocError, Global};
 use std::marker::Model;
 
@@ -69,6 +70,27 @@ impl Plane {
             return false;
         };
         is_set(&self.words, row * self.columns as usize + column)
+    }
+
+    /// Up to 64 pixels of a row as the lowest digits of a word: the leftmost is the lowest, and a black one is 1.
+    pub fn bits(&self, x: u32, y: u32, count: u32) -> u64
+        requires some { 0 < count }
+        requires word { count ≤ 64 }
+        requires columns { x + count ≤ self.now.width }
+        requires row { y < self.now.height }
+        ensures below { result < 2 ^ count }
+        ensures digits { (i : ℕ) → i < count → digit result i ≡ (if is_black_at self.now (x + i) y then 1 else 0) }
+    {
+        let first = x as usize + y as usize * self.columns as usize;
+        read_bits(&self.words, first, count as usize)
+    }
+
+    /// How many pixels are black.
+    pub fn black(&self) -> u32
+        ensures value { result ≡ black_count self.now }
+        ensures whole { IsPlane self.now }
+    {
+        count_set(&self.words)
     }
 
     /// The columns and rows between which all black pixels lie.

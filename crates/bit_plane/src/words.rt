@@ -1,6 +1,6 @@
 //! Bits of slices of words: bit `i` is bit `i % 64`, from the lowest, of word `i / 64`.
 ghost use Rattle.std.specs.Prelude.{◌≡◌, ℕ, ◌+◌, ◌*◌, ◌%◌, ◌^◌, ◌<◌, ◌≤◌, ◌⊎◌, ◌↔◌, IsTrue, length, max};
-ghost use Rattle.bit_plane.specs.Bits.{bit, digit};
+ghost use Rattle.bit_plane.specs.Bits.{bit, digit, set_count};
 
 /// Whether a bit is set.
 pub fn is_set(words: &[u64], at: usize) -> bool
@@ -8,6 +8,18 @@ pub fn is_set(words: &[u64], at: usize) -> bool
     ensures { IsTrue result ↔ (bit words.now at ≡ 1) }
 {
     words[at / 64] >> (at % 64) & 1 == 1
+}
+
+/// How many bits are set.
+pub fn count_set(words: &[u64]) -> u32
+    requires { length words.now < 2 ^ 26 }
+    ensures { result ≡ set_count words.now }
+{
+    let mut count = 0;
+    for word in words {
+        count += word.count_ones();
+    }
+    count
 }
 
 /// So many bits from a place on, as the lowest bits of a word.

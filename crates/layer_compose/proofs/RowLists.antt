@@ -1,0 +1,128 @@
+-- Rows one behind the other.
+use Rattle.std.proofs.Common.{◌≡◌, ℕ, zero, suc, ◌+◌, ◌-◌, ◌*◌, ◌/◌, ◌%◌, ◌<◌, ◌≤◌, List, [], ◌∷◌, ◌++◌, length, get_or, take, map, arith, refl, ap, sym, add-zero, add-suc, add-one, append_assoc, ◌∙◌}
+use Rattle.std.specs.List.{range_with_len}
+use Rattle.std.proofs.Math.Nat.{mod-eq_of_lt, mul_assoc}
+use Rattle.std.proofs.lemmas.Nat.{mul-add-lt, div_below, mod_below, div-add-mod', div-mul-add, mod-mul-add}
+use Rattle.std.proofs.lemmas.List.{same_lists, append-nil}
+use Rattle.std.proofs.lemmas.Slice.{take-put_mid}
+use Rattle.std.proofs.lemmas.List.FromFn.{length-map-range_with_len, get_or-map-range_with_len, map-range_with_len_more}
+use borrow.Rule.Slice.PartMut.{put_mid}
+use Rattle.layer_compose.specs.declared.layers.Layers.{Layers}
+use Rattle.layer_compose.specs.Drawing.{samples_by, sample_from_top, samples_of, row_of, rows_of}
+
+-- ---- lists made from functions of the index
+
+pub map_same : (f g : ℕ → ℕ) (n : ℕ) → ((i : ℕ) → i < n → f i ≡ g i) → map f (range_with_len 0 n) ≡ map g (range_with_len 0 n)
+map_same f g n same =
+    let size = length-map-range_with_len g 0 n in
+    let first = length-map-range_with_len f 0 n in
+    same_lists (map f (range_with_len 0 n)) (map g (range_with_len 0 n)) (first ∙ sym size)
+    (λ i d p.
+    let within : i < n = omega arith in
+    get_or-map-range_with_len f 0 n i i d within (omega arith) ∙ same i within ∙ sym (get_or-map-range_with_len g 0 n i i d within (omega arith)))
+
+pub map_joined : (f : ℕ → ℕ) (a b : ℕ) → map f (range_with_len 0 (a + b)) ≡ map f (range_with_len 0 a) ++ map (λ i. f (a + i)) (range_with_len 0 b)
+map_joined f a zero = ap (λ n. map f (range_with_len 0 n)) (add-zero a) ∙ sym (append-nil (map f (range_with_len 0 a)))
+map_joined f a (suc b) =
+    ap (λ n. map f (range_with_len 0 n)) (add-suc a b ∙ sym (add-one (a + b)))
+    ∙ map-range_with_len_more f 0 (a + b) (a + b) (omega arith)
+    ∙ ap (λ (xs : List ℕ). xs ++ f (a + b) ∷ []) (map_joined f a b)
+    ∙ append_assoc (map f (range_with_len 0 a)) (map (λ i. f (a + i)) (range_with_len 0 b)) (f (a + b) ∷ [])
+    ∙ ap (λ (xs : List ℕ). map f (range_with_len 0 a) ++ xs) (sym (map-range_with_len_more (λ i. f (a + i)) 0 b b (omega arith)))
+    ∙ ap (λ n. map f (range_with_len 0 a) ++ map (λ i. f (a + i)) (range_with_len 0 n)) (add-one b)
+
+-- ---- samples by column, row and channel
+
+-- samples lie within a width that isn't 0
+wide_samples : (width count n : ℕ) → n < 3 * width * count → (0 < width) × (n / 3 < count * width)
+wide_samples zero count n below = omega arith
+wide_samples (suc width) count n below = (omega arith, omega (arith, mul_assoc 3 (suc width) count))
+
+pub samples_same : (width count : ℕ) (f g : ℕ → ℕ → ℕ → ℕ) → ((x y channel : ℕ) → x < width → y < count → f x y channel ≡ g x y channel) →
+    samples_by width count f ≡ samples_by width count g
+samples_same width count f g same =
+    map_same (λ n. f (n / 3 % width) (n / 3 / width) (n % 3)) (λ n. g (n / 3 % width) (n / 3 / width) (n % 3)) (3 * width * count)
+    (λ n below.
+    let within = wide_samples width count n below in
+    same (n / 3 % width) (n / 3 / width) (n % 3) (mod_below (n / 3) width within.0) (div_below (n / 3) width count within.0 within.1))
+
+-- so many samples further is so many rows further
+further : (width count n : ℕ) → 0 < width → ((3 * width * count + n) / 3 % width ≡ n / 3 % width) × ((3 * width * count + n) / 3 / width ≡ count + n / 3 / width) × ((3 * width * count + n) % 3 ≡ n % 3)
+further width count n some =
+    let flat = mul_assoc 3 width count in
+    let turned : width * count ≡ count * width = grind arith in
+    let split = div-add-mod' (n / 3) width in
+    let both : (count + n / 3 / width) * width ≡ count * width + n / 3 / width * width = grind arith in
+    let at : (3 * width * count + n) / 3 ≡ (count + n / 3 / width) * width + n / 3 % width = omega arith in
+    let rest = mod_below (n / 3) width some in (
+      ap (λ k. k % width) at ∙ mod-mul-add (count + n / 3 / width) width (n / 3 % width) rest,
+      ap (λ k. k / width) at ∙ div-mul-add (count + n / 3 / width) width (n / 3 % width) rest,
+      omega arith,
+    )
+
+pub samples_joined : (width count more : ℕ) (sample : ℕ → ℕ → ℕ → ℕ) →
+    samples_by width (count + more) sample ≡ samples_by width count sample ++ samples_by width more (λ x y channel. sample x (count + y) channel)
+samples_joined width count more sample =
+    let f : ℕ → ℕ = λ n. sample (n / 3 % width) (n / 3 / width) (n % 3) in
+    let sizes : 3 * width * (count + more) ≡ 3 * width * count + 3 * width * more = grind arith in
+    ap (λ n. map f (range_with_len 0 n)) sizes
+    ∙ map_joined f (3 * width * count) (3 * width * more)
+    ∙ ap (λ (xs : List ℕ). map f (range_with_len 0 (3 * width * count)) ++ xs)
+    (map_same (λ n. f (3 * width * count + n)) (λ n. sample (n / 3 % width) (count + n / 3 / width) (n % 3)) (3 * width * more)
+    (λ n below.
+    let moved = further width count n (wide_samples width more n below).0 in
+    ap (λ x. sample x ((3 * width * count + n) / 3 / width) ((3 * width * count + n) % 3)) moved.0
+    ∙ ap (λ y. sample (n / 3 % width) y ((3 * width * count + n) % 3)) moved.1
+    ∙ ap (sample (n / 3 % width) (count + n / 3 / width)) moved.2))
+
+-- ---- rows of a drawing
+
+pub all_rows : (layers : Layers) → samples_of layers ≡ rows_of layers 0 layers.height
+unfolding samples_of rows_of
+all_rows layers =
+    samples_same layers.width layers.height (sample_from_top layers) (λ x row channel. sample_from_top layers x (0 + row) channel)
+    (λ x row channel column within. ap (λ y. sample_from_top layers x y channel) (omega arith))
+
+pub no_rows : (layers : Layers) (from : ℕ) → rows_of layers from 0 ≡ []
+unfolding rows_of
+no_rows layers from =
+    let none : 3 * layers.width * 0 ≡ 0 = omega arith in
+    ap (λ n. map (λ i. sample_from_top layers (i / 3 % layers.width) (from + i / 3 / layers.width) (i % 3)) (range_with_len 0 n)) none
+
+pub one_row : (layers : Layers) (y : ℕ) → rows_of layers y 1 ≡ row_of layers y
+unfolding row_of rows_of
+one_row layers y =
+    samples_same layers.width 1 (λ x row channel. sample_from_top layers x (y + row) channel) (λ x row channel. sample_from_top layers x y channel)
+    (λ x row channel column within. ap (λ k. sample_from_top layers x k channel) (omega arith))
+
+pub rows_joined : (layers : Layers) (from count more : ℕ) → rows_of layers from (count + more) ≡ rows_of layers from count ++ rows_of layers (from + count) more
+unfolding rows_of
+rows_joined layers from count more =
+    samples_joined layers.width count more (λ x row channel. sample_from_top layers x (from + row) channel)
+    ∙ ap (λ (xs : List ℕ). samples_by layers.width count (λ x row channel. sample_from_top layers x (from + row) channel) ++ xs)
+    (samples_same layers.width more (λ x row channel. sample_from_top layers x (from + (count + row)) channel) (λ x row channel. sample_from_top layers x (from + count + row) channel)
+    (λ x row channel column within. ap (λ y. sample_from_top layers x y channel) (omega arith)))
+
+pub next_row : (layers : Layers) (from count : ℕ) → rows_of layers from (suc count) ≡ rows_of layers from count ++ row_of layers (from + count)
+next_row layers from count =
+    ap (rows_of layers from) (sym (add-one count))
+    ∙ rows_joined layers from count 1
+    ∙ ap (λ (xs : List ℕ). rows_of layers from count ++ xs) (one_row layers (from + count))
+
+pub rows_length : (layers : Layers) (from count : ℕ) → length (rows_of layers from count) ≡ 3 * layers.width * count
+unfolding rows_of
+rows_length layers from count =
+    length-map-range_with_len (λ i. sample_from_top layers (i / 3 % layers.width) (from + i / 3 / layers.width) (i % 3)) 0 (3 * layers.width * count)
+
+-- the rows after one more was put behind those before
+pub row_put : (layers : Layers) (from row size : ℕ) (out part : List ℕ) → take (3 * layers.width * row) out ≡ rows_of layers from row →
+    part ≡ row_of layers (from + row) → 3 * layers.width * row ≤ length out →
+    take (3 * layers.width * (row + 1)) (put_mid (3 * layers.width * row) size out part) ≡ rows_of layers from (row + 1)
+row_put layers from row size out part before is room =
+    let whole : length part ≡ 3 * layers.width * 1 = ap length (is ∙ sym (one_row layers (from + row))) ∙ rows_length layers (from + row) 1 in
+    let all : 3 * layers.width * (row + 1) ≡ 3 * layers.width * row + 3 * layers.width * 1 = grind arith in
+    let end : 3 * layers.width * (row + 1) ≡ 3 * layers.width * row + length part = omega arith in
+    take-put_mid (3 * layers.width * row) size out part (3 * layers.width * (row + 1)) end room
+    ∙ ap (λ (xs : List ℕ). xs ++ part) before
+    ∙ ap (λ (xs : List ℕ). rows_of layers from row ++ xs) (is ∙ sym (one_row layers (from + row)))
+    ∙ sym (rows_joined layers from row 1)

@@ -1,0 +1,6 @@
+pub mod Numbers
+pub mod Places
+pub mod Holds
+pub mod Rule
+pub mod Told
+pub mod Boards

@@ -1,0 +1,61 @@
+-- What each step tells its seat.
+use Rattle.std.specs.Prelude.{◌≡◌, ◌≢◌, ℕ, suc, ◌≤◌, ◌<◌, List, [], ◌∷◌, Option, Some, None}
+use Rattle.atomic_table.specs.Table.{Me, Step}
+use Rattle.once_board.specs.declared.holds.Known.{Known}
+use Rattle.once_board.specs.declared.holds.Hold.{Hold}
+use Rattle.once_board.specs.declared.holds.Stage.{Stage}
+use Rattle.once_board.specs.declared.holds.Stage.TheVariants.{Idle, Filling}
+use Rattle.once_board.specs.declared.holds.Seen.{Seen}
+use Rattle.once_board.specs.declared.owners.Owner.{Owner}
+use Rattle.once_board.specs.Numbers.{times}
+use Rattle.once_board.specs.Places.{IsFree, record_of}
+use Rattle.once_board.specs.Holds.{IsLawful, FitsAll, IsOnce, ClaimsAll, won, saw, put_at}
+
+-- what holds of each seat at every moment
+pub record IsSound {T : Type 0} (fits : ℕ → T → Type 0) (h : Hold T) : Type 0 where
+  pub lawful : IsLawful h
+  pub may_stand : FitsAll fits h
+  pub once : IsOnce h
+  pub claims_all : ClaimsAll h
+
+-- a word that was read is not below what was known of the place
+pub record Follows {T : Type 0} (word : ℕ) (k : Known T) : Type 0 where
+  pub still_claimed : 1 ≤ k.word → 1 ≤ word
+  pub still_open : 2 ≤ k.word → 2 ≤ word
+  pub open_value : (x : T) → k.value ≡ Some x → 2 ≤ word
+
+-- nothing was known of a place, and it wasn't claimed
+pub record WasNew {T : Type 0} (place : ℕ) (h : Hold T) : Type 0 where
+  pub no_word : (record_of h.places place).word ≡ 0
+  pub no_value : (record_of h.places place).value ≡ None
+  pub no_claim : times place h.claims ≡ 0
+
+-- a seat of the table: what it has seen, and the slots that it has taken
+abbrev pub Seated : Type 0 → Type 0
+Seated T = Me (Option T) (Seen T)
+
+module _ {T : Type 0} where
+  abbrev pub seen : Hold T → Stage T → Seen T
+  seen h stage = record { hold = h; stage = stage }
+
+  abbrev pub idle : Hold T → Seen T
+  idle h = seen h Idle
+
+  -- an exchange of 0 for 1
+  pub record Claimed (fits : ℕ → T → Type 0) (owners : List Owner) (place found : ℕ) (m m' : Seated T) : Type 0 where
+    pub same_slots : m'.1 ≡ m.1
+    pub small : found < 4
+    pub sound : IsSound fits m'.0.hold
+    pub at_once : found ≡ 0 → (m'.0 ≡ idle (won place m.0.hold)) × WasNew place m.0.hold
+    pub lost : found ≢ 0 → (m'.0 ≡ idle (saw place found m.0.hold)) × IsFree owners place × Follows found (record_of m.0.hold.places place)
+
+  abbrev pub claim_told : (ℕ → T → Type 0) → List Owner → Step (Option T) → Seated T → ℕ → Seated T → Type 0
+  claim_told fits owners st m found m' = (place : ℕ) → st.word ≡ suc place → Claimed fits owners place found m m'
+
+  -- a load that takes the empty slot
+  abbrev pub fill_told : Step (Option T) → Seated T → ℕ → Seated T → Type 0
+  fill_told st m found m' = (place : ℕ) → st.word ≡ suc place → (m'.1 ≡ (place, None) ∷ m.1) × (m'.0 ≡ seen m.0.hold (Filling place))
+
+  -- a store of 2 that brings the value home
+  abbrev pub put_told : (ℕ → T → Type 0) → Step (Option T) → Seated T → ℕ → Seated T → Type 0
+  put_told fits st m found m' = (place : ℕ) (x : T) → st.word ≡ suc place → m.1 ≡ (place, Some x) ∷ [] → (m'.1 ≡ []) × (m'.0 ≡ idle (put_at place x m.0.hold)) × IsSound fits m'.0.hold

@@ -1,0 +1,16 @@
+//! A board: a fixed number of places, each of which is claimed once and filled once, by any threads in any order.
+#![tactic(auto)]
+
+mod answers;
+mod board;
+mod holds;
+mod owners;
+mod rule;
+mod seats;
+mod steps;
+
+pub use answers::Claiming;
+pub use board::Board;
+pub use holds::{Hold, Known};
+pub use owners::Owner;
+pub use seats::BoardSeat;

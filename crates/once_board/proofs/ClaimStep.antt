@@ -222,18 +222,18 @@ module _ {T : Type 0} (fits : ℕ → T → Type 0) (owners : List Owner) where
       subst (λ i. P i key) (sym (add-one p)) (subst (λ k. P (suc p) k) (sym is) (claims slots id p m idles inside part may))
 
   -- what the board answers
-  pub answers_won : (p found : ℕ) (m m' : Seated T) (key : List Owner) (h : Hold T) → owners ≡ key → m.0.hold ≡ h → Claimed fits owners p found m m' → found ≡ 0 → Claims key p h m'.0.hold Won
-  answers_won p found m m' key h is same told hit =
+  pub answers_won : (p word : ℕ) (m m' : Seated T) (key : List Owner) (h : Hold T) → owners ≡ key → m.0.hold ≡ h → Claimed fits owners p word m m' → word ≡ 0 → Claims key p h m'.0.hold Won
+  answers_won p word m m' key h is same told hit =
       let won_it = told.at_once hit in
       let after = ap (λ v. v.hold) won_it.0 in
       let P : List Owner → Hold T → Type 0 = λ o b. Claims o p b m'.0.hold Won in
       subst (λ o. P o h) is (subst (λ b. P owners b) same
       (after, won_it.1, ap (λ b. record_of b.places p) after ∙ noted_here m.0.hold.places p (claimed (record_of m.0.hold.places p))))
 
-  pub answers_taken : (p found : ℕ) (m m' : Seated T) (key : List Owner) (h : Hold T) → owners ≡ key → m.0.hold ≡ h → Claimed fits owners p found m m' → found ≢ 0 → Claims key p h m'.0.hold (Taken found)
-  answers_taken p found m m' key h is same told miss =
+  pub answers_taken : (p word : ℕ) (m m' : Seated T) (key : List Owner) (h : Hold T) → owners ≡ key → m.0.hold ≡ h → Claimed fits owners p word m m' → word ≢ 0 → Claims key p h m'.0.hold (Taken word)
+  answers_taken p word m m' key h is same told miss =
       let lost_it = told.lost miss in
       let after = ap (λ v. v.hold) lost_it.0 in
-      let P : List Owner → Hold T → Type 0 = λ o b. Claims o p b m'.0.hold (Taken found) in
+      let P : List Owner → Hold T → Type 0 = λ o b. Claims o p b m'.0.hold (Taken word) in
       subst (λ o. P o h) is (subst (λ b. P owners b) same
-      (after, ap (λ b. record_of b.places p) after ∙ noted_here m.0.hold.places p (read found (record_of m.0.hold.places p)), miss, told.small, lost_it.1, lost_it.2))
+      (after, ap (λ b. record_of b.places p) after ∙ noted_here m.0.hold.places p (read word (record_of m.0.hold.places p)), miss, told.small, lost_it.1, lost_it.2))

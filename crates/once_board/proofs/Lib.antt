@@ -5,3 +5,7 @@ pub mod Changes
 pub mod ClaimStep
 pub mod PutStep
 pub mod Starting
+pub mod Dividing
+pub mod SplitStep
+pub mod JoinStep
+pub mod TellStep

@@ -73,6 +73,7 @@ module _ {T : Type 0} (fits : ℕ → T → Type 0) (owners : List Owner) where
   first_sound = record {
     lawful = λ p x h. absurd (cc);
     may_stand = λ p x h. absurd (cc);
+    has_parts = omega arith;
     once = λ p. (omega arith, omega arith);
     claims_all = λ all p h. absurd (omega arith);
   }

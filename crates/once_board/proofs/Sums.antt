@@ -47,6 +47,15 @@ module _ {V : Type 0} where
   total_alone f (x ∷ xs) zero v e others = let is : f x ≡ f v = ap f (some-injective x v e) in let r = total_none f xs (λ j w d. others (suc j) w (λ s. omega arith) d) in omega arith
   total_alone f (x ∷ xs) (suc i) v e others = let is : f x ≡ 0 = others zero x (λ s. omega arith) refl in let r = total_alone f xs i v e (λ j w n d. others (suc j) w (λ s. n (omega arith)) d) in omega arith
 
+  -- one view is cut in two
+  pub total_split : (f : V → ℕ) (l : List V) (i : ℕ) (v a b : V) → get_elem? l i ≡ some v → f a + f b ≡ f v → total f (set l i a ++ b ∷ []) ≡ total f l
+  total_split f l i v a b e sum = let t = total_set f l i v a e in let u = total_end f (set l i a) b in omega arith
+
+  -- two views become one, and what is left of the other
+  pub total_join : (f : V → ℕ) (l : List V) (i j : ℕ) (v w both rest : V) → get_elem? l i ≡ some v → get_elem? (set l i both) j ≡ some w → f both + f rest ≡ f v + f w
+      → total f (set (set l i both) j rest) ≡ total f l
+  total_join f l i j v w both rest e d sum = let t = total_set f l i v both e in let u = total_set f (set l i both) j w rest d in omega arith
+
   -- a sum that isn't 0 has a view whose number isn't
   some_from : (f : V → ℕ) (x : V) (xs : List V) → 0 < total f (x ∷ xs) → Dec (f x ≡ 0) → (0 < total f xs → (i : ℕ) × (v : V) × (get_elem? xs i ≡ some v) × (0 < f v)) → (i : ℕ) × (v : V) × (get_elem? (x ∷ xs) i ≡ some v) × (0 < f v)
   some_from f x xs p (yes z) rest = let r = rest (omega arith) in (suc r.0, r.1, r.2, r.3)

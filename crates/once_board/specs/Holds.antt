@@ -38,13 +38,24 @@ module _ {T : Type 0} where
   abbrev pub split_off : Option ℕ → Hold T → Hold T
   split_off right h = record { rights = given right; parts = part_given h.parts; claims = []; puts = []; places = map unread h.places }
 
-  -- what a seat knows, and nothing that it holds
-  abbrev pub knowledge : Hold T → Hold T
-  knowledge h = record { rights = []; parts = 0; claims = []; puts = []; places = map unread h.places }
+  -- a seat without its rights, and its rights with what it knows
+  abbrev pub silent : Hold T → Hold T
+  silent h = record { rights = []; parts = h.parts; claims = h.claims; puts = h.puts; places = h.places }
+
+  abbrev pub voice : Hold T → Hold T
+  voice h = record { rights = h.rights; parts = 0; claims = []; puts = []; places = map unread h.places }
+
+  -- a seat that gets these rights back
+  abbrev pub regained : Hold T → Hold T → Hold T
+  regained h other = record { rights = h.rights ++ other.rights; parts = h.parts; claims = h.claims; puts = h.puts; places = h.places }
 
   -- two seats in one
   abbrev pub joined : Hold T → Hold T → Hold T
   joined h other = record { rights = h.rights ++ other.rights; parts = h.parts + other.parts; claims = h.claims ++ other.claims; puts = h.puts ++ other.puts; places = together h.places other.places }
+
+  -- a seat that was told what another knows
+  abbrev pub told : Hold T → Hold T → Hold T
+  told h other = record { rights = h.rights; parts = h.parts; claims = h.claims; puts = h.puts; places = together h.places (map unread other.places) }
 
   -- places that both know the value of have one value
   abbrev pub Agrees : Hold T → Hold T → Type 0
@@ -65,6 +76,10 @@ module _ {T : Type 0} where
   -- each value that is known may stand at its place
   abbrev pub FitsAll : (ℕ → T → Type 0) → Hold T → Type 0
   FitsAll fits h = (place : ℕ) (x : T) → (record_of h.places place).value ≡ Some x → fits place x
+
+  -- no seat has more parts than there are
+  abbrev pub HasParts : Hold T → Type 0
+  HasParts h = h.parts ≤ all_parts
 
   -- no place is claimed twice, and none is put twice
   abbrev pub IsOnce : Hold T → Type 0

@@ -4,17 +4,19 @@ use Rattle.atomic_table.specs.Table.{Me, Step}
 use Rattle.once_board.specs.declared.holds.Known.{Known}
 use Rattle.once_board.specs.declared.holds.Hold.{Hold}
 use Rattle.once_board.specs.declared.holds.Stage.{Stage}
-use Rattle.once_board.specs.declared.holds.Stage.TheVariants.{Idle, Filling}
+use Rattle.once_board.specs.declared.holds.Stage.TheVariants.{Idle, Filling, Turn, Joined}
 use Rattle.once_board.specs.declared.holds.Seen.{Seen}
 use Rattle.once_board.specs.declared.owners.Owner.{Owner}
 use Rattle.once_board.specs.Numbers.{times}
 use Rattle.once_board.specs.Places.{IsFree, record_of}
-use Rattle.once_board.specs.Holds.{IsLawful, FitsAll, IsOnce, ClaimsAll, won, saw, put_at}
+use Rattle.once_board.specs.Rule.{IsMet}
+use Rattle.once_board.specs.Holds.{nothing, silent, voice, joined, regained, split_kept, split_off, IsLawful, FitsAll, HasParts, IsOnce, ClaimsAll, won, saw, put_at}
 
 -- what holds of each seat at every moment
 pub record IsSound {T : Type 0} (fits : ℕ → T → Type 0) (h : Hold T) : Type 0 where
   pub lawful : IsLawful h
   pub may_stand : FitsAll fits h
+  pub has_parts : HasParts h
   pub once : IsOnce h
   pub claims_all : ClaimsAll h
 
@@ -59,3 +61,40 @@ module _ {T : Type 0} where
   -- a store of 2 that brings the value home
   abbrev pub put_told : (ℕ → T → Type 0) → Step (Option T) → Seated T → ℕ → Seated T → Type 0
   put_told fits st m found m' = (place : ℕ) (x : T) → st.word ≡ suc place → m.1 ≡ (place, Some x) ∷ [] → (m'.1 ≡ []) × (m'.0 ≡ idle (put_at place x m.0.hold)) × IsSound fits m'.0.hold
+
+  -- how a seat is cut in two: with a right or none, and its rights with what it knows
+  abbrev pub cut_kept : Option ℕ → Seen T → Seen T
+  cut_kept right v = idle (split_kept right v.hold)
+
+  abbrev pub cut_off : Option ℕ → Seen T → Seen T
+  cut_off right v = idle (split_off right v.hold)
+
+  abbrev pub silent_kept : Seen T → Seen T
+  silent_kept v = idle (silent v.hold)
+
+  abbrev pub voice_off : Seen T → Seen T
+  voice_off v = idle (voice v.hold)
+
+  -- the rights that came with the other seat go back
+  abbrev pub back_kept : Stage T → Hold T → Seen T
+  back_kept Idle h = idle h
+  back_kept (Filling p) h = seen h (Filling p)
+  back_kept (Turn p x) h = seen h (Turn p x)
+  back_kept (Joined a b) h = seen (record { rights = a.rights; parts = a.parts; claims = a.claims; puts = a.puts; places = h.places }) (Joined a b)
+
+  abbrev pub back_off : Stage T → Seen T
+  back_off Idle = idle nothing
+  back_off (Filling p) = idle nothing
+  back_off (Turn p x) = idle nothing
+  back_off (Joined a b) = idle b
+
+  -- how two seats become one
+  abbrev pub meeting : Seen T → Seen T → Seen T
+  meeting v w = seen (joined v.hold w.hold) (Joined v.hold w.hold)
+
+  abbrev pub regaining : Seen T → Seen T → Seen T
+  regaining v w = idle (regained v.hold w.hold)
+
+  -- a load that tells of two seats that were joined
+  abbrev pub settle_told : (ℕ → T → Type 0) → List Owner → Step (Option T) → Seated T → ℕ → Seated T → Type 0
+  settle_told fits owners st m found m' = (m'.1 ≡ m.1) × (m'.0 ≡ idle m.0.hold) × IsMet owners m.0.stage m.0.hold × IsSound fits m.0.hold

@@ -4,6 +4,8 @@
 mod answers;
 mod board;
 mod holds;
+mod joining;
+mod moves;
 mod owners;
 mod rule;
 mod seats;

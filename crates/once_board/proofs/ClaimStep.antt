@@ -10,14 +10,14 @@ use Rattle.once_board.specs.declared.holds.Stage.TheVariants.{Idle}
 use Rattle.once_board.specs.declared.holds.Seen.{Seen}
 use Rattle.once_board.specs.declared.owners.Owner.{Owner}
 use Rattle.once_board.specs.Numbers.{times}
-use Rattle.once_board.specs.Places.{record_of, read, claimed, IsFree}
-use Rattle.once_board.specs.Holds.{won, saw, MayClaim}
+use Rattle.once_board.specs.Places.{record_of, read, claimed, IsFree, Grows}
+use Rattle.once_board.specs.Holds.{won, saw, MayClaim, Extends}
 use Rattle.once_board.specs.Rule.{Content, vacant, awaited, filling, ready, lent, total, word_of, value_of, claim_count, fills, turn_of, one_if_some, IsHome, At, at, Knows, PlaceOk, SeatOk, Rule}
 use Rattle.once_board.specs.Told.{IsSound, Follows, WasNew, Seated, idle, Claimed, claim_told}
 use Rattle.once_board.specs.declared.answers.Claiming.TheVariants.{Won, Taken}
 use Rattle.once_board.specs.Boards.{Claims}
 use Rattle.once_board.proofs.Sums.{set_there, total_one, total_two, times_here}
-use Rattle.once_board.proofs.Records.{noted_here, noted_else}
+use Rattle.once_board.proofs.Records.{noted_here, noted_else, extends_at}
 use Rattle.once_board.proofs.Changes.{none_of, zero_unless, at_same, other_claims}
 use Rattle.once_board.proofs.Keeps.{Table, changed, OffSame, keeps, here, sound_of}
 
@@ -77,6 +77,12 @@ module _ {T : Type 0} (fits : ℕ → T → Type 0) (owners : List Owner) where
       still_open = λ h. let o = old.was_open h in omega arith;
       open_value = λ x k. let o = old.was_open (old.open_value x k) in omega arith;
     }
+
+    pub saw_extends : Extends v.hold (saw p found v.hold)
+    saw_extends =
+        let f = follows in
+        extends_at v.hold (saw p found v.hold) p (read found (record_of v.hold.places p)) refl
+        (record { still_claimed = f.still_claimed; still_open = f.still_open; same_value = λ x h. h })
 
     pub saw_sound : IsSound fits (saw p found v.hold)
     saw_sound = sound_of fits owners (changed fits owners s p found s.homes id after) saw_keeps id after (set_there s.views id v after e)
@@ -161,6 +167,11 @@ module _ {T : Type 0} (fits : ℕ → T → Type 0) (owners : List Owner) where
     won_new (ready x) ok none_yet = absurd (omega arith)
     won_new (lent x) ok none_yet = absurd (omega arith)
 
+    won_grows : (c : Content T) → PlaceOk fits owners s p c → word_of c ≡ 0 → Grows (record_of v.hold.places p) (claimed (record_of v.hold.places p))
+    won_grows c ok is =
+        let new = won_new c ok is in
+        record { still_claimed = λ h. omega arith; still_open = λ h. absurd (let z = new.no_word in omega arith); same_value = λ x h. h }
+
     -- the place is free, or its word was 0
     lost_free : get_or s.words (suc p) 0 ≢ 0 → IsFree owners p
     lost_free taken = ⊎_elim (λ free. free.0)
@@ -194,6 +205,7 @@ module _ {T : Type 0} (fits : ℕ → T → Type 0) (owners : List Owner) where
               same_slots = refl;
               small = omega arith;
               sound = sound_of fits owners (changed fits owners s p 1 s.homes id (idle (won p v.hold))) kept id (idle (won p v.hold)) (set_there s.views id v (idle (won p v.hold)) e);
+              extends = extends_at v.hold (won p v.hold) p (claimed (record_of v.hold.places p)) refl (won_grows s r id p v idles e inside' part may c ok is);
               at_once = λ z. (refl, won_new s r id p v idles e inside' part may c ok is);
               lost = λ taken. absurd (taken hit);
             })),
@@ -209,6 +221,7 @@ module _ {T : Type 0} (fits : ℕ → T → Type 0) (owners : List Owner) where
               same_slots = refl;
               small = (let is = word_is s r id p v idles e inside' in let few = small_word (r.contents p) in omega arith);
               sound = saw_sound s r id p v idles e inside';
+              extends = saw_extends s r id p v idles e inside';
               at_once = λ hit. absurd (miss hit);
               lost = λ taken. (refl, lost_free s r id p v idles e inside' part may taken, follows s r id p v idles e inside');
             })),

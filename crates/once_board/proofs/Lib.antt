@@ -9,3 +9,4 @@ pub mod Dividing
 pub mod SplitStep
 pub mod JoinStep
 pub mod TellStep
+pub mod LookStep

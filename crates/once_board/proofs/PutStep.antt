@@ -8,15 +8,16 @@ use lib.ListN.{get_elem?, length-set}
 use Rattle.atomic_table.specs.Table.{takes, gives, Allows, step, rest}
 use Rattle.atomic_table.proofs.Lists.{set_here, set_else}
 use Rattle.once_board.specs.declared.holds.Stage.TheVariants.{Idle, Filling}
+use Rattle.once_board.specs.declared.holds.Hold.{Hold}
 use Rattle.once_board.specs.declared.holds.Seen.{Seen}
 use Rattle.once_board.specs.declared.owners.Owner.{Owner}
 use Rattle.once_board.specs.Numbers.{times}
 use Rattle.once_board.specs.Places.{record_of, opened}
-use Rattle.once_board.specs.Holds.{put_at}
+use Rattle.once_board.specs.Holds.{put_at, Extends}
 use Rattle.once_board.specs.Rule.{Content, vacant, awaited, filling, ready, lent, total, word_of, value_of, fills, turn_of, At, at, Knows, PlaceOk, SeatOk, Rule}
 use Rattle.once_board.specs.Told.{IsSound, Seated, seen, idle, fill_told, put_told}
 use Rattle.once_board.proofs.Sums.{set_there, total_one, total_two, total_some, times_here}
-use Rattle.once_board.proofs.Records.{noted_here, noted_else}
+use Rattle.once_board.proofs.Records.{noted_here, noted_else, extends_at}
 use Rattle.once_board.proofs.Changes.{at_same, other_claims, fills_else, fills_here}
 use Rattle.once_board.proofs.Keeps.{Table, changed, OffSame, keeps, here, sound_of}
 
@@ -215,3 +216,8 @@ module _ {T : Type 0} (fits : ℕ → T → Type 0) (owners : List Owner) where
       → Allows (Rule fits owners) slots id m (p + 1) (λ _. 2) (λ _. put_told fits (step slots (p + 1) 2 0 none) m 2)
   opens_next slots id p x m at_it has inside fit =
       subst (λ i. Allows (Rule fits owners) slots id m i (λ _. 2) (λ _. put_told fits (step slots i 2 0 none) m 2)) (sym (add-one p)) (opens slots id p x m at_it has inside fit)
+
+-- a put loses nothing
+pub put_extends : {T : Type 0} (p : ℕ) (x : T) (h : Hold T) → (record_of h.places p).value ≡ None → Extends h (put_at p x h)
+put_extends p x h unfilled = extends_at h (put_at p x h) p (opened x (record_of h.places p)) refl
+    (record { still_claimed = λ k. omega arith; still_open = λ k. omega arith; same_value = λ y known. absurd (cc) })

@@ -1,7 +1,11 @@
 -- What is known of a place after each change of what a seat knows.
-use Rattle.std.proofs.Common.{◌≡◌, ◌≢◌, ℕ, zero, suc, List, [], ◌∷◌, map, sym, refl, ap}
+use Rattle.std.proofs.Common.{◌≡◌, ◌≢◌, ℕ, zero, suc, List, [], ◌∷◌, map, sym, refl, ap, ◌∙◌, subst}
 use Rattle.once_board.specs.declared.holds.Known.{Known}
-use Rattle.once_board.specs.Places.{unknown, record_of, noted, met, together, unread}
+use mathlib.Core.Logic.{dite}
+use native.Mathlib.Decide.{ℕ_discrete}
+use Rattle.once_board.specs.declared.holds.Hold.{Hold}
+use Rattle.once_board.specs.Holds.{Extends}
+use Rattle.once_board.specs.Places.{unknown, record_of, noted, met, together, unread, Grows}
 
 module _ {T : Type 0} where
   pub noted_here : (l : List (Known T)) (p : ℕ) (k : Known T) → record_of (noted l p k) p ≡ k
@@ -39,3 +43,17 @@ module _ {T : Type 0} where
   record_of-together (x ∷ xs) [] p = of_map (λ k. met k unknown) refl (x ∷ xs) p
   record_of-together (x ∷ xs) (y ∷ ys) zero = refl
   record_of-together (x ∷ xs) (y ∷ ys) (suc p) = record_of-together xs ys p
+
+  pub grows_same : (k : Known T) → Grows k k
+  grows_same k = record { still_claimed = λ h. h; still_open = λ h. h; same_value = λ x h. h }
+
+  -- a change at one place, of which nothing is lost
+  pub extends_at : (h h' : Hold T) (p : ℕ) (k : Known T) → h'.places ≡ noted h.places p k → Grows (record_of h.places p) k → Extends h h'
+  extends_at h h' p k is grows q = dite (ℕ_discrete q p)
+      (λ same.
+      let now : record_of h'.places p ≡ k = ap (λ l. record_of l p) is ∙ noted_here h.places p k in
+      let there : Grows (record_of h.places p) (record_of h'.places p) = subst (λ z. Grows (record_of h.places p) z) (sym now) grows in
+      subst (λ z. Grows (record_of h.places z) (record_of h'.places z)) (sym same) there)
+      (λ ne.
+      let now : record_of h'.places q ≡ record_of h.places q = ap (λ l. record_of l q) is ∙ noted_else h.places p q k ne in
+      subst (λ z. Grows (record_of h.places q) z) (sym now) (grows_same (record_of h.places q)))

@@ -1,14 +1,16 @@
 -- What contracts see of a board and of its seats, and what its calls answer.
-use Rattle.std.specs.Prelude.{◌≡◌, ◌≢◌, ℕ, ◌<◌, List, []}
+use Rattle.std.specs.Prelude.{◌≡◌, ◌≢◌, ℕ, ◌<◌, List, [], Some, None}
 use Rattle.atomic_table.specs.Seated.{TableId}
 use Rattle.once_board.specs.declared.answers.Claiming.{Claiming}
 use Rattle.once_board.specs.declared.answers.Claiming.TheVariants.{Won, Taken}
+use Rattle.once_board.specs.declared.answers.Looking.{Looking}
+use Rattle.once_board.specs.declared.answers.Looking.TheVariants.{Value, NotYet, Busy, OutOfMemory}
 use Rattle.once_board.specs.declared.holds.Hold.{Hold}
 use Rattle.once_board.specs.declared.holds.Stage.TheVariants.{Idle}
 use Rattle.once_board.specs.declared.owners.Owner.{Owner}
 use Rattle.once_board.specs.Numbers.{times}
-use Rattle.once_board.specs.Places.{IsFree, unknown, record_of, read, claimed}
-use Rattle.once_board.specs.Holds.{won, saw}
+use Rattle.once_board.specs.Places.{IsFree, unknown, record_of, read, claimed, opened}
+use Rattle.once_board.specs.Holds.{won, saw, looked}
 use Rattle.once_board.specs.Told.{IsSound, Follows, WasNew, Seated}
 
 -- which board it is, and whose its places are
@@ -43,3 +45,17 @@ module _ {T : Type 0} where
   Claims owners place before after (Taken word) =
       (after ≡ saw place word before) × (record_of after.places place ≡ read word (record_of before.places place))
       × (word ≢ 0) × (word < 4) × IsFree owners place × Follows word (record_of before.places place)
+
+  -- what a look makes of a seat, by its answer
+  abbrev pub Looks : (ℕ → T → Type 0) → ℕ → Hold T → Hold T → Looking T → Type 0
+  Looks fits place before after (Value x) =
+      (after ≡ looked place x before) × (record_of after.places place ≡ opened x (read 2 (record_of before.places place)))
+      × fits place x × ((y : T) → (record_of before.places place).value ≡ Some y → x ≡ y)
+  Looks fits place before after (NotYet word) =
+      (after ≡ saw place word before) × (record_of after.places place ≡ read word (record_of before.places place))
+      × (word < 2) × ((record_of before.places place).value ≡ None) × (word ≡ 0 → times place before.claims ≡ 0)
+      × Follows word (record_of before.places place)
+  Looks fits place before after (Busy word) =
+      (after ≡ saw place word before) × (record_of after.places place ≡ read word (record_of before.places place)) × (word ≡ 3)
+  Looks fits place before after OutOfMemory =
+      (after ≡ saw place 2 before) × (record_of after.places place ≡ read 2 (record_of before.places place))

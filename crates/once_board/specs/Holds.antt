@@ -30,6 +30,10 @@ module _ {T : Type 0} where
   abbrev pub learned : ℕ → T → Hold T → Hold T
   learned place x h = record { rights = h.rights; parts = h.parts; claims = h.claims; puts = h.puts; places = noted h.places place (opened x (record_of h.places place)) }
 
+  -- after the value of a place was read, while its word was 2
+  abbrev pub looked : ℕ → T → Hold T → Hold T
+  looked place x h = record { rights = h.rights; parts = h.parts; claims = h.claims; puts = h.puts; places = noted h.places place (opened x (read 2 (record_of h.places place))) }
+
   -- what a seat keeps when another is split off, with a right or none
   abbrev pub split_kept : Option ℕ → Hold T → Hold T
   split_kept right h = record { rights = kept right h.rights; parts = h.parts - part_given h.parts; claims = h.claims; puts = h.puts; places = h.places }

@@ -1,6 +1,6 @@
 -- What each step tells its seat.
 use Rattle.std.specs.Prelude.{◌≡◌, ◌≢◌, ℕ, suc, ◌≤◌, ◌<◌, List, [], ◌∷◌, Option, Some, None}
-use Rattle.atomic_table.specs.Table.{Me, Step}
+use Rattle.atomic_table.specs.Table.{Me, Step, rest}
 use Rattle.once_board.specs.declared.holds.Known.{Known}
 use Rattle.once_board.specs.declared.holds.Hold.{Hold}
 use Rattle.once_board.specs.declared.holds.Stage.{Stage}
@@ -10,7 +10,7 @@ use Rattle.once_board.specs.declared.owners.Owner.{Owner}
 use Rattle.once_board.specs.Numbers.{times}
 use Rattle.once_board.specs.Places.{IsFree, record_of}
 use Rattle.once_board.specs.Rule.{IsMet}
-use Rattle.once_board.specs.Holds.{nothing, silent, voice, joined, regained, split_kept, split_off, IsLawful, FitsAll, HasParts, IsOnce, ClaimsAll, won, saw, put_at}
+use Rattle.once_board.specs.Holds.{ClaimsAll, Extends, FitsAll, HasParts, IsLawful, IsOnce, OwnsAll, joined, learned, nothing, put_at, regained, saw, silent, split_kept, split_off, voice, won}
 
 -- what holds of each seat at every moment
 pub record IsSound {T : Type 0} (fits : ℕ → T → Type 0) (h : Hold T) : Type 0 where
@@ -48,6 +48,7 @@ module _ {T : Type 0} where
     pub same_slots : m'.1 ≡ m.1
     pub small : found < 4
     pub sound : IsSound fits m'.0.hold
+    pub extends : Extends m.0.hold m'.0.hold
     pub at_once : found ≡ 0 → (m'.0 ≡ idle (won place m.0.hold)) × WasNew place m.0.hold
     pub lost : found ≢ 0 → (m'.0 ≡ idle (saw place found m.0.hold)) × IsFree owners place × Follows found (record_of m.0.hold.places place)
 
@@ -98,3 +99,26 @@ module _ {T : Type 0} where
   -- a load that tells of two seats that were joined
   abbrev pub settle_told : (ℕ → T → Type 0) → List Owner → Step (Option T) → Seated T → ℕ → Seated T → Type 0
   settle_told fits owners st m found m' = (m'.1 ≡ m.1) × (m'.0 ≡ idle m.0.hold) × IsMet owners m.0.stage m.0.hold × IsSound fits m.0.hold
+
+  -- an exchange of 2 for 3
+  pub record Looked (fits : ℕ → T → Type 0) (owners : List Owner) (place found : ℕ) (m m' : Seated T) : Type 0 where
+    pub small : found < 4
+    pub sound : IsSound fits m'.0.hold
+    pub follows : Follows found (record_of m.0.hold.places place)
+    pub extends : Extends m.0.hold m'.0.hold
+    pub owns : OwnsAll owners m.0.hold m'.0.hold
+    pub unclaimed : found ≡ 0 → times place m.0.hold.claims ≡ 0
+    pub got : found ≡ 2
+        → (x : T) × (m'.0 ≡ seen (saw place 2 m.0.hold) (Turn place x)) × (m'.1 ≡ (place, Some x) ∷ m.1) × fits place x
+        × ((y : T) → (record_of m.0.hold.places place).value ≡ Some y → x ≡ y)
+    pub missed : found ≢ 2 → (m'.0 ≡ idle (saw place found m.0.hold)) × (m'.1 ≡ m.1)
+
+  abbrev pub look_told : (ℕ → T → Type 0) → List Owner → Step (Option T) → Seated T → ℕ → Seated T → Type 0
+  look_told fits owners st m found m' = (place : ℕ) → st.word ≡ suc place → Looked fits owners place found m m'
+
+  -- a store of 2 that brings the value home, by a seat that has a copy of it, and by one that has none
+  abbrev pub learn_told : (ℕ → T → Type 0) → Step (Option T) → Seated T → ℕ → Seated T → Type 0
+  learn_told fits st m found m' = (place : ℕ) (x : T) → st.word ≡ suc place → m.0.stage ≡ Turn place x → (m'.0 ≡ idle (learned place x m.0.hold)) × (m'.1 ≡ rest m.1) × IsSound fits m'.0.hold
+
+  abbrev pub leave_told : (ℕ → T → Type 0) → Step (Option T) → Seated T → ℕ → Seated T → Type 0
+  leave_told fits st m found m' = (m'.0 ≡ idle m.0.hold) × (m'.1 ≡ rest m.1) × IsSound fits m'.0.hold

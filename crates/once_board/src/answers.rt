@@ -8,3 +8,16 @@ pub enum Claiming {
     /// Exactly where the place's word was this other one. A place that is private to a right of the seat never is.
     Taken(u64),
 }
+
+/// What a look answers.
+#[derive(Debug)]
+pub enum Looking<T> {
+    /// The place's value. The word that was read was 2.
+    Value(T),
+    /// Exactly where the word that was read is this one, below 2: the place isn't open.
+    NotYet(u64),
+    /// Exactly where the word that was read is this one, 3: a seat has the turn of the place.
+    Busy(u64),
+    /// The word that was read was 2, and there was no memory for a share of the value. It is at its place again.
+    OutOfMemory,
+}

@@ -3,12 +3,13 @@ ghost use Rattle.std.specs.Prelude.{◌≡◌, ℕ, ◌^◌, ◌≤◌, ◌<◌,
 ghost use Rattle.once_board.specs.declared.answers.Claiming.TheVariants.{Won};
 ghost use Rattle.once_board.specs.Numbers.{times};
 ghost use Rattle.once_board.specs.Places.{IsPrivate, record_of, opened};
-ghost use Rattle.once_board.specs.Holds.{MayClaim, put_at};
-ghost use Rattle.once_board.specs.Boards.{IsFirst, Claims};
+ghost use Rattle.once_board.specs.Holds.{MayClaim, put_at, Extends, OwnsAll};
+ghost use Rattle.once_board.specs.Boards.{IsFirst, Claims, Looks};
 ghost use Rattle.once_board.specs.Told.{IsSound};
 
-use crate::answers::Claiming;
+use crate::answers::{Claiming, Looking};
 use crate::holds::Seen;
+use crate::looks::{share_value, take_turn};
 use crate::owners::Owner;
 use crate::rule::OnceRule;
 use crate::seats::BoardSeat;
@@ -67,6 +68,7 @@ impl<T: Share> Board<T> {
         requires may { MayClaim self.now.owners place seat.old.hold }
         ensures board { seat.new.board ≡ seat.old.board }
         ensures answer { Claims self.now.owners place seat.old.hold seat.new.hold result }
+        ensures extends { Extends seat.old.hold seat.new.hold }
         ensures private { (right : ℕ) → IsPrivate self.now.owners place right → result ≡ Won }
         ensures sound { IsSound T.fits seat.new.hold }
     {
@@ -87,10 +89,35 @@ impl<T: Share> Board<T> {
         requires fits { T.fits place value }
         ensures board { seat.new.board ≡ seat.old.board }
         ensures put { seat.new.hold ≡ put_at place value seat.old.hold }
+        ensures extends { Extends seat.old.hold seat.new.hold }
         ensures place { record_of seat.new.hold.places place ≡ opened value (record_of seat.old.hold.places place) }
         ensures sound { IsSound T.fits seat.new.hold }
     {
         fill_place(&self.table.shared, &mut seat.seat, place, value);
+    }
+
+    /// Reads a place. Where it is open and no seat has its turn, the value is shared under a turn, which is given back.
+    pub fn look(&self, seat: &mut BoardSeat<T>, place: u32) -> Looking<T>
+        requires board { seat.old.board ≡ self.now.board }
+        requires place { place < length self.now.owners }
+        ensures board { seat.new.board ≡ seat.old.board }
+        ensures answer { Looks T.fits place seat.old.hold seat.new.hold result }
+        ensures extends { Extends seat.old.hold seat.new.hold }
+        ensures owns { OwnsAll self.now.owners seat.old.hold seat.new.hold }
+        ensures sound { IsSound T.fits seat.new.hold }
+    {
+        let table = &self.table.shared;
+        let word = take_turn::<T, Brand>(table, &mut seat.seat, place);
+        if word < 2 {
+            return Looking::NotYet(word);
+        }
+        if word == 3 {
+            return Looking::Busy(word);
+        }
+        match share_value(table, &mut seat.seat, place) {
+            Ok(value) => Looking::Value(value),
+            Err(_) => Looking::OutOfMemory,
+        }
     }
 
     /// Ends the board. Values at its places are dropped.

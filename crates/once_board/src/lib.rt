@@ -5,13 +5,14 @@ mod answers;
 mod board;
 mod holds;
 mod joining;
+mod looks;
 mod moves;
 mod owners;
 mod rule;
 mod seats;
 mod steps;
 
-pub use answers::Claiming;
+pub use answers::{Claiming, Looking};
 pub use board::Board;
 pub use holds::{Hold, Known};
 pub use owners::Owner;

@@ -145,3 +145,32 @@ impl<T: Share, O: Owned> Play<Option<T>, Seen<T>> for Settles<O> {
 
     ghost then = { settle_told T.fits O.owners };
 }
+
+/// An exchange of 2 for 3, which takes the value out.
+pub struct Looks<O> {
+    marker: PhantomData<O>,
+}
+
+impl<T: Share, O: Owned> Play<Option<T>, Seen<T>> for Looks<O> {
+    ghost use Rattle.once_board.specs.Told.{look_told};
+
+    ghost then = { look_told T.fits O.owners };
+}
+
+/// A store of 2 that brings the value home, by a seat that has a copy of it.
+pub struct Learns;
+
+impl<T: Share> Play<Option<T>, Seen<T>> for Learns {
+    ghost use Rattle.once_board.specs.Told.{learn_told};
+
+    ghost then = { learn_told T.fits };
+}
+
+/// A store of 2 that brings the value home, by a seat that has no copy.
+pub struct Leaves;
+
+impl<T: Share> Play<Option<T>, Seen<T>> for Leaves {
+    ghost use Rattle.once_board.specs.Told.{leave_told};
+
+    ghost then = { leave_told T.fits };
+}

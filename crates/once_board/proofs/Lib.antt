@@ -10,3 +10,5 @@ pub mod SplitStep
 pub mod JoinStep
 pub mod TellStep
 pub mod LookStep
+pub mod LookAnswers
+pub mod StatedRule

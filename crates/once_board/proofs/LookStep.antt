@@ -288,7 +288,7 @@ module _ {T : Type 0} (fits : ℕ → T → Type 0) (owners : List Owner) where
     leave_sound = back_sound s r id p x v leaver (record_of v.hold.places p) at_it e inside leave_at leave_off refl refl refl refl leave_known
 
   -- one turn has one value
-  same_turn : (p q : ℕ) (x y : T) → Turn p x ≡ Turn q y → x ≡ y
+  pub same_turn : (p q : ℕ) (x y : T) → Turn p x ≡ Turn q y → x ≡ y
   same_turn p q x y e = cc
 
   learns_held : (slots id p : ℕ) (x : T) (v : Seen T) → v.stage ≡ Turn p x → p < slots
@@ -329,91 +329,3 @@ module _ {T : Type 0} (fits : ℕ → T → Type 0) (owners : List Owner) where
   leaves_next slots id p x m at_it has inside =
       let P : ℕ → List (ℕ × Option T) → Type 0 = λ i slot. Allows (Rule fits owners) slots id (m.0, slot) i (λ _. 2) (λ _. leave_told fits (step slots i 2 0 none) (m.0, slot) 2) in
       subst (λ i. P i m.1) (sym (add-one p)) (subst (λ slot. P (suc p) slot) (sym has) (leaves_held slots id p x m.0 at_it inside))
-
-  -- what the board answers
-
-  pub answers_not_yet : (p word : ℕ) (m m' : Seated T) (h : Hold T) → m.0.hold ≡ h → Looked fits owners p word m m' → word < 2 → Looks fits p h m'.0.hold (NotYet word)
-  answers_not_yet p word m m' h same told low =
-      let after = ap (λ v. v.hold) (told.missed (λ two. omega arith)).0 in
-      subst (λ b. Looks fits p b m'.0.hold (NotYet word)) same (
-        after,
-        ap (λ b. record_of b.places p) after ∙ noted_here m.0.hold.places p (read word (record_of m.0.hold.places p)),
-        low,
-        none_of (record_of m.0.hold.places p).value (λ x known. let o = told.follows.open_value x known in omega arith),
-        told.unclaimed,
-        told.follows,
-      )
-
-  pub answers_busy : (p word : ℕ) (m m' : Seated T) (h : Hold T) → m.0.hold ≡ h → Looked fits owners p word m m' → word ≡ 3 → Looks fits p h m'.0.hold (Busy word)
-  answers_busy p word m m' h same told three =
-      let after = ap (λ v. v.hold) (told.missed (λ two. omega arith)).0 in
-      subst (λ b. Looks fits p b m'.0.hold (Busy word)) same
-      (after, ap (λ b. record_of b.places p) after ∙ noted_here m.0.hold.places p (read word (record_of m.0.hold.places p)), three)
-
-  pub answers_refused : (p word : ℕ) (m m' : Seated T) (h : Hold T) → m.0.hold ≡ h → Looked fits owners p word m m' → word ≡ 2 → Looks fits p h m'.0.hold OutOfMemory
-  answers_refused p word m m' h same told two =
-      let after = ap (λ v. v.hold) (told.got two).1 in
-      subst (λ b. Looks fits p b m'.0.hold OutOfMemory) same (after, ap (λ b. record_of b.places p) after ∙ noted_here m.0.hold.places p (read 2 (record_of m.0.hold.places p)))
-
-  looked_is : (p : ℕ) (x : T) (h : Hold T) → learned p x (saw p 2 h) ≡ looked p x h
-  looked_is p x h i =
-      let a : Known T = read 2 (record_of h.places p) in
-      let places : noted (noted h.places p a) p (opened x (record_of (noted h.places p a) p)) ≡ noted h.places p (opened x a) =
-      ap (λ k. noted (noted h.places p a) p (opened x k)) (noted_here h.places p a) ∙ noted_twice h.places p a (opened x a) in
-      record { rights = h.rights; parts = h.parts; claims = h.claims; puts = h.puts; places = places i }
-
-  -- a copy of the value was made
-  module _ (p word : ℕ) (x : T) (m m' : Seated T) (after : Hold T) (told : Looked fits owners p word m m') (two : word ≡ 2) (turn : m'.0.stage ≡ Turn p x) (now : after ≡ learned p x m'.0.hold) where
-    the_value : (told.got two).0 ≡ x
-    the_value = same_turn p p (told.got two).0 x (sym (ap (λ v. v.stage) (told.got two).1) ∙ turn)
-
-    after_is : after ≡ looked p x m.0.hold
-    after_is = now ∙ (ap (λ v. learned p x v.hold) (told.got two).1 ∙ looked_is p x m.0.hold)
-
-    agrees_with : (y : T) → (record_of m.0.hold.places p).value ≡ Some y → x ≡ y
-    agrees_with y known = sym the_value ∙ (told.got two).4 y known
-
-    pub answers_value : Looks fits p m.0.hold after (Value x)
-    answers_value = (
-      after_is,
-      ap (λ b. record_of b.places p) after_is ∙ noted_here m.0.hold.places p (opened x (read 2 (record_of m.0.hold.places p))),
-      subst (fits p) the_value (told.got two).3,
-      agrees_with,
-    )
-
-    pub value_extends : Extends m.0.hold after
-    value_extends =
-        let k : Known T = opened x (read 2 (record_of m.0.hold.places p)) in
-        extends_at m.0.hold after p k (ap (λ b. b.places) after_is)
-        (record { still_claimed = λ h. omega arith; still_open = λ h. omega arith; same_value = λ y known. ap (λ z. Some z) (agrees_with y known) })
-
-    pub value_owns : OwnsAll owners m.0.hold after
-    value_owns q right private mine h =
-        let k : Known T = opened x (read 2 (record_of m.0.hold.places p)) in
-        let places : after.places ≡ noted m.0.hold.places p k = ap (λ b. b.places) after_is in
-        let seen_then : m'.0.hold.places ≡ noted m.0.hold.places p (read 2 (record_of m.0.hold.places p)) = ap (λ v. v.hold.places) (told.got two).1 in
-        told.owns q right private mine (dite (ℕ_discrete q p)
-        (λ same. subst (λ z. 1 ≤ (record_of m'.0.hold.places z).word) (sym same)
-        (subst (λ (z : Known T). 1 ≤ z.word) (sym (ap (λ l. record_of l p) seen_then ∙ noted_here m.0.hold.places p (read 2 (record_of m.0.hold.places p)))) (omega arith)))
-        (λ ne. subst (λ (z : Known T). 1 ≤ z.word)
-        (ap (λ l. record_of l q) places ∙ (noted_else m.0.hold.places p q k ne ∙ sym (ap (λ l. record_of l q) seen_then ∙ noted_else m.0.hold.places p q (read 2 (record_of m.0.hold.places p)) ne))) h))
-
-  -- the same, of a seat that holds h before and `after` after
-  module _ (p word : ℕ) (m m' : Seated T) (key : List Owner) (h after : Hold T) (owned : owners ≡ key) (same : m.0.hold ≡ h) (told : Looked fits owners p word m m') (two : word ≡ 2) where
-    pub value_answer : (x : T) → m'.0.stage ≡ Turn p x → after ≡ learned p x m'.0.hold → Looks fits p h after (Value x)
-    value_answer x turn now = subst (λ b. Looks fits p b after (Value x)) same (answers_value p word x m m' after told two turn now)
-
-    pub value_grows : (x : T) → m'.0.stage ≡ Turn p x → after ≡ learned p x m'.0.hold → Extends h after
-    value_grows x turn now = subst (λ b. Extends b after) same (value_extends p word x m m' after told two turn now)
-
-    pub value_owned : (x : T) → m'.0.stage ≡ Turn p x → after ≡ learned p x m'.0.hold → OwnsAll key h after
-    value_owned x turn now = subst (λ o. OwnsAll o h after) owned (subst (λ b. OwnsAll owners b after) same (value_owns p word x m m' after told two turn now))
-
-    pub refused_answer : after ≡ m'.0.hold → Looks fits p h after OutOfMemory
-    refused_answer now = subst (λ b. Looks fits p h b OutOfMemory) (sym now) (answers_refused p word m m' h same told two)
-
-    pub refused_grows : after ≡ m'.0.hold → Extends h after
-    refused_grows now = subst (λ b. Extends b after) same (subst (λ b. Extends m.0.hold b) (sym now) told.extends)
-
-    pub refused_owned : after ≡ m'.0.hold → OwnsAll key h after
-    refused_owned now = subst (λ o. OwnsAll o h after) owned (subst (λ b. OwnsAll owners b after) same (subst (λ b. OwnsAll owners m.0.hold b) (sym now) told.owns))

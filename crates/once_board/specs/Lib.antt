@@ -4,3 +4,5 @@ pub mod Holds
 pub mod Rule
 pub mod Told
 pub mod Boards
+pub mod Stated
+pub mod Worked

@@ -1,6 +1,6 @@
 use Rattle.std.proofs.Common.{◌≡◌, ℕ, ◌<◌, ◌≤◌, ◌≢◌, arith, ap, subst, sym}
 use Rattle.once_board.specs.Boards.{Looks}
-use Rattle.once_board.proofs.LookStep.{answers_not_yet, answers_busy, value_answer, value_grows, value_owned, refused_answer, refused_grows, refused_owned}
+use Rattle.once_board.proofs.LookAnswers.{answers_not_yet, answers_busy, value_answer, value_grows, value_owned, refused_answer, refused_grows, refused_owned}
 use Rattle.once_board.proofs.board.Board.look.Goals as goal
 use Rattle.once_board.proofs.board.Board.look.Goals.{in-Ok, in-Err}
 

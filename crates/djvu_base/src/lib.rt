@@ -1,4 +1,5 @@
-//! What every crate of the viewer speaks of: names of files, faults and their places, meters, rasters and lists.
+//! What every crate of the viewer speaks of: names of files, faults and their places, meters, rasters, lists
+//! and shares.
 //!
 //! `specs/` has the definitions that the contracts cite: `Name` (what a name is, and the order of names), `Library`
 //! (the files that a run works on), `FaultKind` (the words of faults) and `Picture` (what a raster holds).
@@ -10,6 +11,7 @@ mod lists;
 mod meters;
 mod names;
 mod rasters;
+mod shares;
 #[cfg(test)]
 mod tests;
 
@@ -19,3 +21,4 @@ pub use lists::Items;
 pub use meters::{CountMeter, Meter};
 pub use names::Name;
 pub use rasters::Raster;
+pub use shares::Share;

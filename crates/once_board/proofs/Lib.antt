@@ -1,0 +1,14 @@
+pub mod Sums
+pub mod Records
+pub mod Keeps
+pub mod Changes
+pub mod ClaimStep
+pub mod PutStep
+pub mod Starting
+pub mod Dividing
+pub mod SplitStep
+pub mod JoinStep
+pub mod TellStep
+pub mod LookStep
+pub mod LookAnswers
+pub mod StatedRule

@@ -1,0 +1,85 @@
+-- The rule that each step keeps gives the rule in plain words.
+use Rattle.std.proofs.Common.{◌≡◌, ◌≢◌, ℕ, zero, suc, ◌+◌, ◌<◌, ◌≤◌, List, [], ◌∷◌, length, get_or, sym, refl, ap, subst, ◌∙◌, arith, Option, Some, None}
+use mathlib.Core.Option.{some}
+use lib.ListN.{get_elem?}
+use Rattle.atomic_table.specs.Table.{State}
+use Rattle.once_board.specs.declared.holds.Seen.{Seen}
+use Rattle.once_board.specs.declared.owners.Owner.{Owner}
+use Rattle.once_board.specs.Numbers.{times, all_parts}
+use Rattle.once_board.specs.Places.{record_of}
+use Rattle.once_board.specs.Rule.{Content, vacant, awaited, filling, ready, lent, total, word_of, at, PlaceOk, Rule}
+use Rattle.once_board.specs.Stated.{place_word, claims_of, turns_of, NoneKnows, AllAgree, Stated}
+use Rattle.once_board.proofs.Sums.{parts_are}
+use Rattle.once_board.proofs.Changes.{none_of, zero_unless}
+use Rattle.once_board.proofs.ClaimStep.{small_word}
+use Rattle.once_board.proofs.Keeps.{Table, claim_known}
+
+module _ {T : Type 0} (fits : ℕ → T → Type 0) (owners : List Owner) (s : Table T) (r : Rule fits owners s) where
+  none_with : (p : ℕ) (c : Content T) → PlaceOk fits owners s p c → ((x : T) → Rattle.once_board.specs.Rule.value_of c ≡ Some x → ⊥) → NoneKnows s p
+  none_with p c ok none_here seat v e = none_of (record_of v.hold.places p).value (λ x known. none_here x ((ok.knowers seat v e).true_value x known))
+
+  free_of : (p : ℕ) (c : Content T) → PlaceOk fits owners s p c → word_of c ≡ 0 → (claims_of s p ≡ 0) × NoneKnows s p
+  free_of p vacant ok is = (ok.claimed_by, none_with p vacant ok (λ x h. cc))
+  free_of p awaited ok is = absurd (omega arith)
+  free_of p filling ok is = absurd (omega arith)
+  free_of p (ready x) ok is = absurd (omega arith)
+  free_of p (lent x) ok is = absurd (omega arith)
+
+  claimed_of : (p : ℕ) (c : Content T) → PlaceOk fits owners s p c → word_of c ≡ 1 → (claims_of s p ≡ 1) × NoneKnows s p
+  claimed_of p vacant ok is = absurd (omega arith)
+  claimed_of p awaited ok is = (ok.claimed_by, none_with p awaited ok (λ x h. cc))
+  claimed_of p filling ok is = (ok.claimed_by, none_with p filling ok (λ x h. cc))
+  claimed_of p (ready x) ok is = absurd (omega arith)
+  claimed_of p (lent x) ok is = absurd (omega arith)
+
+  value_there : (p : ℕ) (c : Content T) → PlaceOk fits owners s p c → 2 ≤ word_of c → (x : T) × fits p x × AllAgree s p x
+  value_there p vacant ok is = absurd (omega arith)
+  value_there p awaited ok is = absurd (omega arith)
+  value_there p filling ok is = absurd (omega arith)
+  value_there p (ready x) ok is = (x, ok.may_stand x refl, (λ seat v y e known. let t = (ok.knowers seat v e).true_value y known in cc))
+  value_there p (lent x) ok is = (x, ok.may_stand x refl, (λ seat v y e known. let t = (ok.knowers seat v e).true_value y known in cc))
+
+  home_of : (p : ℕ) (c : Content T) → PlaceOk fits owners s p c → p < length s.homes → word_of c ≡ 2 → (x : T) × (get_elem? s.homes p ≡ some (some (Some x))) × AllAgree s p x
+  home_of p vacant ok inside is = absurd (omega arith)
+  home_of p awaited ok inside is = absurd (omega arith)
+  home_of p filling ok inside is = absurd (omega arith)
+  home_of p (ready x) ok inside is = (x, ok.home inside, (λ seat v y e known. let t = (ok.knowers seat v e).true_value y known in cc))
+  home_of p (lent x) ok inside is = absurd (omega arith)
+
+  turn_there : (p : ℕ) (c : Content T) → PlaceOk fits owners s p c → word_of c ≡ 3 → turns_of s p ≡ 1
+  turn_there p vacant ok is = absurd (omega arith)
+  turn_there p awaited ok is = absurd (omega arith)
+  turn_there p filling ok is = absurd (omega arith)
+  turn_there p (ready x) ok is = absurd (omega arith)
+  turn_there p (lent x) ok is = ok.turned_by
+
+  word_at : (p : ℕ) → place_word s p ≡ word_of (r.contents p)
+  word_at p = (r.place_each p).word
+
+  part_of : (parts claims : ℕ) → (parts ≡ 0 → claims ≡ 0) → 1 ≤ claims → 1 ≤ parts
+  part_of zero claims none h = absurd (let z = none refl in omega arith)
+  part_of (suc n) claims none h = omega arith
+
+  one_claim_of : (p : ℕ) → place_word s p ≢ 0 → claims_of s p ≡ 1
+  one_claim_of p busy =
+      let is : place_word s p ≡ word_of (r.contents p) = word_at p in
+      (r.place_each p).claimed_by ∙ claim_known (r.contents p) (let b = busy in omega arith)
+
+  pub stated : Stated fits owners s
+  stated = record {
+    free = λ p is. free_of p (r.contents p) (r.place_each p) (sym (word_at p) ∙ is);
+    claimed = λ p is. claimed_of p (r.contents p) (r.place_each p) (sym (word_at p) ∙ is);
+    has_value = λ p is. let w : place_word s p ≡ word_of (r.contents p) = word_at p in value_there p (r.contents p) (r.place_each p) (omega arith);
+    at_home = λ p inside is. home_of p (r.contents p) (r.place_each p) inside (sym (word_at p) ∙ is);
+    one_turn = λ p is. turn_there p (r.contents p) (r.place_each p) (sym (word_at p) ∙ is);
+    no_other_word = λ p. let w : place_word s p ≡ word_of (r.contents p) = word_at p in let few = small_word (r.contents p) in omega arith;
+    one_seat = λ right h. r.right_each right (let n = parts_are in omega arith);
+    one_claim = one_claim_of;
+    has_part = λ seat v p e h. part_of v.hold.parts (times p v.hold.claims) (λ none. (r.seat_each seat v e).claims_need_a_part none p) h;
+    parts = r.all_the_parts ∙ parts_are;
+    shown = λ seat v p right e private mine busy.
+      let w : place_word s p ≡ word_of (r.contents p) = word_at p in
+      ((r.place_each p).knowers seat v e).own_place right private mine (let b = busy in omega arith);
+    stays_claimed = λ seat v p e h. let w : place_word s p ≡ word_of (r.contents p) = word_at p in let k = ((r.place_each p).knowers seat v e).was_claimed h in omega arith;
+    stays_open = λ seat v p e h. let w : place_word s p ≡ word_of (r.contents p) = word_at p in let k = ((r.place_each p).knowers seat v e).was_open h in omega arith;
+  }

@@ -1,0 +1,10 @@
+use Rattle.std.proofs.Common.{arith}
+use Rattle.once_board.proofs.ClaimStep.{claims_next}
+use Rattle.once_board.proofs.steps.claim_word.Goals as goal
+
+pub compare_exchange-requires : goal.compare_exchange-requires
+compare_exchange-requires g c = (
+  c.requires.board.0,
+  (let place = c.requires.place in let words = c.requires.board.1 in omega arith),
+  claims_next _ _ _ _ c.args.place _ _ c.requires.board.2 c.requires.idle c.requires.place c.requires.part c.requires.may,
+)

@@ -1,6 +1,6 @@
 -- Rows of masks that become black a word at a time.
-use Rattle.std.proofs.Common.{◌≡◌, ◌≢◌, ℕ, ◌+◌, ◌-◌, ◌*◌, ◌/◌, ◌^◌, ◌<◌, ◌≤◌, inl, inr, Bool, true, false, cond, ◌&&◌, ◌||◌, eqb, ltb, leb, List, get_or, arith, tests, refl, ap, sym, ◌∙◌}
-use Rattle.std.proofs.lemmas.Bool.{cases_lt, cases_order, lt-ltb, le-ltb, le-leb, lt-leb}
+use Rattle.std.proofs.Common.{◌≡◌, ℕ, ◌+◌, ◌-◌, ◌<◌, ◌≤◌, inl, inr, Bool, true, false, cond, ◌&&◌, ◌||◌, eqb, ltb, List, arith, tests, refl, ap, ◌∙◌}
+use Rattle.std.proofs.lemmas.Bool.{cases_lt, cases_order, le-ltb}
 use Rattle.bit_plane.specs.Bits.{digit}
 use Rattle.bit_plane.specs.Pixels.{Pixels, is_black_at}
 use Rattle.layer_compose.specs.Blackening.{Blackens, in_run}

@@ -1,11 +1,11 @@
 -- Pixels that become black one after the other.
-use Rattle.std.proofs.Common.{◌≡◌, ◌≢◌, ℕ, ◌+◌, ◌-◌, ◌*◌, ◌/◌, ◌^◌, ◌<◌, ◌≤◌, bit_and, inl, inr, Bool, true, false, cond, ◌&&◌, ◌||◌, eqb, ltb, leb, w64, List, length, get_or, arith, tests, refl, ap, sym, ◌∙◌}
-use Rattle.std.proofs.lemmas.Bool.{cases_order, cases_lt, lt-ltb, le-ltb, le-leb, eq-eqb, ne_eqb, and_left, and_right}
+use Rattle.std.proofs.Common.{◌≡◌, ℕ, ◌+◌, ◌-◌, ◌/◌, ◌^◌, ◌<◌, ◌≤◌, inl, inr, Bool, true, false, cond, ◌||◌, eqb, w64, List, get_or, arith, tests, refl, ap, sym, ◌∙◌}
+use Rattle.std.proofs.lemmas.Bool.{cases_order, cases_lt}
 use Rattle.std.specs.Int.{trailing_zeros}
 use Rattle.std.proofs.lemmas.Nat.{shr-shr}
 use Rattle.bit_plane.specs.Bits.{digit}
 use Rattle.bit_plane.proofs.BitLemmas.{digit-shr, digit_above}
-use Rattle.bit_plane.proofs.InkLemmas.{Lowest, lowest, digit-zero}
+use Rattle.bit_plane.proofs.InkLemmas.{lowest, digit-zero}
 use Rattle.layer_compose.specs.Blackening.{Blackens, in_run}
 
 -- a test that takes nothing changes nothing

@@ -1,12 +1,11 @@
 -- Sums of drawings.
-use Rattle.std.proofs.Common.{◌≡◌, ℕ, zero, suc, ◌+◌, ◌-◌, ◌*◌, ◌/◌, ◌%◌, ◌<◌, ◌≤◌, Bool, true, false, not, cond, Option, Some, None, List, length, map, sum, count_by, replicate, arith, refl, ap, sym, subst, add-one, ◌∙◌}
-use Rattle.std.specs.List.{range_with_len, sum_by}
+use Rattle.std.proofs.Common.{◌≡◌, ℕ, zero, suc, ◌+◌, ◌-◌, ◌*◌, ◌/◌, ◌%◌, Bool, true, false, not, cond, Some, None, count_by, replicate, arith, refl, ap, sym, ◌∙◌}
+use Rattle.std.specs.List.{range_with_len}
 use Rattle.std.proofs.Math.Nat.{mul_comm, mul_assoc}
-use Rattle.std.proofs.lemmas.Nat.{div_below, mod_below, div-mul-add, mod-mul-add}
+use Rattle.std.proofs.lemmas.Nat.{div-mul-add, mod-mul-add}
 use Rattle.std.proofs.lemmas.List.{length-replicate, get_or-replicate}
 use Rattle.std.proofs.lemmas.List.FromFn.{fill_by_all}
 use Rattle.bit_plane.specs.Pixels.{Pixels, IsPlane, is_black_at, black_count}
-use Rattle.bit_plane.proofs.PixelLemmas.{wide}
 use Rattle.bit_plane.proofs.Counting.{black_places}
 use Rattle.bit_plane.proofs.Totals.{total, total_same, total_joined, total_front, sum_of_map, sum_of_range}
 use Rattle.layer_compose.specs.declared.layers.Layers.{Layers}

@@ -1,4 +1,4 @@
-use Rattle.std.proofs.Common.{◌≡◌, ℕ, ◌+◌, ◌*◌, ◌^◌, ◌<◌, get_or, length, arith, rules, refl, ap, sym, ◌∙◌}
+use Rattle.std.proofs.Common.{◌≡◌, ◌*◌, ◌^◌, ◌<◌, get_or, length, arith, rules, refl, ap}
 use Rattle.std.specs.Int.Count.{ones-le}
 use Rattle.bit_plane.specs.Bits.{bit}
 use Rattle.bit_plane.proofs.BitLemmas.{bit-lt}

@@ -1,4 +1,4 @@
-use Rattle.std.proofs.Common.{◌≡◌, ◌/◌, ◌^◌, ◌+◌, ◌<◌, ℕ, w64, arith, sym, ap, ◌∙◌}
+use Rattle.std.proofs.Common.{w64, arith, sym, ◌∙◌}
 use Rattle.std.specs.Int.{trailing_zeros}
 use Rattle.layer_compose.proofs.Pixelwise.{next_of, rest_next, run_goes_on, run_ends}
 use Rattle.layer_compose.proofs.blackening.blacken_run.Goals as goal

@@ -1,4 +1,4 @@
-use Rattle.std.proofs.Common.{◌≤◌, ℕ, Bool, arith}
+use Rattle.std.proofs.Common.{ℕ, Bool, arith}
 use Rattle.bit_plane.specs.Pixels.{is_black_at}
 use Rattle.layer_compose.proofs.MaskRows.{first_more}
 use Rattle.layer_compose.proofs.masks.blacken_row.Goals as goal

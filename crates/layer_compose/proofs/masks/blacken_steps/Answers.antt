@@ -1,4 +1,4 @@
-use Rattle.std.proofs.Common.{◌≡◌, ◌<◌, ◌≤◌, ◌-◌, ◌*◌, ◌/◌, ◌%◌, ◌+◌, ◌^◌, ℕ, Bool, true, false, List, length, arith, subst, ap, sym, ◌∙◌}
+use Rattle.std.proofs.Common.{◌≡◌, ◌-◌, ◌*◌, ◌/◌, ◌%◌, ◌+◌, ℕ, Bool, List, length, arith, subst, ap, sym, ◌∙◌}
 use Rattle.std.specs.Int.{div_ceil}
 use Rattle.bit_plane.specs.Pixels.{is_black_at}
 use Rattle.layer_compose.specs.Blackening.{Blackens}

@@ -1,6 +1,5 @@
 use Rattle.bit_plane.proofs.Counting.{read_digits}
-use Rattle.std.proofs.Common.{◌+◌, ◌*◌, ◌≡◌, arith, ap, sym, cond, ◌∙◌}
-use Rattle.bit_plane.specs.Bits.{bit, digit}
+use Rattle.std.proofs.Common.{◌+◌, ◌≡◌, arith, ap, cond, ◌∙◌}
 use Rattle.bit_plane.specs.Pixels.{Pixels, is_black_at}
 use Rattle.bit_plane.proofs.planes.Plane.bits.Goals as goal
 

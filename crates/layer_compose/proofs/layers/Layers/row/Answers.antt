@@ -1,4 +1,4 @@
-use Rattle.std.proofs.Common.{◌≡◌, ◌*◌, ◌-◌, ℕ, List, length, replicate, rules, arith, subst, sym, ap, ◌∙◌}
+use Rattle.std.proofs.Common.{◌≡◌, ◌*◌, ◌-◌, length, replicate, rules, ap, ◌∙◌}
 use Rattle.layer_compose.proofs.DrawnRows.{masked, unmasked, row_drawn}
 use Rattle.layer_compose.proofs.layers.Layers.row.Goals as goal
 

@@ -1,4 +1,4 @@
-use Rattle.std.proofs.Common.{◌≡◌, ◌*◌, ◌+◌, ◌-◌, ℕ, arith, ap, ◌∙◌}
+use Rattle.std.proofs.Common.{◌≡◌, ◌*◌, ◌+◌, arith, ap, ◌∙◌}
 use Rattle.layer_compose.specs.Drawing.{white_count}
 use Rattle.layer_compose.proofs.Summing.{sum_of_white, all_white, others_white}
 use Rattle.layer_compose.proofs.layers.Layers.sum.Goals as goal

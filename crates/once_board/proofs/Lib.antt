@@ -12,3 +12,4 @@ pub mod TellStep
 pub mod LookStep
 pub mod LookAnswers
 pub mod StatedRule
+pub mod OwnerLists

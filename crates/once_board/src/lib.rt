@@ -12,6 +12,8 @@ mod owners;
 mod rule;
 mod seats;
 mod steps;
+#[cfg(test)]
+mod tests;
 
 pub use answers::{Claiming, Looking};
 pub use board::Board;

@@ -13,3 +13,5 @@ pub mod LookStep
 pub mod LookAnswers
 pub mod StatedRule
 pub mod OwnerLists
+pub mod RowSteps
+pub mod Gathering

@@ -1,5 +1,5 @@
 -- Seats that are joined one after another.
-use Rattle.std.proofs.Common.{◌≡◌, ℕ, zero, suc, ◌+◌, ◌≤◌, ◌⊎◌, ⊎_elim, List, [], ◌∷◌, ◌++◌, sym, refl, ap, subst, ◌∙◌, arith, Some}
+use Rattle.std.proofs.Common.{◌≡◌, ℕ, zero, suc, ◌+◌, ⊎_elim, List, [], ◌∷◌, ◌++◌, sym, ap, subst, ◌∙◌, arith}
 use mathlib.Core.Option.{some, some-injective, some-ne-none}
 use lib.ListN.{get_elem?}
 use Rattle.atomic_table.proofs.Lists.{at_snoc}
@@ -7,7 +7,6 @@ use Rattle.once_board.specs.declared.holds.Hold.{Hold}
 use Rattle.once_board.specs.Numbers.{times}
 use Rattle.once_board.specs.Places.{record_of}
 use Rattle.once_board.specs.Holds.{joined, Agrees, Extends}
-use Rattle.once_board.specs.Rule.{total}
 use Rattle.once_board.specs.Gathered.{Gathered}
 use Rattle.once_board.proofs.Sums.{total_end, times-append}
 use Rattle.once_board.proofs.Records.{grows_same}
@@ -39,14 +38,14 @@ module _ {T : Type 0} where
   gathered_more seats h other after old is extends extends_other = record {
     parts = let t = total_end (λ (s : Hold T). s.parts) seats other in let o = old.parts in let a = ap (λ (s : Hold T). s.parts) is in omega arith;
     rights = λ right.
-      let t = total_end (λ (s : Hold T). times right s.rights) seats other in let o = old.rights right in
-      let a : times right after.rights ≡ times right h.rights + times right other.rights = ap (λ (s : Hold T). times right s.rights) is ∙ times-append right h.rights other.rights in omega arith;
+        let t = total_end (λ (s : Hold T). times right s.rights) seats other in let o = old.rights right in
+        let a : times right after.rights ≡ times right h.rights + times right other.rights = ap (λ (s : Hold T). times right s.rights) is ∙ times-append right h.rights other.rights in omega arith;
     claims = λ place.
-      let t = total_end (λ (s : Hold T). times place s.claims) seats other in let o = old.claims place in
-      let a : times place after.claims ≡ times place h.claims + times place other.claims = ap (λ (s : Hold T). times place s.claims) is ∙ times-append place h.claims other.claims in omega arith;
+        let t = total_end (λ (s : Hold T). times place s.claims) seats other in let o = old.claims place in
+        let a : times place after.claims ≡ times place h.claims + times place other.claims = ap (λ (s : Hold T). times place s.claims) is ∙ times-append place h.claims other.claims in omega arith;
     puts = λ place.
-      let t = total_end (λ (s : Hold T). times place s.puts) seats other in let o = old.puts place in
-      let a : times place after.puts ≡ times place h.puts + times place other.puts = ap (λ (s : Hold T). times place s.puts) is ∙ times-append place h.puts other.puts in omega arith;
+        let t = total_end (λ (s : Hold T). times place s.puts) seats other in let o = old.puts place in
+        let a : times place after.puts ≡ times place h.puts + times place other.puts = ap (λ (s : Hold T). times place s.puts) is ∙ times-append place h.puts other.puts in omega arith;
     knows_each = λ number s there. ⊎_elim
         (λ before. extends_trans s h after (old.knows_each number s before) extends)
         (λ it. subst (λ z. Extends z after) it extends_other)

@@ -1,8 +1,8 @@
 -- Owners that are all free.
-use Rattle.std.proofs.Common.{◌≡◌, ℕ, zero, suc, List, [], ◌∷◌, ◌++◌, refl}
+use Rattle.std.proofs.Common.{ℕ, zero, suc, List, [], ◌∷◌, ◌++◌, refl}
 use Rattle.once_board.specs.declared.owners.Owner.{Owner}
-use Rattle.once_board.specs.declared.owners.Owner.TheVariants.{Free, Private}
-use Rattle.once_board.specs.Places.{owner_of, IsFree}
+use Rattle.once_board.specs.declared.owners.Owner.TheVariants.{Free}
+use Rattle.once_board.specs.Places.{IsFree}
 
 pub one_more_free : (owners : List Owner) → ((place : ℕ) → IsFree owners place) → (place : ℕ) → IsFree (owners ++ Free ∷ []) place
 one_more_free [] free zero = refl

@@ -1,18 +1,16 @@
 -- What each call of a board does to rows of places.
-use Rattle.std.proofs.Common.{◌≡◌, ◌≢◌, ℕ, zero, suc, ◌+◌, ◌*◌, ◌<◌, ◌≤◌, ◌==◌, max, eq-eqb, ne_eqb, if◌then◌else◌, ◌⊎◌, ⊎_elim, inl, inr, List, [], ◌∷◌, ◌++◌, map, sym, refl, ap, subst, ◌∙◌, arith, Option, Some, None}
+use Rattle.std.proofs.Common.{◌≡◌, ◌≢◌, ℕ, zero, suc, ◌+◌, ◌<◌, ◌≤◌, eq-eqb, ne_eqb, ⊎_elim, inr, List, [], ◌∷◌, ◌++◌, sym, refl, ap, subst, ◌∙◌, arith, Option, Some}
 use Rattle.std.proofs.lemmas.Nat.{same_from_place}
 use mathlib.Core.Logic.{dite}
 use native.Mathlib.Decide.{ℕ_discrete, dec_le}
 use Rattle.once_board.specs.declared.holds.Known.{Known}
 use Rattle.once_board.specs.declared.holds.Hold.{Hold}
 use Rattle.once_board.specs.declared.owners.Owner.{Owner}
-use Rattle.once_board.specs.Numbers.{times, given, kept}
-use Rattle.once_board.specs.Places.{IsPrivate, record_of, noted, claimed, opened, unread, Grows}
-use Rattle.once_board.specs.Holds.{won, put_at, split_kept, split_off, joined, told, MayClaim, Extends, OwnsAll}
+use Rattle.once_board.specs.Numbers.{times}
+use Rattle.once_board.specs.Places.{record_of, noted, claimed, opened}
+use Rattle.once_board.specs.Holds.{won, put_at, split_kept, split_off, MayClaim, Extends, OwnsAll}
 use Rattle.once_board.specs.Boards.{IsFirst}
-use Rattle.once_board.specs.Told.{WasNew}
 use Rattle.once_board.specs.Rows.{Rows, place_in, IsLaid, one_more, further, HasValue, row_values, InRows}
-use Rattle.once_board.proofs.Sums.{times_here}
 use Rattle.once_board.proofs.Records.{noted_here, noted_else, record_of-unread}
 use Rattle.once_board.proofs.SplitStep.{kept_given}
 use Rattle.once_board.proofs.JoinStep.{max_from, sum_from}
@@ -29,9 +27,9 @@ zero_stays n (suc m) z h = absurd (let o = h (omega arith) in omega arith)
 still_below : (counts : ℕ → ℕ) (row other at : ℕ) → at < one_more row counts other → ((other ≡ row) × (at ≡ counts row) → ⊥) → at < counts other
 still_below counts row other at below apart = dite (ℕ_discrete other row)
     (λ same.
-      let height : one_more row counts other ≡ suc (counts other) = rw (eq-eqb other row same) in
-      dite (dec_le (suc at) (counts other)) (λ low. low)
-        (λ top. absurd (apart (same, (let c : counts other ≡ counts row = ap counts same in omega arith)))))
+    let height : one_more row counts other ≡ suc (counts other) = rw (eq-eqb other row same) in
+    dite (dec_le (suc at) (counts other)) (λ low. low)
+    (λ top. absurd (apart (same, (let c : counts other ≡ counts row = ap counts same in omega arith)))))
     (λ ne. let height : one_more row counts other ≡ counts other = rw (ne_eqb other row ne) in omega arith)
 
 still_from : (counts : ℕ → ℕ) (row other at : ℕ) → one_more row counts other ≤ at → counts other ≤ at
@@ -61,9 +59,9 @@ module _ {T : Type 0} (rows : Rows) (owners : List Owner) (laid : IsLaid rows ow
   rows_stay counts h h' extends owns rights old = record {
     known_below = λ row at r a below. value_stays h h' extends (place_in rows row at) (old.known_below row at r a below);
     empty_from = λ row at r a from mine.
-      let had = rights (rows.right_of row) mine in
-      zero_stays (record_of h.places (place_in rows row at)).word (record_of h'.places (place_in rows row at)).word (old.empty_from row at r a from had)
-          (λ seen. owns (place_in rows row at) (rows.right_of row) (laid row at r a) had seen);
+        let had = rights (rows.right_of row) mine in
+        zero_stays (record_of h.places (place_in rows row at)).word (record_of h'.places (place_in rows row at)).word (old.empty_from row at r a from had)
+        (λ seen. owns (place_in rows row at) (rows.right_of row) (laid row at r a) had seen);
   }
 
   -- the value at a row's count is known
@@ -71,19 +69,19 @@ module _ {T : Type 0} (rows : Rows) (owners : List Owner) (laid : IsLaid rows ow
   rows_read counts row h old has = record {
     known_below = λ other at r a below. dite (ℕ_discrete other row)
         (λ same.
-          let height : one_more row counts other ≡ suc (counts other) = rw (eq-eqb other row same) in
-          dite (dec_le (suc at) (counts other))
-            (λ low. old.known_below other at r a low)
-            (λ top.
-              let is : at ≡ counts row = (let c : counts other ≡ counts row = ap counts same in omega arith) in
-              subst (λ z. HasValue h z) (λ i. place_in rows (sym same i) (sym is i)) has))
+        let height : one_more row counts other ≡ suc (counts other) = rw (eq-eqb other row same) in
+        dite (dec_le (suc at) (counts other))
+        (λ low. old.known_below other at r a low)
+        (λ top.
+        let is : at ≡ counts row = (let c : counts other ≡ counts row = ap counts same in omega arith) in
+        subst (λ z. HasValue h z) (λ i. place_in rows (sym same i) (sym is i)) has))
         (λ ne.
-          let height : one_more row counts other ≡ counts other = rw (ne_eqb other row ne) in
-          old.known_below other at r a (omega arith));
+        let height : one_more row counts other ≡ counts other = rw (ne_eqb other row ne) in
+        old.known_below other at r a (omega arith));
     empty_from = λ other at r a from mine. old.empty_from other at r a
         (dite (ℕ_discrete other row)
-          (λ same. let height : one_more row counts other ≡ suc (counts other) = rw (eq-eqb other row same) in omega arith)
-          (λ ne. let height : one_more row counts other ≡ counts other = rw (ne_eqb other row ne) in omega arith))
+        (λ same. let height : one_more row counts other ≡ suc (counts other) = rw (eq-eqb other row same) in omega arith)
+        (λ ne. let height : one_more row counts other ≡ counts other = rw (ne_eqb other row ne) in omega arith))
         mine;
   }
 
@@ -100,11 +98,11 @@ module _ {T : Type 0} (rows : Rows) (owners : List Owner) (laid : IsLaid rows ow
     known_below = λ other at k a below. dite (ℕ_discrete (place_in rows other at) (place_in rows row (counts row)))
         (λ same. subst (λ z. HasValue after z) (sym same) has)
         (λ ne. let v = old.known_below other at k a (still_below counts row other at below (λ is. ne (λ i. place_in rows (is.0 i) (is.1 i)))) in
-          (v.0, ap (λ (z : Known T). z.value) (elsewhere (place_in rows other at) ne) ∙ v.1));
+        (v.0, ap (λ (z : Known T). z.value) (elsewhere (place_in rows other at) ne) ∙ v.1));
     empty_from = λ other at k a from mine.
         let ne : place_in rows other at ≢ place_in rows row (counts row) = λ same.
-              let is = other_place rows other at row (counts row) a room same in
-              passed counts row other at from is in
+        let is = other_place rows other at row (counts row) a room same in
+        passed counts row other at from is in
         ap (λ (z : Known T). z.word) (elsewhere (place_in rows other at) ne) ∙ old.empty_from other at k a (still_from counts row other at from) (rights (rows.right_of other) mine);
   }
 
@@ -131,13 +129,13 @@ module _ {T : Type 0} (rows : Rows) (owners : List Owner) (laid : IsLaid rows ow
         (λ second. value_stays other after extends_other (place_in rows row at) (old_other.known_below row at r a second))
         (max_from (suc at) (counts row) (others row) below);
     empty_from = λ row at r a from mine.
-      let place : ℕ = place_in rows row at in
-      let sum = rights (rows.right_of row) in
-      ⊎_elim
+        let place : ℕ = place_in rows row at in
+        let sum = rights (rows.right_of row) in
+        ⊎_elim
         (λ first. zero_stays (record_of h.places place).word (record_of after.places place).word (old.empty_from row at r a (omega arith) first)
-          (λ seen. owns place (rows.right_of row) (laid row at r a) first seen))
+        (λ seen. owns place (rows.right_of row) (laid row at r a) first seen))
         (λ second. zero_stays (record_of other.places place).word (record_of after.places place).word (old_other.empty_from row at r a (omega arith) second)
-          (λ seen. owns_other place (rows.right_of row) (laid row at r a) second seen))
+        (λ seen. owns_other place (rows.right_of row) (laid row at r a) second seen))
         (sum_from (times (rows.right_of row) h.rights) (times (rows.right_of row) other.rights) (omega arith));
   }
 
@@ -150,11 +148,11 @@ module _ {T : Type 0} (rows : Rows) (owners : List Owner) (laid : IsLaid rows ow
         (λ second. value_stays other after extends_other (place_in rows row at) (old_other.known_below row at r a second))
         (max_from (suc at) (counts row) (others row) below);
     empty_from = λ row at r a from mine.
-      let place : ℕ = place_in rows row at in
-      let same = rights (rows.right_of row) in
-      let had : 1 ≤ times (rows.right_of row) h.rights = omega arith in
-      zero_stays (record_of h.places place).word (record_of after.places place).word (old.empty_from row at r a (omega arith) had)
-          (λ seen. owns place (rows.right_of row) (laid row at r a) had seen);
+        let place : ℕ = place_in rows row at in
+        let same = rights (rows.right_of row) in
+        let had : 1 ≤ times (rows.right_of row) h.rights = omega arith in
+        zero_stays (record_of h.places place).word (record_of after.places place).word (old.empty_from row at r a (omega arith) had)
+        (λ seen. owns place (rows.right_of row) (laid row at r a) had seen);
   }
 
   -- a seat is split off
@@ -167,11 +165,11 @@ module _ {T : Type 0} (rows : Rows) (owners : List Owner) (laid : IsLaid rows ow
   pub rows_off : (counts : ℕ → ℕ) (right : Option ℕ) (h : Hold T) → ((x : ℕ) → right ≡ Some x → 1 ≤ times x h.rights) → InRows rows counts h → InRows rows counts (split_off right h)
   rows_off counts right h has old = record {
     known_below = λ row at r a below.
-      let v = old.known_below row at r a below in
-      (v.0, ap (λ (k : Known T). k.value) (record_of-unread h.places (place_in rows row at)) ∙ v.1);
+        let v = old.known_below row at r a below in
+        (v.0, ap (λ (k : Known T). k.value) (record_of-unread h.places (place_in rows row at)) ∙ v.1);
     empty_from = λ row at r a from mine.
-      ap (λ (k : Known T). k.word) (record_of-unread h.places (place_in rows row at))
-      ∙ old.empty_from row at r a from (let both = kept_given right h.rights has (rows.right_of row) in omega arith);
+        ap (λ (k : Known T). k.word) (record_of-unread h.places (place_in rows row at))
+        ∙ old.empty_from row at r a from (let both = kept_given right h.rights has (rows.right_of row) in omega arith);
   }
 
   -- what was known of a row is what is known of it later
@@ -181,3 +179,10 @@ module _ {T : Type 0} (rows : Rows) (owners : List Owner) (laid : IsLaid rows ow
       let v = known n (omega arith) in
       let last : (record_of h'.places (place_in rows row n)).value ≡ (record_of h.places (place_in rows row n)).value = (extends (place_in rows row n)).same_value v.0 v.1 ∙ sym v.1 in
       (λ i. values_stay h h' extends row n (λ at below. known at (omega arith)) i ++ last i ∷ [])
+
+  -- counts that are the same for each row
+  pub rows_same : (counts others : ℕ → ℕ) (h : Hold T) → ((row : ℕ) → row < rows.count → counts row ≡ others row) → InRows rows counts h → InRows rows others h
+  rows_same counts others h same old = record {
+    known_below = λ row at r a below. old.known_below row at r a (let c = same row r in omega arith);
+    empty_from = λ row at r a from mine. old.empty_from row at r a (let c = same row r in omega arith) mine;
+  }

@@ -137,7 +137,10 @@ fn a_place_is_busy_under_the_turn_of_another(rt: HostRuntime) -> Result<(), Fail
     assert_eq!(rt; board.claim(&mut first, 0), Claiming::Won);
     board.put(&mut first, 0, 50);
     let BoardSeat { seat: mut holder } = second;
-    assert_eq!(rt; take_turn::<u64, Brand>(&board.table.shared, &mut holder, 0), 2);
+    assert_eq!(rt;
+        take_turn::<u64, Brand>(&board.table.shared, &mut holder, 0),
+        2
+    );
     assert!(rt; is_busy(board.look(&mut first, 0)));
     assert_eq!(rt; share_value(&board.table.shared, &mut holder, 0)?, 50);
     assert!(rt; has_value(board.look(&mut first, 0), 50));

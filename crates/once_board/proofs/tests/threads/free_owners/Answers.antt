@@ -1,5 +1,4 @@
-use Rattle.std.proofs.Common.{ℕ, ◌+◌, arith, ap, subst, sym, length, length-append, ◌≡◌, ◌++◌, ◌∷◌, [], ◌∙◌}
-use Rattle.once_board.specs.declared.owners.Owner.{Owner}
+use Rattle.std.proofs.Common.{ℕ, ◌+◌, ap, subst, sym, length, length-append, ◌∷◌, [], ◌∙◌}
 use Rattle.once_board.specs.declared.owners.Owner.TheVariants.{Free}
 use Rattle.once_board.specs.Places.{IsFree}
 use Rattle.once_board.proofs.OwnerLists.{one_more_free}

@@ -12,3 +12,6 @@ pub mod TellStep
 pub mod LookStep
 pub mod LookAnswers
 pub mod StatedRule
+pub mod OwnerLists
+pub mod RowSteps
+pub mod Gathering

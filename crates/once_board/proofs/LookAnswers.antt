@@ -1,30 +1,18 @@
 -- What the board answers to a look, and what it makes of the seat.
-use Rattle.std.proofs.Common.{◌≡◌, ℕ, suc, ◌+◌, ◌<◌, ◌≤◌, ◌==◌, List, [], ◌∷◌, length, get_or, set, sym, refl, ap, subst, ◌∙◌, arith, add-one, Option, Some, None}
-use mathlib.Core.Option.{some, none}
-use mathlib.Core.Option as maybe
+use Rattle.std.proofs.Common.{◌≡◌, ℕ, ◌<◌, ◌≤◌, List, sym, ap, subst, ◌∙◌, arith, Some}
 use mathlib.Core.Logic.{dite}
 use native.Mathlib.Decide.{ℕ_discrete}
-use lib.ListN.{get_elem?, length-set}
-use prog.Atomic.{either}
-use Rattle.atomic_table.specs.Table.{Act, keeps as stays, takes, gives, Allows, Valid, step, stepped, carried_after}
-use Rattle.atomic_table.proofs.Lists.{exchanged, set_here, set_else}
 use Rattle.once_board.specs.declared.holds.Known.{Known}
 use Rattle.once_board.specs.declared.holds.Hold.{Hold}
-use Rattle.once_board.specs.declared.holds.Stage.TheVariants.{Idle, Turn}
-use Rattle.once_board.specs.declared.holds.Seen.{Seen}
+use Rattle.once_board.specs.declared.holds.Stage.TheVariants.{Turn}
 use Rattle.once_board.specs.declared.owners.Owner.{Owner}
 use Rattle.once_board.specs.declared.answers.Looking.TheVariants.{Value, NotYet, Busy, OutOfMemory}
 use Rattle.once_board.specs.Boards.{Looks}
-use Rattle.once_board.specs.Numbers.{times}
-use Rattle.once_board.specs.Places.{record_of, noted, read, opened, IsPrivate}
+use Rattle.once_board.specs.Places.{record_of, noted, read, opened}
 use Rattle.once_board.specs.Holds.{saw, learned, OwnsAll, Extends, looked}
-use Rattle.once_board.specs.Rule.{Content, vacant, awaited, filling, ready, lent, total, word_of, value_of, claim_count, fill_count, put_count, turn_count, fills, turn_of, one_if_some, IsHome, At, at, Knows, PlaceOk, SeatOk, Rule}
-use Rattle.once_board.specs.Told.{IsSound, Seated, seen, idle, Looked, look_told, learn_told, leave_told}
-use Rattle.once_board.proofs.Sums.{set_there, total_one}
+use Rattle.once_board.specs.Told.{Seated, Looked}
 use Rattle.once_board.proofs.Records.{noted_here, noted_else, noted_twice, extends_at}
-use Rattle.once_board.proofs.Changes.{at_same, turn_else, turn_here, none_of}
-use Rattle.once_board.proofs.ClaimStep.{small_word, saw_keeps, word_is, follows, saw_sound, saw_extends}
-use Rattle.once_board.proofs.Keeps.{Table, changed, OffSame, keeps, here, sound_of}
+use Rattle.once_board.proofs.Changes.{none_of}
 use Rattle.once_board.proofs.LookStep.{same_turn}
 
 module _ {T : Type 0} (fits : ℕ → T → Type 0) (owners : List Owner) where

@@ -1,16 +1,14 @@
 -- The rule that each step keeps gives the rule in plain words.
-use Rattle.std.proofs.Common.{◌≡◌, ◌≢◌, ℕ, zero, suc, ◌+◌, ◌<◌, ◌≤◌, List, [], ◌∷◌, length, get_or, sym, refl, ap, subst, ◌∙◌, arith, Option, Some, None}
+use Rattle.std.proofs.Common.{◌≡◌, ◌≢◌, ℕ, zero, suc, ◌<◌, ◌≤◌, List, length, sym, refl, ◌∙◌, arith, Some}
 use mathlib.Core.Option.{some}
 use lib.ListN.{get_elem?}
-use Rattle.atomic_table.specs.Table.{State}
-use Rattle.once_board.specs.declared.holds.Seen.{Seen}
 use Rattle.once_board.specs.declared.owners.Owner.{Owner}
-use Rattle.once_board.specs.Numbers.{times, all_parts}
+use Rattle.once_board.specs.Numbers.{times}
 use Rattle.once_board.specs.Places.{record_of}
 use Rattle.once_board.specs.Rule.{Content, vacant, awaited, filling, ready, lent, total, word_of, at, PlaceOk, Rule}
 use Rattle.once_board.specs.Stated.{place_word, claims_of, turns_of, NoneKnows, AllAgree, Stated}
 use Rattle.once_board.proofs.Sums.{parts_are}
-use Rattle.once_board.proofs.Changes.{none_of, zero_unless}
+use Rattle.once_board.proofs.Changes.{none_of}
 use Rattle.once_board.proofs.ClaimStep.{small_word}
 use Rattle.once_board.proofs.Keeps.{Table, claim_known}
 
@@ -78,8 +76,8 @@ module _ {T : Type 0} (fits : ℕ → T → Type 0) (owners : List Owner) (s : T
     has_part = λ seat v p e h. part_of v.hold.parts (times p v.hold.claims) (λ none. (r.seat_each seat v e).claims_need_a_part none p) h;
     parts = r.all_the_parts ∙ parts_are;
     shown = λ seat v p right e private mine busy.
-      let w : place_word s p ≡ word_of (r.contents p) = word_at p in
-      ((r.place_each p).knowers seat v e).own_place right private mine (let b = busy in omega arith);
+        let w : place_word s p ≡ word_of (r.contents p) = word_at p in
+        ((r.place_each p).knowers seat v e).own_place right private mine (let b = busy in omega arith);
     stays_claimed = λ seat v p e h. let w : place_word s p ≡ word_of (r.contents p) = word_at p in let k = ((r.place_each p).knowers seat v e).was_claimed h in omega arith;
     stays_open = λ seat v p e h. let w : place_word s p ≡ word_of (r.contents p) = word_at p in let k = ((r.place_each p).knowers seat v e).was_open h in omega arith;
   }

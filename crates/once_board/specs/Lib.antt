@@ -6,3 +6,5 @@ pub mod Told
 pub mod Boards
 pub mod Stated
 pub mod Worked
+pub mod Rows
+pub mod Gathered

@@ -1,5 +1,5 @@
 -- Seats of the worked values, at a board of numbers.
-use Rattle.std.specs.Prelude.{ℕ, [], ◌∷◌, Option, Some, None}
+use Rattle.std.specs.Prelude.{ℕ, [], ◌∷◌, Option}
 use Rattle.once_board.specs.declared.holds.Known.{Known}
 use Rattle.once_board.specs.declared.holds.Hold.{Hold}
 use Rattle.once_board.specs.Places.{record_of}

@@ -1,4 +1,13 @@
 //! A board: a fixed number of places, each of which is claimed once and filled once, by any threads in any order.
+//!
+//! Threads share a board by reference, and each steps with a seat of its own. A seat has no bytes: what it holds and knows
+//! (`Hold`) is there for contracts alone. So a call costs its atomic steps and nothing more, and who may claim a place is
+//! shown by the caller and never tested.
+//!
+//! Words and slots are a table of `atomic_table`. `rule` names the rule that every step keeps (`specs/Rule`), `steps`,
+//! `moves` and `looks` have the steps, and `board` and `joining` the calls. `specs/Holds` says what each call makes of a
+//! seat, `specs/Boards` what it answers, and `specs/Stated` the rule in plain words. `specs/Rows` and `specs/Gathered` are
+//! for the layers above.
 #![tactic(auto)]
 
 mod answers;
@@ -12,6 +21,8 @@ mod owners;
 mod rule;
 mod seats;
 mod steps;
+#[cfg(test)]
+mod tests;
 
 pub use answers::{Claiming, Looking};
 pub use board::Board;

@@ -1,0 +1,42 @@
+-- Rows of places, for the layers above: each row is private to one right and is filled from its start.
+use Rattle.std.specs.Prelude.{◌≡◌, ℕ, zero, suc, ◌+◌, ◌*◌, ◌==◌, ◌≤◌, ◌<◌, max, List, [], ◌∷◌, ◌++◌, Option, Some, if◌then◌else◌}
+use Rattle.once_board.specs.declared.holds.Hold.{Hold}
+use Rattle.once_board.specs.declared.owners.Owner.{Owner}
+use Rattle.once_board.specs.Numbers.{times}
+use Rattle.once_board.specs.Places.{IsPrivate, record_of}
+
+-- so many rows of one width, and the right that each is private to
+pub record Rows : Type 0 where
+  pub count : ℕ
+  pub width : ℕ
+  pub right_of : ℕ → ℕ
+
+-- the place of a row at a position
+abbrev pub place_in : Rows → ℕ → ℕ → ℕ
+place_in rows row at = row * rows.width + at
+
+-- a board whose places are these rows
+abbrev pub IsLaid : Rows → List Owner → Type 0
+IsLaid rows owners = (row at : ℕ) → row < rows.count → at < rows.width → IsPrivate owners (place_in rows row at) (rows.right_of row)
+
+-- how far each row is filled: one more in one row, and the further of two
+abbrev pub one_more : ℕ → (ℕ → ℕ) → ℕ → ℕ
+one_more row counts other = if other == row then suc (counts other) else counts other
+
+abbrev pub further : (ℕ → ℕ) → (ℕ → ℕ) → ℕ → ℕ
+further counts others row = max (counts row) (others row)
+
+module _ {T : Type 0} where
+  abbrev pub HasValue : Hold T → ℕ → Type 0
+  HasValue h place = (x : T) × ((record_of h.places place).value ≡ Some x)
+
+  -- what stands in a row up to a position, so far as a seat knows it
+  abbrev pub row_values : Rows → Hold T → ℕ → ℕ → List (Option T)
+  row_values rows h row zero = []
+  row_values rows h row (suc at) = row_values rows h row at ++ (record_of h.places (place_in rows row at)).value ∷ []
+
+  -- a seat and its rows: it knows each place below a row's count, and where it holds the row's right it knows that nothing
+  -- was claimed from the count on
+  pub record InRows (rows : Rows) (counts : ℕ → ℕ) (h : Hold T) : Type 0 where
+    pub known_below : (row at : ℕ) → row < rows.count → at < rows.width → at < counts row → HasValue h (place_in rows row at)
+    pub empty_from : (row at : ℕ) → row < rows.count → at < rows.width → counts row ≤ at → 1 ≤ times (rows.right_of row) h.rights → (record_of h.places (place_in rows row at)).word ≡ 0

@@ -149,7 +149,7 @@ without (decision.Bit bit) value e = absurd (cc)
 without decision.NeedBytes value e = absurd (cc)
 without decision.Exhausted value e = absurd (cc)
 
-known_answer : (wanted : Wanted) (chunk : Chunk) (reading : Reading) (phase : Phase) (given : Decision) (value : ℤ) → (next_coded wanted chunk reading).answer ≡ given →
+pub known_answer : (wanted : Wanted) (chunk : Chunk) (reading : Reading) (phase : Phase) (given : Decision) (value : ℤ) → (next_coded wanted chunk reading).answer ≡ given →
     answer_in wanted chunk reading phase ≡ answer.Number value → phase ≡ Known value
 known_answer wanted chunk reading (Sign low high) given value e answered = absurd (without given value (ap answer_without (sym e) ∙ answered))
 known_answer wanted chunk reading (Doubling side cutoff) given value e answered = absurd (without given value (ap answer_without (sym e) ∙ answered))

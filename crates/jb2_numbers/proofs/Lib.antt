@@ -1,7 +1,9 @@
 pub mod Bounds
+pub mod Cutting
 pub mod Decoding
 pub mod Ending
 pub mod Keys
 pub mod Names
 pub mod Sound
+pub mod Starting
 pub mod Stepping

@@ -1,7 +1,11 @@
 //! Laws and worked values of the definitions, as clauses of functions that do nothing.
-ghost use Rattle.std.specs.Prelude.{◌≡◌, ◌↔◌, ◌+◌, ◌<◌, ◌≤◌, ◌≤ℤ◌, ℕ, ℤ, pos, negsuc, Bool, true, false, List, [], ◌∷◌, length, min, Option, Some, None, int_le, IsTrue};
+ghost use Rattle.std.specs.Prelude.{◌≡◌, ◌↔◌, ◌+◌, ◌<◌, ◌≤◌, ◌≤ℤ◌, ℕ, ℤ, pos, negsuc, Bool, true, false, List, [], ◌∷◌, ◌++◌, length, min, Option, Some, None, int_le, IsTrue};
 ghost use Rattle.zp_table.specs.Listing.{flat_rows};
+ghost use Rattle.zp_table.specs.declared.rows.Row.{Row};
+ghost use Rattle.zp_table.specs.Rows.{IsTable};
 ghost use Rattle.zp_decoder.specs.Decision.{Interval};
+ghost use Rattle.zp_decoder.specs.Decoder.{IsStanding};
+ghost use Rattle.zp_decoder.specs.Runs.{room};
 ghost use Rattle.jb2_numbers.specs.declared.roots.Root.{Root};
 ghost use Rattle.jb2_numbers.specs.declared.reader.NumberStep.TheVariants as answer;
 ghost use Rattle.jb2_numbers.specs.declared.phases.Phase.TheVariants.{Known};
@@ -80,4 +84,35 @@ pub fn numbers_end()
         ArePossible number (steps count number from (begun states place)).decisions }
     ensures last { (number : Wanted) (from : Chunk) (states : Name → ℕ) (place : Option Interval) → AreBounds number.low number.high →
         step number from (read_on number from (begun states place)) ≡ read_on number from (begun states place) }
+{}
+
+/// While a number is read, states stay rows of the table, and the decoder stands where decisions lead.
+pub fn readings_stay_within()
+    ensures states { (number : Wanted) (from : Chunk) (at : Reading) (count : ℕ) → IsTable from.table → ((name : Name) → at.states name < length from.table) →
+        IsStanding (length from.payload) at.place → (name : Name) → (steps count number from at).states name < length from.table }
+    ensures standing { (number : Wanted) (from : Chunk) (at : Reading) (count : ℕ) → IsTable from.table → ((name : Name) → at.states name < length from.table) →
+        IsStanding (length from.payload) at.place → IsStanding (length from.payload) (steps count number from at).place }
+{}
+
+/// Each decision of a number that is coded leaves room for fewer.
+pub fn readings_leave_room()
+    ensures room { (number : Wanted) (from : Chunk) (at : Reading) (count : ℕ) → IsTable from.table → ((name : Name) → at.states name < length from.table) →
+        IsStanding (length from.payload) at.place → room from.payload (steps count number from at).place + (steps count number from at).coded ≤ room from.payload at.place + at.coded }
+    ensures coded { (number : Wanted) (from : Chunk) (at : Reading) (count : ℕ) → IsTable from.table → ((name : Name) → at.states name < length from.table) →
+        IsStanding (length from.payload) at.place → at.coded ≤ (steps count number from at).coded }
+{}
+
+/// However the bytes of a chunk are cut: a number that was read as far as some of them go, and is read on with more, is the
+/// one that is read from all of them.
+pub fn cuts_change_nothing()
+    ensures { (number : Wanted) (rows : List Row) (payload more : List ℕ) (ended : Bool) (states : Name → ℕ) (place : Option Interval) → AreBounds number.low number.high →
+        IsTable rows → ((name : Name) → states name < length rows) → IsStanding (length payload) place →
+        read_on number (chunk rows (payload ++ more) ended) (read_on number (chunk rows payload false) (begun states place)) ≡ read_on number (chunk rows (payload ++ more) ended) (begun states place) }
+{}
+
+/// A number from 0 to 11 has a decision that is coded, whatever it is.
+pub fn types_are_coded()
+    ensures { (root : Root) (from : Chunk) (states : Name → ℕ) (place : Option Interval) (value : ℤ) →
+        answer_at (wanted root (pos 0) (pos 11)) from (read_on (wanted root (pos 0) (pos 11)) from (begun states place)) ≡ answer.Number value →
+        0 < (read_on (wanted root (pos 0) (pos 11)) from (begun states place)).coded }
 {}

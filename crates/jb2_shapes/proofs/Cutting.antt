@@ -23,7 +23,7 @@ determined_by rows form payload ended place bit e =
       | inr missing ↦ let needs : (outcome_of rows form payload ended place).answer ≡ decision.NeedBytes = rw missing refl in absurd (let same = sym e ∙ needs in cc)
     ]
 
-moved_below : (states : States) (colours : List Bool) (state count : ℕ) → AreBelow count states → state < count → AreBelow count (with_state states colours state)
+pub moved_below : (states : States) (colours : List Bool) (state count : ℕ) → AreBelow count states → state < count → AreBelow count (with_state states colours state)
 moved_below states colours state count below within other =
     elim (same_colours colours other) as (λ same. state_or same state states other < count) [ true ↦ within | false ↦ below other ]
 

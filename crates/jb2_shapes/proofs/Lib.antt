@@ -3,3 +3,4 @@ pub mod Windowing
 pub mod Going
 pub mod Refining
 pub mod Cutting
+pub mod Leaving

@@ -1,10 +1,11 @@
 //! Laws and worked values of the definitions, as clauses of functions that do nothing.
-ghost use Rattle.std.specs.Prelude.{◌≡◌, ◌≢◌, ℕ, ℤ, Bool, List, length, ◌++◌, true, false, [], ◌∷◌, replicate, Some, None, pos, negsuc};
+ghost use Rattle.std.specs.Prelude.{◌≡◌, ◌≢◌, ◌+◌, ◌≤◌, ℕ, ℤ, Bool, List, length, ◌++◌, true, false, [], ◌∷◌, replicate, Some, None, pos, negsuc};
 ghost use Rattle.zp_table.specs.Listing.{flat_rows};
 ghost use Rattle.zp_table.specs.declared.rows.Row.{Row};
 ghost use Rattle.zp_table.specs.Rows.{IsTable};
 ghost use Rattle.zp_decoder.specs.Decision.{interval};
 ghost use Rattle.zp_decoder.specs.Decoder.{IsStanding};
+ghost use Rattle.zp_decoder.specs.Runs.{room};
 ghost use Rattle.bit_plane.specs.Pixels.{Pixels, blank};
 ghost use Rattle.bit_plane.specs.Ink.{ink_box_of};
 ghost use Rattle.jb2_shapes.specs.Contexts.{States, AreBelow, fresh, with_state};
@@ -37,6 +38,16 @@ pub fn readings_stay_within()
     ensures { (context : Pixels → ℤ → ℤ → List Bool) (rows : List Row) (payload : List ℕ) (ended : Bool) (at : Progress) →
         IsTable rows → AreBelow (length rows) at.states → IsStanding (length payload) at.place →
         AreBelow (length rows) (reading_of context rows payload ended at).at.states × IsStanding (length payload) (reading_of context rows payload ended at).at.place }
+{}
+
+/// Each pixel that is read leaves room for fewer decisions, and pixels that were read stay read.
+pub fn readings_leave_room()
+    ensures room { (context : Pixels → ℤ → ℤ → List Bool) (rows : List Row) (payload : List ℕ) (ended : Bool) (at : Progress) →
+        IsTable rows → AreBelow (length rows) at.states → IsStanding (length payload) at.place →
+        room payload (reading_of context rows payload ended at).at.place + (reading_of context rows payload ended at).at.sketch.number ≤ room payload at.place + at.sketch.number }
+    ensures number { (context : Pixels → ℤ → ℤ → List Bool) (rows : List Row) (payload : List ℕ) (ended : Bool) (at : Progress) →
+        IsTable rows → AreBelow (length rows) at.states → IsStanding (length payload) at.place →
+        at.sketch.number ≤ (reading_of context rows payload ended at).at.sketch.number }
 {}
 
 /// Shapes and shifts, worked out from the definitions. The shapes with the table of DjVu files were worked out by another

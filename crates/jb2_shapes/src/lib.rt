@@ -24,6 +24,9 @@ mod windows;
 
 pub use contexts::ShapeContexts;
 pub use direct::DirectReader;
-pub use laws::{contexts_are_named, cuts_change_nothing, readings_stay_within, worked_shapes};
+pub use laws::{
+    contexts_are_named, cuts_change_nothing, readings_leave_room, readings_stay_within,
+    worked_shapes,
+};
 pub use refined::RefineReader;
 pub use steps::ShapeStep;

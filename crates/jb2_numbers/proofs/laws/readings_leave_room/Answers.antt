@@ -1,0 +1,8 @@
+use Rattle.jb2_numbers.proofs.Cutting.{stays_behind}
+use Rattle.jb2_numbers.proofs.laws.readings_leave_room.Goals as goal
+
+pub returns-clause-room : goal.returns-clause-room
+returns-clause-room c number from at count table below stands = (stays_behind number from table at count below stands).leaves
+
+pub returns-clause-coded : goal.returns-clause-coded
+returns-clause-coded c number from at count table below stands = (stays_behind number from table at count below stands).more

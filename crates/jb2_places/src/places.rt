@@ -56,6 +56,8 @@ impl Places {
             result ≡ place image_height earlier (record { new_row = true; dx = dx; dy = dy; width = width; height = height }) }
         ensures after { (image_height : ℕ) (earlier : List Placement) → IsAfter image_height earlier self.old →
             IsAfter image_height (earlier ++ record { new_row = true; dx = dx; dy = dy; width = width; height = height } ∷ []) self.new }
+        ensures left { Within (2 ^ 59) result.left }
+        ensures bottom { Within (2 ^ 59) result.bottom }
     {
         let left = moved(self.row_left, dx);
         let bottom = bottom_under(moved(self.row_bottom, dy), height);
@@ -75,6 +77,8 @@ impl Places {
             result ≡ place image_height earlier (record { new_row = false; dx = dx; dy = dy; width = width; height = height }) }
         ensures after { (image_height : ℕ) (earlier : List Placement) → IsAfter image_height earlier self.old →
             IsAfter image_height (earlier ++ record { new_row = false; dx = dx; dy = dy; width = width; height = height } ∷ []) self.new }
+        ensures left { Within (2 ^ 59) result.left }
+        ensures bottom { Within (2 ^ 59) result.bottom }
     {
         let [latest, middle, oldest] = self.bottoms;
         let left = moved(self.last_right, dx);
@@ -127,7 +131,9 @@ fn bottom_under(top: i64, height: i32) -> i64
 fn from_zero(left: i64, bottom: i64) -> Spot
     requires left { Within (2 ^ 58) left }
     requires bottom { Within (2 ^ 58) bottom }
-    ensures { result ≡ spot_at left bottom }
+    ensures spot { result ≡ spot_at left bottom }
+    ensures left { Within (2 ^ 59) result.left }
+    ensures bottom { Within (2 ^ 59) result.bottom }
 {
     Spot {
         left: left - 1,

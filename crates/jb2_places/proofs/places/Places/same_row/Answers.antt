@@ -35,7 +35,7 @@ pub returns-clause-spot : goal.returns-clause-spot
 returns-clause-spot c = λ h earlier after.
     further_spot h earlier c.self.inside.row_left c.self.inside.row_bottom c.self.inside.last_right c.self.inside.bottoms
     c.args.dx c.args.dy c.args.width c.args.height (to_z w64 (of_z w64 c.moved-left.result)) (to_z w64 (of_z w64 c.moved-bottom.result))
-    c.args.self.now c.from_zero.result c.self.view_is c.from_zero.ensures (omega (arith, ints))
+    c.args.self.now c.from_zero.result c.self.view_is c.from_zero.ensures.spot (omega (arith, ints))
     (omega (arith, ints, is_baseline (goal.at.returns-clause-spot c).After-moved-bottom)) after
 
 pub returns-clause-after : goal.returns-clause-after

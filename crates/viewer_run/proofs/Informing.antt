@@ -11,15 +11,14 @@ use Rattle.iff_chunks.specs.declared.stages.Stage.{Stage}
 use Rattle.iff_chunks.specs.Chunks.{Form, Chunk, Chunks, Tail, InHead, InHeader, InData, InPad, FormEnd, Broken, chunks_of, chunks_in_all, end_of}
 use Rattle.iff_chunks.specs.Events.{Event, Begun, Header, Data, ChunkEnd, data_events, chunk_events, tail_events, form_events, events_of, tell, with_data, GoesOn, Settles, IsEvent}
 use Rattle.iff_chunks.specs.Told.{Told, pending}
-use Rattle.viewer_run.specs.declared.reading.FileEnd.{FileEnd}
-use Rattle.viewer_run.specs.declared.reading.PageEnd.{PageEnd}
-use Rattle.viewer_run.specs.declared.reading.PageEnd.TheVariants as page_end
+use Rattle.page_decoder.specs.declared.ends.FileEnd.{FileEnd}
+use Rattle.page_decoder.specs.declared.ends.PageEnd.{PageEnd}
+use Rattle.page_decoder.specs.declared.ends.PageEnd.TheVariants as page_end
 use Rattle.viewer_run.specs.Info.{form_lines, header_line, tail_line, heading_lines, event_line, event_lines, step_line, fault_text, info_report, Informs, InformsWhole}
 use Rattle.viewer_run.specs.Texts.{Texts, page_fault}
-use Rattle.viewer_run.specs.Progress.{is_quiet, ended_so, mark_of, ending}
-use Rattle.viewer_run.specs.Reading.{Ending, Finished, Fault, NeedBytes, closed, ending_of}
-use Rattle.viewer_run.proofs.Extending.{ends_same}
-use Rattle.viewer_run.proofs.Walks.{Feeds, quiet_end, quiet_tell, whole_file}
+use Rattle.page_decoder.specs.Ends.{is_quiet, ended_so, mark_of, ending}
+use Rattle.page_decoder.specs.Reading.{Ending, Finished, Fault, NeedBytes, closed, ending_of}
+use Rattle.viewer_run.proofs.Walks.{Feeds, ends_same, quiet_end, quiet_tell, whole_file}
 
 data_lines : (name bytes : List ℕ) (events : List Event) → event_lines name (data_events bytes ++ events) ≡ event_lines name events
 data_lines name [] events = refl
@@ -112,9 +111,9 @@ less_left rest next before after used answer fewer within q n = let less = fewer
 
 -- the fault of form, by where the file ends
 abbrev pub ending_text : List ℕ → Ending → Texts
-ending_text name Finished = record { out = []; report = []; refused = false }
-ending_text name (Fault kind offset) = record { out = []; report = page_fault name kind offset; refused = true }
-ending_text name NeedBytes = record { out = []; report = []; refused = false }
+ending_text name Finished = record { out = []; report = []; refused = false; work = 0 }
+ending_text name (Fault kind offset) = record { out = []; report = page_fault name kind offset; refused = true; work = 0 }
+ending_text name NeedBytes = record { out = []; report = []; refused = false; work = 0 }
 
 fault_ending : (name : List ℕ) (tail : Tail) → fault_text name tail ≡ ending_text name (ending_of tail)
 fault_ending name InHead = refl
@@ -126,15 +125,15 @@ fault_ending name (Broken kind offset) = refl
 
 -- the whole report of a file, by the walker's last answer
 pub report_so : (file name lines : List ℕ) (walker : Stage) (end : FileEnd) (answer : WalkStep) (last : PageEnd) → InformsWhole file name lines walker → ((taken : List ℕ) (told : List Event) → Told taken told walker → Settles answer (chunks_in_all taken).tail) → last ≡ ended_so answer end (length file)
-    → info_report name (mark_of end) file ≡ record { out = (ending_text name (ending last)).out; report = lines ++ (ending_text name (ending last)).report; refused = (ending_text name (ending last)).refused }
+    → info_report name (mark_of end) file ≡ record { out = (ending_text name (ending last)).out; report = lines ++ (ending_text name (ending last)).report; refused = (ending_text name (ending last)).refused; work = (ending_text name (ending last)).work }
 report_so file name lines walker end answer last f settles e =
     let chunks = chunks_of file in
     let settled : Settles answer (end_of chunks.whole chunks.tail) = subst (Settles answer) f.same_end (settles f.taken (events_of chunks) f.is_told) in
     let ends = ends_same end (length file) chunks.whole chunks.tail answer settled in
     let fault = fault_ending name (closed (mark_of end) (length file) chunks.whole chunks.tail) ∙ ap (ending_text name) (ends ∙ ap ending (sym e)) in
     let heads : heading_lines name chunks ≡ lines = sym (f.lines_so ∙ all_lines name chunks) in
-    ap (λ (t : Texts). let x : Texts = record { out = t.out; report = heading_lines name chunks ++ t.report; refused = t.refused } in x) fault
-    ∙ ap (λ l. let x : Texts = record { out = (ending_text name (ending last)).out; report = l ++ (ending_text name (ending last)).report; refused = (ending_text name (ending last)).refused } in x) heads
+    ap (λ (t : Texts). let x : Texts = record { out = t.out; report = heading_lines name chunks ++ t.report; refused = t.refused; work = t.work } in x) fault
+    ∙ ap (λ l. let x : Texts = record { out = (ending_text name (ending last)).out; report = l ++ (ending_text name (ending last)).report; refused = (ending_text name (ending last)).refused; work = (ending_text name (ending last)).work } in x) heads
 
 none_refused : (last : PageEnd) → ((kind : FaultKind) (offset : ℕ) → last ≡ page_end.Refused kind offset → ⊥) → last ≡ page_end.Finished
 none_refused page_end.Finished never = refl

@@ -1,5 +1,5 @@
 -- Pages that are drawn behind others.
-use Rattle.std.proofs.Common.{◌≡◌, ℕ, zero, suc, ◌+◌, Bool, true, false, cond, ◌||◌, Option, Some, None, Result, Ok, Err, IsErr, IfOk, List, [], ◌∷◌, ◌++◌, length, take, drop, get_or, ◌<◌, refl, sym, ap, ◌∙◌, subst, arith, append_assoc}
+use Rattle.std.proofs.Common.{◌≡◌, ℕ, zero, suc, ◌+◌, Bool, true, false, cond, ◌||◌, Option, Some, None, Result, Ok, Err, IsErr, IfOk, List, [], ◌∷◌, ◌++◌, length, take, drop, get_or, zero-add, ◌<◌, refl, sym, ap, ◌∙◌, subst, arith, append_assoc}
 use Rattle.std.specs.Str.{bytes_eq}
 use Rattle.std.proofs.lemmas.Bool.{true≢false}
 use Rattle.std.proofs.lemmas.Slice.Eq.{bytes_eq-Decides}
@@ -15,8 +15,9 @@ use Rattle.viewer_run.specs.Texts.{Texts, no_texts, joined}
 use Rattle.viewer_run.specs.declared.front.Mode.{Mode}
 use Rattle.viewer_run.specs.Front.{is_listed}
 use Rattle.viewer_run.specs.Offline.{texts_by}
-use Rattle.viewer_run.specs.Outcome.{Gives}
+use Rattle.viewer_run.specs.Outcome.{Gives, Ticks}
 use Rattle.viewer_run.proofs.Parts.{delivers_behind, grows_within_more}
+use Rattle.viewer_run.proofs.Ticking.{ticks_behind, ticks_before, ticks_of}
 
 entry_behind : (a b : List Failure) (name : List ℕ) → first_entry a name ≡ None → first_entry (a ++ b) name ≡ first_entry b name
 entry_behind [] b name e = refl
@@ -70,18 +71,26 @@ or_assoc : (a b c : Bool) → ((a || b) || c) ≡ (a || (b || c))
 or_assoc true b c = refl
 or_assoc false b c = refl
 
+-- texts with another work
+abbrev with_work : Texts → ℕ → Texts
+with_work texts work = record { out = texts.out; report = texts.report; refused = texts.refused; work = work }
+
 -- the texts of some pages and of others behind them
 texts_append : (mode : Mode) (files : Files) (f : List Failure) (xs ys : List (List ℕ)) → texts_of_pages mode files f (xs ++ ys) ≡ joined (texts_of_pages mode files f xs) (texts_of_pages mode files f ys)
-texts_append mode files f [] ys = refl
+texts_append mode files f [] ys = ap (with_work (texts_of_pages mode files f ys)) (sym (zero-add (texts_of_pages mode files f ys).work))
 texts_append mode files f (x ∷ xs) ys =
     let head : Texts = texts_by mode (file_of files f x) in
     let rest : Texts = texts_of_pages mode files f xs in
     let last : Texts = texts_of_pages mode files f ys in
     let apart : Texts = joined head (joined rest last) in
     ap (joined head) (texts_append mode files f xs ys)
-    ∙ ap (λ o. let t : Texts = record { out = o; report = apart.report; refused = apart.refused } in t) (sym (append_assoc head.out rest.out last.out))
-    ∙ ap (λ o. let t : Texts = record { out = (head.out ++ rest.out) ++ last.out; report = o; refused = apart.refused } in t) (sym (append_assoc head.report rest.report last.report))
-    ∙ ap (λ o. let t : Texts = record { out = (head.out ++ rest.out) ++ last.out; report = (head.report ++ rest.report) ++ last.report; refused = o } in t) (sym (or_assoc head.refused rest.refused last.refused))
+    ∙ ap (λ o. let t : Texts = record { out = o; report = apart.report; refused = apart.refused; work = apart.work } in t) (sym (append_assoc head.out rest.out last.out))
+    ∙ ap (λ o. let t : Texts = record { out = (head.out ++ rest.out) ++ last.out; report = o; refused = apart.refused; work = apart.work } in t) (sym (append_assoc head.report rest.report last.report))
+    ∙ ap (λ o. let t : Texts = record { out = (head.out ++ rest.out) ++ last.out; report = (head.report ++ rest.report) ++ last.report; refused = o; work = apart.work } in t) (sym (or_assoc head.refused rest.refused last.refused))
+    ∙ ap (λ o. let t : Texts = record { out = (head.out ++ rest.out) ++ last.out; report = (head.report ++ rest.report) ++ last.report; refused = (head.refused || rest.refused) || last.refused; work = o } in t) (sum head.work rest.work last.work)
+  where
+    sum : (a b c : ℕ) → a + (b + c) ≡ a + b + c
+    sum a b c = omega arith
 
 any_append : (name : List ℕ) (xs ys : List (List ℕ)) → is_listed (xs ++ ys) name ≡ false → (is_listed xs name ≡ false) × (is_listed ys name ≡ false)
 any_append name [] ys e = (refl, e)
@@ -113,6 +122,10 @@ gives_with : (all : Shown) (result : Result Shown Stop) (old new : Option (List 
 gives_with all (Ok drawn) old new text g = λ before given. let there = g before given in (there.0, there.1, there.2)
 gives_with all (Err stop) old new text g = g
 
+ticks_with : (all : Shown) (result : Result Shown Stop) (work before after : ℕ) → Ticks result work before after → Ticks (result_with all result) work before after
+ticks_with all (Ok drawn) work before after t = t
+ticks_with all (Err stop) work before after t = t
+
 broken_both : (x y : Bool) (a b : List Failure) → HasBroken x a → HasBroken y b → HasBroken (x || y) (a ++ b)
 broken_both true y [] b h k = absurd (h refl)
 broken_both true y (e ∷ a) b h k = λ s. cc
@@ -125,9 +138,9 @@ both_behind (Listing ∷ a) b e h = absurd (true≢false e)
 both_behind (Reading name count ∷ a) b e h = refl
 
 -- one page behind others
-pub shows_more : (mode : Mode) (files : Files) (names : List (List ℕ)) (name : List ℕ) (all : Shown) (result : Result Shown Stop) (f0 f1 f2 : List Failure) (o0 o1 o2 r0 r1 r2 : Option (List ℕ))
-    → Shows mode files names (Ok all) f0 f1 o0 o1 r0 r1 → Shows mode files (name ∷ []) result f1 f2 o1 o2 r1 r2 → is_listed names name ≡ false → Shows mode files (names ++ name ∷ []) (result_with all result) f0 f2 o0 o2 r0 r2
-shows_more mode files names name all result f0 f1 f2 o0 o1 o2 r0 r1 r2 d e other =
+pub shows_more : (mode : Mode) (files : Files) (names : List (List ℕ)) (name : List ℕ) (all : Shown) (result : Result Shown Stop) (f0 f1 f2 : List Failure) (o0 o1 o2 r0 r1 r2 : Option (List ℕ)) (m0 m1 m2 : ℕ)
+    → Shows mode files names (Ok all) f0 f1 o0 o1 r0 r1 m0 m1 → Shows mode files (name ∷ []) result f1 f2 o1 o2 r1 r2 m1 m2 → is_listed names name ≡ false → Shows mode files (names ++ name ∷ []) (result_with all result) f0 f2 o0 o2 r0 r2 m0 m2
+shows_more mode files names name all result f0 f1 f2 o0 o1 o2 r0 r1 r2 m0 m1 m2 d e other =
     let a = d.added in
     let b = e.added in
     let first = texts_same mode files a b name names e.only other in
@@ -141,6 +154,7 @@ shows_more mode files names name all result f0 f1 f2 o0 o1 o2 r0 r1 r2 d e other
       behind = both_behind a b d.behind e.behind;
       out = gives_with all result o0 o2 _ (gives_text result o0 o2 _ _ (sym (ap (λ (t : Texts). t.out) whole)) (gives_behind result all o0 o1 o2 (texts_of_pages mode files a names).out (texts_of_pages mode files b (name ∷ [])).out d.out e.out));
       report = gives_with all result r0 r2 _ (gives_text result r0 r2 _ _ (sym (ap (λ (t : Texts). t.report) whole)) (gives_behind result all r0 r1 r2 (texts_of_pages mode files a names).report (texts_of_pages mode files b (name ∷ [])).report d.report e.report));
+      ticks = ticks_with all result _ m0 m2 (ticks_of result _ _ m0 m2 (sym (ap (λ (t : Texts). t.work) whole)) (ticks_behind result (texts_of_pages mode files a names).work (texts_of_pages mode files b (name ∷ [])).work m0 m1 m2 d.ticks e.ticks));
       refused = by_refused result e.refused (ap (λ (t : Texts). t.refused) whole);
       broken = by_broken result e.broken;
     }
@@ -156,8 +170,8 @@ shows_more mode files names name all result f0 f1 f2 o0 o1 o2 r0 r1 r2 d e other
     by_broken (Err stop) h = tt
 
 -- pages at which the drawing stops, in front of others
-pub shows_stopped : (mode : Mode) (files : Files) (names more : List (List ℕ)) (result : Result Shown Stop) (f0 f1 : List Failure) (o0 o1 r0 r1 : Option (List ℕ)) → IsErr result → Shows mode files names result f0 f1 o0 o1 r0 r1 → Shows mode files (names ++ more) result f0 f1 o0 o1 r0 r1
-shows_stopped mode files names more result f0 f1 o0 o1 r0 r1 is_err d =
+pub shows_stopped : (mode : Mode) (files : Files) (names more : List (List ℕ)) (result : Result Shown Stop) (f0 f1 : List Failure) (o0 o1 r0 r1 : Option (List ℕ)) (m0 m1 : ℕ) → IsErr result → Shows mode files names result f0 f1 o0 o1 r0 r1 m0 m1 → Shows mode files (names ++ more) result f0 f1 o0 o1 r0 r1 m0 m1
+shows_stopped mode files names more result f0 f1 o0 o1 r0 r1 m0 m1 is_err d =
     let whole = texts_append mode files d.added names more in
     record {
       added = d.added;
@@ -166,6 +180,7 @@ shows_stopped mode files names more result f0 f1 o0 o1 r0 r1 is_err d =
       behind = d.behind;
       out = gives_text result o0 o1 _ _ (sym (ap (λ (t : Texts). t.out) whole)) (gives_longer result is_err o0 o1 (texts_of_pages mode files d.added names).out (texts_of_pages mode files d.added more).out d.out);
       report = gives_text result r0 r1 _ _ (sym (ap (λ (t : Texts). t.report) whole)) (gives_longer result is_err r0 r1 (texts_of_pages mode files d.added names).report (texts_of_pages mode files d.added more).report d.report);
+      ticks = ticks_of result _ _ m0 m1 (sym (ap (λ (t : Texts). t.work) whole)) (ticks_before result (texts_of_pages mode files d.added names).work (texts_of_pages mode files d.added more).work m0 m1 is_err d.ticks);
       refused = stopped result is_err;
       broken = stopped_broken result is_err;
     }
@@ -179,14 +194,15 @@ shows_stopped mode files names more result f0 f1 o0 o1 r0 r1 is_err d =
     stopped_broken (Err stop) e = tt
 
 -- no page
-pub shows_none : (mode : Mode) (files : Files) (f : List Failure) (o r : Option (List ℕ)) → Shows mode files [] (Ok (record { refused = false; broken = false })) f f o o r r
-shows_none mode files f o r = record {
+pub shows_none : (mode : Mode) (files : Files) (f : List Failure) (o r : Option (List ℕ)) (m : ℕ) → Shows mode files [] (Ok (record { refused = false; broken = false })) f f o o r r m m
+shows_none mode files f o r m = record {
   added = [];
   grown = sym (append-nil f);
   only = λ n h. refl;
   behind = refl;
   out = λ before given. (before, given, sym (append-nil before));
   report = λ before given. (before, given, sym (append-nil before));
+  ticks = refl;
   refused = refl;
   broken = refl;
 }
@@ -224,29 +240,29 @@ counts_both false false f0 f1 f2 a b = b ∙ a
 pub counts_more : (all shown now : Shown) (f0 f1 f2 : ℕ) → now ≡ both all shown → BrokenCounts all.broken f0 f1 → BrokenCounts shown.broken f1 f2 → BrokenCounts now.broken f0 f2
 counts_more all shown now f0 f1 f2 e a b = subst (λ (s : Shown). BrokenCounts s.broken f0 f2) (sym e) (counts_both all.broken shown.broken f0 f1 f2 a b)
 
-pub shows_named : (mode : Mode) (files : Files) (names more : List (List ℕ)) (result : Result Shown Stop) (f0 f1 : List Failure) (o0 o1 r0 r1 : Option (List ℕ)) → names ≡ more → Shows mode files names result f0 f1 o0 o1 r0 r1 → Shows mode files more result f0 f1 o0 o1 r0 r1
-shows_named mode files names more result f0 f1 o0 o1 r0 r1 e d = subst (λ n. Shows mode files n result f0 f1 o0 o1 r0 r1) e d
+pub shows_named : (mode : Mode) (files : Files) (names more : List (List ℕ)) (result : Result Shown Stop) (f0 f1 : List Failure) (o0 o1 r0 r1 : Option (List ℕ)) (m0 m1 : ℕ) → names ≡ more → Shows mode files names result f0 f1 o0 o1 r0 r1 m0 m1 → Shows mode files more result f0 f1 o0 o1 r0 r1 m0 m1
+shows_named mode files names more result f0 f1 o0 o1 r0 r1 m0 m1 e d = subst (λ n. Shows mode files n result f0 f1 o0 o1 r0 r1 m0 m1) e d
 
 -- one more page was drawn
-pub one_more : (mode : Mode) (files : Files) (names : List (List ℕ)) (at : ℕ) (name : List ℕ) (all drawn now : Shown) (page : Result Shown Stop) (f0 f1 f2 : List Failure) (o0 o1 o2 r0 r1 r2 : Option (List ℕ))
-    → Shows mode files (take at names) (Ok all) f0 f1 o0 o1 r0 r1 → Shows mode files (name ∷ []) page f1 f2 o1 o2 r1 r2 → AreDistinct names → name ≡ get_or names at name → at < length names → page ≡ Ok drawn → now ≡ both all drawn
-    → Shows mode files (take (at + 1) names) (Ok now) f0 f2 o0 o2 r0 r2
-one_more mode files names at name all drawn now page f0 f1 f2 o0 o1 o2 r0 r1 r2 d e distinct is inside ok sum =
+pub one_more : (mode : Mode) (files : Files) (names : List (List ℕ)) (at : ℕ) (name : List ℕ) (all drawn now : Shown) (page : Result Shown Stop) (f0 f1 f2 : List Failure) (o0 o1 o2 r0 r1 r2 : Option (List ℕ)) (m0 m1 m2 : ℕ)
+    → Shows mode files (take at names) (Ok all) f0 f1 o0 o1 r0 r1 m0 m1 → Shows mode files (name ∷ []) page f1 f2 o1 o2 r1 r2 m1 m2 → AreDistinct names → name ≡ get_or names at name → at < length names → page ≡ Ok drawn → now ≡ both all drawn
+    → Shows mode files (take (at + 1) names) (Ok now) f0 f2 o0 o2 r0 r2 m0 m2
+one_more mode files names at name all drawn now page f0 f1 f2 o0 o1 o2 r0 r1 r2 m0 m1 m2 d e distinct is inside ok sum =
     let here = here_at names at name is inside in
-    let both_drawn = shows_more mode files (take at names) name all page f0 f1 f2 o0 o1 o2 r0 r1 r2 d e (new_at names at name (drop (suc at) names) distinct here) in
-    subst (λ (s : Shown). Shows mode files (take (at + 1) names) (Ok s) f0 f2 o0 o2 r0 r2) (sym sum)
-    (shows_named mode files (take at names ++ name ∷ []) (take (at + 1) names) (Ok (both all drawn)) f0 f2 o0 o2 r0 r2 (sym (take_here names at name is inside))
-    (subst (λ p. Shows mode files (take at names ++ name ∷ []) (result_with all p) f0 f2 o0 o2 r0 r2) ok both_drawn))
+    let both_drawn = shows_more mode files (take at names) name all page f0 f1 f2 o0 o1 o2 r0 r1 r2 m0 m1 m2 d e (new_at names at name (drop (suc at) names) distinct here) in
+    subst (λ (s : Shown). Shows mode files (take (at + 1) names) (Ok s) f0 f2 o0 o2 r0 r2 m0 m2) (sym sum)
+    (shows_named mode files (take at names ++ name ∷ []) (take (at + 1) names) (Ok (both all drawn)) f0 f2 o0 o2 r0 r2 m0 m2 (sym (take_here names at name is inside))
+    (subst (λ p. Shows mode files (take at names ++ name ∷ []) (result_with all p) f0 f2 o0 o2 r0 r2 m0 m2) ok both_drawn))
 
 -- the drawing stopped at a page
-pub stopped_at : (mode : Mode) (files : Files) (names : List (List ℕ)) (at : ℕ) (name : List ℕ) (all : Shown) (fault : Stop) (page result : Result Shown Stop) (f0 f1 f2 : List Failure) (o0 o1 o2 r0 r1 r2 : Option (List ℕ))
-    → Shows mode files (take at names) (Ok all) f0 f1 o0 o1 r0 r1 → Shows mode files (name ∷ []) page f1 f2 o1 o2 r1 r2 → AreDistinct names → name ≡ get_or names at name → at < length names → page ≡ Err fault → result ≡ Err fault
-    → Shows mode files names result f0 f2 o0 o2 r0 r2
-stopped_at mode files names at name all fault page result f0 f1 f2 o0 o1 o2 r0 r1 r2 d e distinct is inside err same =
+pub stopped_at : (mode : Mode) (files : Files) (names : List (List ℕ)) (at : ℕ) (name : List ℕ) (all : Shown) (fault : Stop) (page result : Result Shown Stop) (f0 f1 f2 : List Failure) (o0 o1 o2 r0 r1 r2 : Option (List ℕ)) (m0 m1 m2 : ℕ)
+    → Shows mode files (take at names) (Ok all) f0 f1 o0 o1 r0 r1 m0 m1 → Shows mode files (name ∷ []) page f1 f2 o1 o2 r1 r2 m1 m2 → AreDistinct names → name ≡ get_or names at name → at < length names → page ≡ Err fault → result ≡ Err fault
+    → Shows mode files names result f0 f2 o0 o2 r0 r2 m0 m2
+stopped_at mode files names at name all fault page result f0 f1 f2 o0 o1 o2 r0 r1 r2 m0 m1 m2 d e distinct is inside err same =
     let here = here_at names at name is inside in
     let rest = drop (suc at) names in
-    let both_drawn = shows_more mode files (take at names) name all page f0 f1 f2 o0 o1 o2 r0 r1 r2 d e (new_at names at name rest distinct here) in
-    let stopped : Shows mode files (take at names ++ name ∷ []) (Err fault) f0 f2 o0 o2 r0 r2 = subst (λ p. Shows mode files (take at names ++ name ∷ []) (result_with all p) f0 f2 o0 o2 r0 r2) err both_drawn in
+    let both_drawn = shows_more mode files (take at names) name all page f0 f1 f2 o0 o1 o2 r0 r1 r2 m0 m1 m2 d e (new_at names at name rest distinct here) in
+    let stopped : Shows mode files (take at names ++ name ∷ []) (Err fault) f0 f2 o0 o2 r0 r2 m0 m2 = subst (λ p. Shows mode files (take at names ++ name ∷ []) (result_with all p) f0 f2 o0 o2 r0 r2 m0 m2) err both_drawn in
     let whole : (take at names ++ name ∷ []) ++ rest ≡ names = append_assoc (take at names) (name ∷ []) rest ∙ ap (λ l. take at names ++ l) (sym here) ∙ take-append-drop at names in
-    subst (λ r. Shows mode files names r f0 f2 o0 o2 r0 r2) (sym same)
-    (shows_named mode files ((take at names ++ name ∷ []) ++ rest) names (Err fault) f0 f2 o0 o2 r0 r2 whole (shows_stopped mode files (take at names ++ name ∷ []) rest (Err fault) f0 f2 o0 o2 r0 r2 refl stopped))
+    subst (λ r. Shows mode files names r f0 f2 o0 o2 r0 r2 m0 m2) (sym same)
+    (shows_named mode files ((take at names ++ name ∷ []) ++ rest) names (Err fault) f0 f2 o0 o2 r0 r2 m0 m2 whole (shows_stopped mode files (take at names ++ name ∷ []) rest (Err fault) f0 f2 o0 o2 r0 r2 m0 m2 refl stopped))

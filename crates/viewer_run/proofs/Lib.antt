@@ -1,11 +1,10 @@
-pub mod ByEvents
-pub mod Extending
 pub mod Informing
 pub mod Joining
 pub mod Showing
 pub mod Parts
-pub mod Sizes
+pub mod Rows
+pub mod Ticking
 pub mod Walks
 pub mod Starting
 pub mod Running
-pub mod Growing
+pub mod Working

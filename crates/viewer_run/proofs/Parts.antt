@@ -1,6 +1,6 @@
 -- Parts of files and of texts.
-use Rattle.std.proofs.Common.{◌≡◌, Result, Ok, Err, Option, Some, None, IsSome, IfSome, ℕ, zero, suc, ◌+◌, ◌*◌, ◌≤◌, List, [], ◌∷◌, ◌++◌, length, take, drop, replicate, refl, sym, ap, ◌∙◌, subst, arith, append_assoc}
-use Rattle.std.proofs.lemmas.List.{append-nil, length-drop, take_all, take-take, drop-drop, take-replicate, replicate-append-replicate}
+use Rattle.std.proofs.Common.{◌≡◌, Result, Ok, Err, Option, Some, None, IsSome, IfSome, ℕ, zero, suc, ◌+◌, ◌≤◌, List, [], ◌∷◌, ◌++◌, length, take, drop, refl, sym, ap, ◌∙◌, subst, arith, append_assoc}
+use Rattle.std.proofs.lemmas.List.{append-nil, length-drop, take_all, take-take, drop-drop}
 use Rattle.std.proofs.Math.Seq.{take-add}
 use Rattle.viewer_run.specs.declared.stop.Stop.{Stop}
 use Rattle.viewer_run.specs.Came.{CountsCame}
@@ -43,24 +43,6 @@ moved_twice here n count now e =
     let sum : here.position + n + count ≡ here.position + now = omega arith in
     ap (λ p. let place : Opened = record { name = here.name; position = p } in place) sum
 
--- a front of a block of equal bytes
-pub front_of_block : (text block : List ℕ) (n m byte : ℕ) → text ≡ take n block → block ≡ replicate m byte → n ≤ m → text ≡ replicate n byte
-front_of_block text block n m byte e b h = e ∙ ap (take n) b ∙ take-replicate n m byte h
-
--- more rows of equal bytes
-pub rows_more : (row done now byte : ℕ) → replicate (row * done) byte ++ replicate (now * row) byte ≡ replicate (row * (done + now)) byte
-rows_more row done now byte =
-    let sum : row * done + now * row ≡ row * (done + now) = omega arith in
-    replicate-append-replicate (row * done) (now * row) byte ∙ ap (λ n. replicate n byte) sum
-
--- rows that were put, rows that are being put, and those that are left
-pub rows_left : (row done now left rows byte : ℕ) → done + now + left ≡ rows → replicate (row * done) byte ++ (replicate (now * row) byte ++ replicate (row * left) byte) ≡ replicate (row * rows) byte
-rows_left row done now left rows byte e =
-    let sum : row * done + (now * row + row * left) ≡ row * (done + now + left) = omega arith in
-    ap (λ l. replicate (row * done) byte ++ l) (replicate-append-replicate (now * row) (row * left) byte)
-    ∙ replicate-append-replicate (row * done) (now * row + row * left) byte
-    ∙ ap (λ n. replicate n byte) (sum ∙ ap (λ n. row * n) e)
-
 -- a front of the first part is one of the whole text
 pub grows_within_more : (before text more after : List ℕ) → GrowsWithin before text after → GrowsWithin before (text ++ more) after
 grows_within_more before text more after g = (g.0, g.1 ++ more, ap (λ t. t ++ more) g.2 ∙ append_assoc g.0 g.1 more, g.3)
@@ -71,11 +53,6 @@ delivers_behind (Ok value) before part mid text after e d = d ∙ ap (λ l. l ++
 delivers_behind (Err stop) before part mid text after e d =
     let g = grows_behind before part text [] after (subst (λ b. GrowsWithin b text after) e d) in
     subst (λ t. GrowsWithin before (part ++ t) after) (append-nil text) g
-
-pub thrice : (a w b h : ℕ) → a ≡ w → b ≡ h → 3 * a * b ≡ 3 * (w * h)
-thrice a w b h e f =
-    let same : 3 * w * h ≡ 3 * (w * h) = omega arith in
-    ap (λ x. 3 * x * b) e ∙ ap (λ y. 3 * w * y) f ∙ same
 
 -- nothing is put where there is nothing to put
 pub nothing_put : {T : Type 0} (result : Result T Stop) (before : List ℕ) → Delivers result before [] before

@@ -1,5 +1,5 @@
 -- What a run puts, by its front and by the failures that it met.
-use Rattle.std.proofs.Common.{◌≡◌, ℕ, Bool, true, false, cond, not, ltb, ◌&&◌, ◌||◌, Option, Some, None, IsSome, unwrap_or, Result, Ok, Err, IfOk, List, [], ◌∷◌, ◌++◌, ◌<◌, length, take, arith, inl, inr, refl, sym, ap, ◌∙◌, subst}
+use Rattle.std.proofs.Common.{◌≡◌, ℕ, Bool, true, false, cond, not, ◌&&◌, ◌||◌, Option, Some, None, IsSome, unwrap_or, Result, Ok, Err, IfOk, List, [], ◌∷◌, ◌++◌, ◌<◌, ◌≤◌, length, take, arith, inl, inr, refl, sym, ap, ◌∙◌, subst}
 use Rattle.std.specs.Str.{bytes_eq}
 use Rattle.std.proofs.lemmas.Bool.{true≢false}
 use Rattle.std.proofs.lemmas.List.{append-nil}
@@ -8,22 +8,22 @@ use Rattle.djvu_base.specs.Library.{File, Files, Library, Whole, contents_of, fi
 use Rattle.djvu_outside.specs.declared.faults.Status.{Status}
 use Rattle.djvu_outside.specs.Faults.{Failure, Listing, Reading}
 use Rattle.djvu_outside.specs.Reading.{HasFile, bytes_in, GrowsWithin}
-use Rattle.zp_table.specs.declared.faults.TableFault.{TableFault}
+use Rattle.jb2_numbers.specs.Number.{ticked}
 use Rattle.viewer_words.specs.declared.commands.Command.{Command}
 use Rattle.viewer_words.specs.declared.commands.Command.TheVariants as command
-use Rattle.viewer_words.specs.declared.commands.TableChoice.{TableChoice}
 use Rattle.viewer_words.specs.declared.commands.TableChoice.TheVariants as choice
-use Rattle.viewer_words.specs.Lines.{words_line, folder_line}
 use Rattle.viewer_words.specs.Words.{words_of}
 use Rattle.viewer_run.specs.declared.front.Front.{Front}
 use Rattle.viewer_run.specs.declared.front.Front.TheVariants as front
 use Rattle.viewer_run.specs.declared.front.Mode.{Mode}
 use Rattle.viewer_run.specs.declared.front.Mode.TheVariants as mode
+use Rattle.viewer_run.specs.declared.tables.Chosen.{Chosen}
+use Rattle.viewer_run.specs.declared.tables.Chosen.TheVariants as chosen
 use Rattle.viewer_run.specs.declared.pages.Shown.{Shown}
 use Rattle.viewer_run.specs.declared.stop.Stop.{Stop}
 use Rattle.viewer_run.specs.declared.stop.Stop.TheVariants as stop
 use Rattle.viewer_run.specs.Cut.{first_entry, cut_at, cut_file, cut, front_may_fail, front_failed, names_table, names_page, NamesRead}
-use Rattle.viewer_run.specs.Front.{front_of, is_listed, name_limit, has_table, first_unlisted, front_by_pages, front_by_names, front_by_table, front_by_words, table_fault, with_table, names_in}
+use Rattle.viewer_run.specs.Front.{front_of, is_listed, line_by_names, refused_or, table_of, front_by_table, front_of_draw, front_of_info, front_of_command, front_by_words, names_in}
 use Rattle.viewer_run.specs.Offline.{Written, texts_by, texts_of_found, texts_of_names, written, written_by, offline, with_failures, written_cut, nothing_written, IsOutcome}
 use Rattle.viewer_run.specs.Outcome.{Gives, NeverFolder, SinkStops}
 use Rattle.viewer_run.specs.Runs.{EndsSo, GoesOnFrom, Runs, Run}
@@ -32,11 +32,16 @@ use Rattle.viewer_run.specs.Start.{StartsFor}
 use Rattle.viewer_run.specs.Status.{status_of}
 use Rattle.viewer_run.specs.Texts.{Texts, joined}
 use Rattle.viewer_run.proofs.Parts.{nothing_put}
+use Rattle.viewer_run.proofs.Ticking.{no_ticks}
 
 -- the pages of a front that is accepted
 abbrev PagesAre : List (List ℕ) → Front → Type 0
 PagesAre pages (front.Refused line) = Unit {0}
 PagesAre pages (front.Accepted mode shown) = shown ≡ pages
+
+abbrev pages_of : Command → List (List ℕ)
+pages_of (command.Draw table pages) = pages
+pages_of (command.Info pages) = pages
 
 same_name_at : (o : Option ℕ) (file : File) → (cut_at o file).name ≡ file.name
 same_name_at None file = refl
@@ -71,33 +76,33 @@ shown_written failures files words names mode e h =
     ap (λ f. with_failures failures (written_by (cut failures (library_of files)) f)) (sym e) ∙ ap (λ t. with_failures failures (written t)) (texts_cut mode failures files names h)
 
 -- the pages of a front that is accepted are those of the words
-pages_by_table : (o : Option TableFault) (mode other : Mode) (names pages : List (List ℕ)) → front.Accepted mode names ≡ front_by_table o other pages → names ≡ pages
-pages_by_table (Some fault) mode other names pages e = cc
-pages_by_table None mode other names pages e = cc
+pages_accepted : (found : Front) (mode : Mode) (names pages : List (List ℕ)) → PagesAre pages found → front.Accepted mode names ≡ found → names ≡ pages
+pages_accepted (front.Refused line) mode names pages h e = cc
+pages_accepted (front.Accepted other shown) mode names pages h e = let same : names ≡ shown = cc in same ∙ h
 
-pages_with_table : (library : Library) (table : TableChoice) (before : Front) (mode : Mode) (names pages : List (List ℕ)) → PagesAre pages before → front.Accepted mode names ≡ with_table library table before → names ≡ pages
-pages_with_table library table (front.Refused line) mode names pages h e = cc
-pages_with_table library table (front.Accepted other shown) mode names pages h e = pages_by_table (table_fault library table) mode other names shown e ∙ h
+pages_by_line : (o : Option (List ℕ)) (later : Front) (pages : List (List ℕ)) → PagesAre pages later → PagesAre pages (refused_or o later)
+pages_by_line (Some line) later pages h = tt
+pages_by_line None later pages h = h
 
-pages_by_place : (o : Option ℕ) (count : ℕ) (mode : Mode) (pages : List (List ℕ)) → PagesAre pages (front_by_pages o count mode pages)
-pages_by_place (Some at) count mode pages = tt
-pages_by_place None count mode pages = refl
+pages_by_table : (table : Chosen) (pages : List (List ℕ)) → PagesAre pages (front_by_table table pages)
+pages_by_table (chosen.Table rows) pages = refl
+pages_by_table (chosen.Refused fault) pages = tt
 
-pages_by_tests : (many has : Bool) (o : Option ℕ) (count : ℕ) (mode : Mode) (pages : List (List ℕ)) (line other : List ℕ) → PagesAre pages (cond many (front.Refused line) (cond has (front_by_pages o count mode pages) (front.Refused other)))
-pages_by_tests true has o count mode pages line other = tt
-pages_by_tests false false o count mode pages line other = tt
-pages_by_tests false true o count mode pages line other = pages_by_place o count mode pages
-
-pages_by_names : (names : List (List ℕ)) (count : ℕ) (table : TableChoice) (mode : Mode) (pages : List (List ℕ)) → PagesAre pages (front_by_names names count table mode pages)
-pages_by_names names count table mode pages = pages_by_tests (ltb name_limit (length names)) (has_table names table) (first_unlisted names pages) count mode pages (folder_line (length names)) (words_line 2)
+pages_of_command : (library : Library) (count : ℕ) (asked : Command) (pages : List (List ℕ)) → pages_of asked ≡ pages → PagesAre pages (front_of_command library count asked)
+pages_of_command library count (command.Draw table asked) pages e =
+    subst (λ p. PagesAre p (front_of_draw library count table asked)) e
+    (pages_by_line (line_by_names (names_in library) count table asked) (front_by_table (table_of library table) asked) asked (pages_by_table (table_of library table) asked))
+pages_of_command library count (command.Info asked) pages e =
+    subst (λ p. PagesAre p (front_of_info library count asked)) e
+    (pages_by_line (line_by_names (names_in library) count choice.Djvu asked) (front.Accepted mode.Info asked) asked refl)
 
 -- a page that is shown is one that the words name
 named_page : (library : Library) (words names : List (List ℕ)) (how : Mode) (name : List ℕ) → front.Accepted how names ≡ front_of library words → names_page (words_of words) name ≡ is_listed names name
 named_page library words names how name = by (words_of words)
   where
     by : (r : Result Command ℕ) → front.Accepted how names ≡ front_by_words library (length words) r → names_page r name ≡ is_listed names name
-    by (Ok (command.Draw table pages)) e = ap (λ l. is_listed l name) (sym (pages_with_table library table (front_by_names (names_in library) (length words) table mode.Draw pages) how names pages (pages_by_names (names_in library) (length words) table mode.Draw pages) e))
-    by (Ok (command.Info pages)) e = ap (λ l. is_listed l name) (sym (pages_with_table library choice.Djvu (front_by_names (names_in library) (length words) choice.Djvu mode.Info pages) how names pages (pages_by_names (names_in library) (length words) choice.Djvu mode.Info pages) e))
+    by (Ok (command.Draw table pages)) e = ap (λ l. is_listed l name) (sym (pages_accepted (front_of_draw library (length words) table pages) how names pages (pages_of_command library (length words) (command.Draw table pages) pages refl) e))
+    by (Ok (command.Info pages)) e = ap (λ l. is_listed l name) (sym (pages_accepted (front_of_info library (length words) pages) how names pages (pages_of_command library (length words) (command.Info pages) pages refl) e))
     by (Err number) e = cc
 
 and_not : (a b : Bool) → b ≡ true → (a && not b) ≡ false
@@ -124,6 +129,10 @@ out_with (entry ∷ failures) w = refl
 report_with : (failures : List Failure) (w : Written) → (with_failures failures w).report ≡ w.report
 report_with [] w = refl
 report_with (entry ∷ failures) w = refl
+
+work_with : (failures : List Failure) (w : Written) → (with_failures failures w).work ≡ w.work
+work_with [] w = refl
+work_with (entry ∷ failures) w = refl
 
 -- the status of pages that were shown
 status_of_all : (shown : Shown) (failures : List Failure) (texts : Texts) → HasBroken shown.broken failures → shown.refused ≡ texts.refused → status_shown shown ≡ (with_failures failures (written texts)).status
@@ -164,11 +173,11 @@ early_named words (Reading table count) e name other = by (bytes_eq name table) 
         absurd (true≢false (sym (ap (λ b. b || names_page (words_of words) name) (ap (names_table (words_of words)) same ∙ e)) ∙ other))
 
 -- a run that shows pages, up to its end
-pub runs_shown : (files : Files) (words names : List (List ℕ)) (mode : Mode) (result : Result Shown Stop) (shown : Shown) (status : Status) (f0 f1 f2 : List Failure) (o0 o1 r0 r1 : Option (List ℕ))
-    → front.Accepted mode names ≡ front_of (library_of files) words → HasFiles files names → f1 ≡ f0 → Shows mode files names result f1 f2 o0 o1 r0 r1 → result ≡ Ok shown → status.0 ≡ status_shown shown
-    → Runs files words (Ok status) f0 f2 o0 o1 r0 r1
-runs_shown files words names mode result shown status f0 f1 f2 o0 o1 r0 r1 front has same shows ok is =
-    let s : Shows mode files names (Ok shown) f1 f2 o0 o1 r0 r1 = subst (λ r. Shows mode files names r f1 f2 o0 o1 r0 r1) ok shows in
+pub runs_shown : (files : Files) (words names : List (List ℕ)) (mode : Mode) (result : Result Shown Stop) (shown : Shown) (status : Status) (f0 f1 f2 : List Failure) (o0 o1 r0 r1 : Option (List ℕ)) (m0 m1 : ℕ)
+    → front.Accepted mode names ≡ front_of (library_of files) words → HasFiles files names → f1 ≡ f0 → Shows mode files names result f1 f2 o0 o1 r0 r1 m0 m1 → result ≡ Ok shown → status.0 ≡ status_shown shown
+    → Runs files words (Ok status) f0 f2 o0 o1 r0 r1 m0 m1
+runs_shown files words names mode result shown status f0 f1 f2 o0 o1 r0 r1 m0 m1 front has same shows ok is =
+    let s : Shows mode files names (Ok shown) f1 f2 o0 o1 r0 r1 m0 m1 = subst (λ r. Shows mode files names r f1 f2 o0 o1 r0 r1 m0 m1) ok shows in
     let texts = texts_of_pages mode files s.added names in
     let late = not_front (library_of files) words names mode s.added front s.only s.behind in
     record {
@@ -181,6 +190,7 @@ runs_shown files words names mode result shown status f0 f1 f2 o0 o1 r0 r1 front
       out = λ before given. let put = s.out before given in (put.0, put.1, put.2 ∙ ap (λ t. before ++ t) (sym (out_with s.added (written texts))));
       report = λ before given. let put = s.report before given in (put.0, put.1, put.2 ∙ ap (λ t. before ++ t) (sym (report_with s.added (written texts))));
       status = is ∙ status_of_all shown s.added texts s.broken s.refused;
+      ticks = s.ticks ∙ ap (λ n. ticked n m0) (sym (work_with s.added (written texts)));
       nothing = λ e. cc;
     }
 
@@ -193,14 +203,14 @@ err_same : (fault other : Stop) → ◌≡◌ {A = Result Status Stop} (Err faul
 err_same fault other e = cc
 
 -- a run that stops at a page
-pub runs_stopped : (files : Files) (words names : List (List ℕ)) (mode : Mode) (pages : Result Shown Stop) (result : Result Status Stop) (fault : Stop) (f0 f1 f2 : List Failure) (o0 o1 r0 r1 : Option (List ℕ))
-    → front.Accepted mode names ≡ front_of (library_of files) words → HasFiles files names → f1 ≡ f0 → Shows mode files names pages f1 f2 o0 o1 r0 r1 → pages ≡ Err fault → (fault ≡ stop.Folder → ⊥) → result ≡ Err fault
-    → Runs files words result f0 f2 o0 o1 r0 r1
-runs_stopped files words names mode pages result fault f0 f1 f2 o0 o1 r0 r1 front has same shows err other is =
-    let s : Shows mode files names (Err fault) f1 f2 o0 o1 r0 r1 = subst (λ r. Shows mode files names r f1 f2 o0 o1 r0 r1) err shows in
+pub runs_stopped : (files : Files) (words names : List (List ℕ)) (mode : Mode) (pages : Result Shown Stop) (result : Result Status Stop) (fault : Stop) (f0 f1 f2 : List Failure) (o0 o1 r0 r1 : Option (List ℕ)) (m0 m1 : ℕ)
+    → front.Accepted mode names ≡ front_of (library_of files) words → HasFiles files names → f1 ≡ f0 → Shows mode files names pages f1 f2 o0 o1 r0 r1 m0 m1 → pages ≡ Err fault → (fault ≡ stop.Folder → ⊥) → result ≡ Err fault
+    → Runs files words result f0 f2 o0 o1 r0 r1 m0 m1
+runs_stopped files words names mode pages result fault f0 f1 f2 o0 o1 r0 r1 m0 m1 front has same shows err other is =
+    let s : Shows mode files names (Err fault) f1 f2 o0 o1 r0 r1 m0 m1 = subst (λ r. Shows mode files names r f1 f2 o0 o1 r0 r1 m0 m1) err shows in
     let texts = texts_of_pages mode files s.added names in
     let late = not_front (library_of files) words names mode s.added front s.only s.behind in
-    subst (λ r. Runs files words r f0 f2 o0 o1 r0 r1) (sym is) (record {
+    subst (λ r. Runs files words r f0 f2 o0 o1 r0 r1 m0 m1) (sym is) (record {
       added = s.added;
       grown = s.grown ∙ ap (λ f. f ++ s.added) same;
       only = only_named (library_of files) words names mode s.added front s.only;
@@ -210,23 +220,25 @@ runs_stopped files words names mode pages result fault f0 f1 f2 o0 o1 r0 r1 fron
       out = λ before given. let put = s.out before given in (put.0, put.1, subst (λ t. GrowsWithin before t put.0) (sym (out_with s.added (written texts))) put.2);
       report = λ before given. let put = s.report before given in (put.0, put.1, subst (λ t. GrowsWithin before t put.0) (sym (report_with s.added (written texts))) put.2);
       status = (not_folder fault other words s.added (with_failures s.added (written texts)).status).1;
+      ticks = (s.ticks.0, subst (λ n. s.ticks.0 ≤ n) (sym (work_with s.added (written texts))) s.ticks.1, s.ticks.2);
       nothing = λ e. absurd (other (err_same fault stop.Folder e));
     })
 
 -- a run that is refused, or stops at its line
-pub runs_refused : (files : Files) (words : List (List ℕ)) (line : List ℕ) (result : Result Status Stop) (f0 f1 : List Failure) (o r0 r1 : Option (List ℕ))
-    → front.Refused line ≡ front_of (library_of files) words → f1 ≡ f0 → Gives result r0 r1 line → IfOk result (λ status. status.0 ≡ 2) → (result ≡ Err stop.Folder → ⊥) → Runs files words result f0 f1 o o r0 r1
-runs_refused files words line result f0 f1 o r0 r1 front same gives status other =
+pub runs_refused : (files : Files) (words : List (List ℕ)) (line : List ℕ) (result : Result Status Stop) (f0 f1 : List Failure) (o r0 r1 : Option (List ℕ)) (m : ℕ)
+    → front.Refused line ≡ front_of (library_of files) words → f1 ≡ f0 → Gives result r0 r1 line → IfOk result (λ status. status.0 ≡ 2) → (result ≡ Err stop.Folder → ⊥) → Runs files words result f0 f1 o o r0 r1 m m
+runs_refused files words line result f0 f1 o r0 r1 m front same gives status other =
     record {
       added = [];
       grown = same ∙ sym (append-nil f0);
       only = λ name other. refl;
       goes_on = by_result result other;
-      written = record { out = []; report = line; status = 2 };
+      written = record { out = []; report = line; status = 2; work = 0 };
       outcome = inr (refl, ap (λ f. written_by (cut [] (library_of files)) f) front);
       out = λ before given. (before, given, nothing_put result before);
       report = gives;
       status = by_status result status other;
+      ticks = no_ticks result 0 m refl;
       nothing = λ e. absurd (other e);
     }
   where
@@ -243,11 +255,11 @@ runs_refused files words line result f0 f1 o r0 r1 front same gives status other
     by_status (Err stop.Memory) is other = tt
 
 -- a run that stops before its pages
-pub runs_early : (files : Files) (words : List (List ℕ)) (front : Result Front Stop) (fault : Stop) (result : Result Status Stop) (f0 f1 : List Failure) (o r : Option (List ℕ))
-    → front ≡ Err fault → StartsFor front words f0 f1 → result ≡ Err fault → Runs files words result f0 f1 o o r r
-runs_early files words front fault result f0 f1 o r e starts is = subst (λ x. Runs files words x f0 f1 o o r r) (sym is) (by fault (subst (λ x. StartsFor x words f0 f1) e starts))
+pub runs_early : (files : Files) (words : List (List ℕ)) (front : Result Front Stop) (fault : Stop) (result : Result Status Stop) (f0 f1 : List Failure) (o r : Option (List ℕ)) (m : ℕ)
+    → front ≡ Err fault → StartsFor front words f0 f1 → result ≡ Err fault → Runs files words result f0 f1 o o r r m m
+runs_early files words front fault result f0 f1 o r m e starts is = subst (λ x. Runs files words x f0 f1 o o r r m m) (sym is) (by fault (subst (λ x. StartsFor x words f0 f1) e starts))
   where
-    by : (fault : Stop) → StartsFor {T = Front} (Err fault) words f0 f1 → Runs files words (Err fault) f0 f1 o o r r
+    by : (fault : Stop) → StartsFor {T = Front} (Err fault) words f0 f1 → Runs files words (Err fault) f0 f1 o o r r m m
     by stop.Folder l = record {
       added = l.0 ∷ [];
       grown = l.1;
@@ -258,7 +270,8 @@ runs_early files words front fault result f0 f1 o r e starts is = subst (λ x. R
       out = λ before given. (before, given, ([], [], refl, sym (append-nil before)));
       report = λ before given. (before, given, ([], [], refl, sym (append-nil before)));
       status = refl;
-      nothing = λ e. (refl, refl);
+      ticks = (0, omega arith, refl);
+      nothing = λ e. (refl, refl, refl);
     }
     by stop.Sink l = absurd l
     by stop.Memory l = record {
@@ -271,6 +284,7 @@ runs_early files words front fault result f0 f1 o r e starts is = subst (λ x. R
       out = λ before given. (before, given, ([], (written_cut [] (library_of files) words).out, refl, sym (append-nil before)));
       report = λ before given. (before, given, ([], (written_cut [] (library_of files) words).report, refl, sym (append-nil before)));
       status = tt;
+      ticks = (0, omega arith, refl);
       nothing = λ e. cc;
     }
 
@@ -294,8 +308,8 @@ nothing_grown : (before text after : List ℕ) → text ≡ [] → GrowsWithin b
 nothing_grown before text after e g = g.3 ∙ ap (λ t. before ++ t) (no_part g.0 g.1 (sym e ∙ g.2) ∙ sym e)
 
 -- a run that came to its end
-pub run_ended : (files : Files) (words : List (List ℕ)) (status : Status) (f0 f1 : List Failure) (o0 o1 r0 r1 : Option (List ℕ)) → Runs files words (Ok status) f0 f1 o0 o1 r0 r1 → Run files words status.0 f0 f1 o0 o1 r0 r1
-run_ended files words status f0 f1 o0 o1 r0 r1 r = record {
+pub run_ended : (files : Files) (words : List (List ℕ)) (status : Status) (f0 f1 : List Failure) (o0 o1 r0 r1 : Option (List ℕ)) (m0 m1 : ℕ) → Runs files words (Ok status) f0 f1 o0 o1 r0 r1 m0 m1 → Run files words status.0 f0 f1 o0 o1 r0 r1 m0 m1
+run_ended files words status f0 f1 o0 o1 r0 r1 m0 m1 r = record {
   added = r.added;
   grown = r.grown;
   only = r.only;
@@ -304,6 +318,7 @@ run_ended files words status f0 f1 o0 o1 r0 r1 r = record {
   out = λ before given. let put = r.out before given in (put.0, put.1, (λ below. put.2), whole_grows before r.written.out put.0 put.2);
   report = λ before given. let put = r.report before given in (put.0, put.1, (λ below. put.2), whole_grows before r.written.report put.0 put.2);
   same_status = λ below. r.status;
+  counts = (r.written.work, omega arith, (λ below. refl), r.ticks);
 }
 
 is_folder : (fault : Stop) → status_of fault < 4 → fault ≡ stop.Folder
@@ -314,11 +329,14 @@ is_folder stop.Memory h = absurd (omega arith)
 stopped_status : (files : Files) (words : List (List ℕ)) (fault : Stop) (wanted : ℕ) → fault ≡ stop.Folder → EndsSo (Err fault) wanted → status_of fault ≡ wanted
 stopped_status files words fault wanted e h = ap status_of e ∙ sym (subst (λ f. EndsSo (Err f) wanted) e h)
 
+no_more : (ticks work : ℕ) → work ≡ 0 → ticks ≤ work → ticks ≡ work
+no_more ticks work e h = omega arith
+
 -- a run that stopped
-pub run_stopped : (files : Files) (words : List (List ℕ)) (fault : Stop) (status : ℕ) (f0 f1 : List Failure) (o0 o1 r0 r1 : Option (List ℕ)) → status ≡ status_of fault → Runs files words (Err fault) f0 f1 o0 o1 r0 r1 → Run files words status f0 f1 o0 o1 r0 r1
-run_stopped files words fault status f0 f1 o0 o1 r0 r1 e r =
+pub run_stopped : (files : Files) (words : List (List ℕ)) (fault : Stop) (status : ℕ) (f0 f1 : List Failure) (o0 o1 r0 r1 : Option (List ℕ)) (m0 m1 : ℕ) → status ≡ status_of fault → Runs files words (Err fault) f0 f1 o0 o1 r0 r1 m0 m1 → Run files words status f0 f1 o0 o1 r0 r1 m0 m1
+run_stopped files words fault status f0 f1 o0 o1 r0 r1 m0 m1 e r =
     let early : status < 4 → fault ≡ stop.Folder = λ below. is_folder fault (subst (λ n. n < 4) e below) in
-    let none : status < 4 → (r.written.out ≡ []) × (r.written.report ≡ []) = λ below. r.nothing (ap Err (early below)) in
+    let none : status < 4 → (r.written.out ≡ []) × (r.written.report ≡ []) × (r.written.work ≡ 0) = λ below. r.nothing (ap Err (early below)) in
     record {
       added = r.added;
       grown = r.grown;
@@ -328,11 +346,12 @@ run_stopped files words fault status f0 f1 o0 o1 r0 r1 e r =
       out = λ before given. let put = r.out before given in (put.0, put.1, (λ below. nothing_grown before r.written.out put.0 (none below).0 put.2), put.2);
       report = λ before given. let put = r.report before given in (put.0, put.1, (λ below. nothing_grown before r.written.report put.0 (none below).1 put.2), put.2);
       same_status = λ below. e ∙ stopped_status files words fault r.written.status (early below) r.status;
+      counts = (r.ticks.0, r.ticks.1, (λ below. no_more r.ticks.0 r.written.work (none below).2 r.ticks.1), r.ticks.2);
     }
 
 -- a run whose front failed doesn't come to its end
-pub front_stops : (files : Files) (words : List (List ℕ)) (status : Status) (f0 f1 : List Failure) (o0 o1 r0 r1 : Option (List ℕ)) (added : List Failure) → Runs files words (Ok status) f0 f1 o0 o1 r0 r1 → f1 ≡ f0 ++ added → front_failed words added ≡ true → ⊥
-front_stops files words status f0 f1 o0 o1 r0 r1 added r grown failed = true≢false (sym failed ∙ ap (front_failed words) (same_added f0 f1 added r.added grown r.grown) ∙ r.goes_on)
+pub front_stops : (files : Files) (words : List (List ℕ)) (status : Status) (f0 f1 : List Failure) (o0 o1 r0 r1 : Option (List ℕ)) (m0 m1 : ℕ) (added : List Failure) → Runs files words (Ok status) f0 f1 o0 o1 r0 r1 m0 m1 → f1 ≡ f0 ++ added → front_failed words added ≡ true → ⊥
+front_stops files words status f0 f1 o0 o1 r0 r1 m0 m1 added r grown failed = true≢false (sym failed ∙ ap (front_failed words) (same_added f0 f1 added r.added grown r.grown) ∙ r.goes_on)
 
 pub nothing_cut : (library : Library) → cut [] library ≡ library
 nothing_cut [] = refl

@@ -1,5 +1,5 @@
 -- The texts of pages, and the failures that were met.
-use Rattle.std.proofs.Common.{◌≡◌, ℕ, ◌+◌, Bool, true, false, cond, ◌||◌, Option, Some, None, Result, Ok, Err, IsErr, IfOk, List, [], ◌∷◌, ◌++◌, length, take, refl, sym, ap, ◌∙◌, subst, arith}
+use Rattle.std.proofs.Common.{◌≡◌, ℕ, ◌+◌, Bool, true, false, cond, ◌||◌, Option, Some, None, Result, Ok, Err, IsErr, IfOk, List, [], ◌∷◌, ◌++◌, length, map, take, add-zero, refl, sym, ap, ◌∙◌, subst, arith}
 use Rattle.std.specs.Str.{bytes_eq}
 use Rattle.std.proofs.lemmas.Bool.{true≢false}
 use Rattle.std.proofs.lemmas.Slice.Eq.{bytes_eq-Decides}
@@ -8,9 +8,9 @@ use Rattle.djvu_base.specs.Library.{File, Files, Whole, Broken, file_limit}
 use Rattle.djvu_outside.specs.Faults.{Failure, Reading}
 use Rattle.djvu_outside.specs.Reading.{bytes_in}
 use Rattle.viewer_run.specs.declared.pages.Shown.{Shown}
-use Rattle.viewer_run.specs.declared.reading.FileEnd.{FileEnd}
-use Rattle.viewer_run.specs.declared.reading.FileEnd.TheVariants as file_end
-use Rattle.viewer_run.specs.declared.reading.PageReading.{PageReading}
+use Rattle.page_decoder.specs.declared.ends.FileEnd.{FileEnd}
+use Rattle.page_decoder.specs.declared.ends.FileEnd.TheVariants as file_end
+use Rattle.page_decoder.specs.declared.reading.PageReading.{PageReading}
 use Rattle.viewer_run.specs.declared.stop.Stop.{Stop}
 use Rattle.viewer_run.specs.Came.{IsReadTo}
 use Rattle.viewer_run.specs.Cut.{cut_at}
@@ -19,10 +19,15 @@ use Rattle.viewer_run.specs.declared.front.Mode.{Mode}
 use Rattle.iff_chunks.specs.Chunks.{Tail, InHead, InHeader, InData, InPad, FormEnd, Broken as BrokenOff, chunks_of}
 use Rattle.viewer_run.specs.Info.{fault_text, info_of_file}
 use Rattle.viewer_run.specs.Offline.{texts_by}
-use Rattle.viewer_run.specs.Texts.{Texts, no_texts, joined, texts_at, texts_of_file}
-use Rattle.viewer_run.specs.Outcome.{Gives}
-use Rattle.viewer_run.specs.Progress.{mark_of, is_broken, announced, ending, IsReading}
-use Rattle.viewer_run.specs.Reading.{Reading as PageResult, reading, closed}
+use Rattle.viewer_run.specs.Texts.{Texts, no_texts, joined, raster_of, lines_of, lines_told, texts_at, texts_found, texts_of_reading, texts_of_file}
+use Rattle.viewer_run.specs.Outcome.{Gives, Ticks}
+use Rattle.page_decoder.specs.Ends.{mark_of, is_broken, ending}
+use Rattle.page_decoder.specs.Found.{IsReading, drawn, last_layers}
+use Rattle.page_decoder.specs.Reading.{Notice, Ending, Finished, Fault, NeedBytes, Reading as PageResult, reading, closed}
+use Rattle.layer_compose.specs.Drawing.{sum_of}
+use Rattle.viewer_words.specs.Lines.{notice_line}
+use Rattle.viewer_run.proofs.Ticking.{ticks_of}
+use Rattle.zp_table.specs.declared.rows.Row.{Row}
 
 pub same_name : (name : List ℕ) → bytes_eq name name ≡ true
 same_name name = (bytes_eq-Decides name name).1 refl
@@ -71,13 +76,14 @@ same_texts : {T : Type 0} (result : Result T Stop) (old new : Option (List ℕ))
 same_texts {T = T} result old new text other e g = subst (λ t. Gives {T = T} result old new t) e g
 
 -- a page that was put, or a front of it
-pub shows_page : (mode : Mode) (files : Files) (name bytes : List ℕ) (end : FileEnd) (old new : List Failure) (put : Result Bool Stop) (result : Result Shown Stop) (old_out new_out old_report new_report : Option (List ℕ))
+pub shows_page : (mode : Mode) (files : Files) (name bytes : List ℕ) (end : FileEnd) (old new : List Failure) (put : Result Bool Stop) (result : Result Shown Stop) (old_out new_out old_report new_report : Option (List ℕ)) (m0 m1 : ℕ)
     → IsReadWith files name bytes end old new
     → ((text : List ℕ) → Gives put old_out new_out text → Gives result old_out new_out text) → ((text : List ℕ) → Gives put old_report new_report text → Gives result old_report new_report text)
     → Gives put old_out new_out (texts_by mode (file_read name bytes end)).out → Gives put old_report new_report (texts_by mode (file_read name bytes end)).report
+    → Ticks result (texts_by mode (file_read name bytes end)).work m0 m1
     → IfOk result (λ shown. (shown.refused ≡ (texts_by mode (file_read name bytes end)).refused) × (shown.broken ≡ is_broken end))
-    → Shows mode files (name ∷ []) result old new old_out new_out old_report new_report
-shows_page mode files name bytes end old new put result old_out new_out old_report new_report w outs reports gave told done =
+    → Shows mode files (name ∷ []) result old new old_out new_out old_report new_report m0 m1
+shows_page mode files name bytes end old new put result old_out new_out old_report new_report m0 m1 w outs reports gave told ticks done =
     let texts = page_texts mode files name bytes end old new w in
     let here = texts_by mode (file_read name bytes end) in
     record {
@@ -87,6 +93,7 @@ shows_page mode files name bytes end old new put result old_out new_out old_repo
       behind = w.behind;
       out = same_texts result old_out new_out here.out (texts_of_pages mode files w.added (name ∷ [])).out (sym (ap (λ (t : Texts). t.out) texts ∙ append-nil here.out)) (outs here.out gave);
       report = same_texts result old_report new_report here.report (texts_of_pages mode files w.added (name ∷ [])).report (sym (ap (λ (t : Texts). t.report) texts ∙ append-nil here.report)) (reports here.report told);
+      ticks = ticks_of result here.work (texts_of_pages mode files w.added (name ∷ [])).work m0 m1 (sym (ap (λ (t : Texts). t.work) texts ∙ add-zero here.work)) ticks;
       refused = by_refused result done;
       broken = by_broken result done;
     }
@@ -104,15 +111,16 @@ shows_page mode files name bytes end old new put result old_out new_out old_repo
     by_broken (Err stop) d = tt
 
 -- a page that wasn't read
-pub shows_nothing : (mode : Mode) (files : Files) (name : List ℕ) (result : Result Shown Stop) (old new : List Failure) (old_out old_report : Option (List ℕ)) → IsErr result → new ≡ old → Shows mode files (name ∷ []) result old new old_out old_out old_report old_report
-shows_nothing mode files name (Ok drawn) old new old_out old_report is_err e = absurd (cc)
-shows_nothing mode files name (Err stop) old new old_out old_report is_err e = record {
+pub shows_nothing : (mode : Mode) (files : Files) (name : List ℕ) (result : Result Shown Stop) (old new : List Failure) (old_out old_report : Option (List ℕ)) (m : ℕ) → IsErr result → new ≡ old → Shows mode files (name ∷ []) result old new old_out old_out old_report old_report m m
+shows_nothing mode files name (Ok drawn) old new old_out old_report m is_err e = absurd (cc)
+shows_nothing mode files name (Err stop) old new old_out old_report m is_err e = record {
   added = [];
   grown = e ∙ sym (append-nil old);
   only = λ other n. refl;
   behind = refl;
   out = λ before given. (before, given, ([], (texts_of_pages mode files [] (name ∷ [])).out, refl, sym (append-nil before)));
   report = λ before given. (before, given, ([], (texts_of_pages mode files [] (name ∷ [])).report, refl, sym (append-nil before)));
+  ticks = (0, omega arith, refl);
   refused = tt;
   broken = tt;
 }
@@ -129,11 +137,59 @@ pub done_err : (result : Result Shown Stop) (refused broken : Bool) → IsErr re
 done_err (Ok drawn) refused broken is_err = absurd (cc)
 done_err (Err stop) refused broken is_err = tt
 
--- the texts of a page that is drawn, by its reading
-pub drawn_texts : (name bytes : List ℕ) (end : FileEnd) (read : PageReading) → IsReading (reading (mark_of end) bytes) read → texts_at name (announced read.size) (ending read.end) ≡ texts_of_file (file_read name bytes end)
-drawn_texts name bytes end read r =
-    let wanted : PageResult = reading (mark_of end) bytes in
-    sym (ap (λ n. texts_at name n wanted.end) r.notices ∙ ap (λ e. texts_at name (announced read.size) e) r.end)
+-- the meter of a page, by that of its putting
+pub ticks_err : (put : Result Bool Stop) (fault : Stop) (result : Result Shown Stop) → put ≡ Err fault → IsErr result → (work before after : ℕ) → Ticks put work before after → Ticks result work before after
+ticks_err put fault (Ok drawn) e is_err work before after t = absurd (cc)
+ticks_err put fault (Err stop) e is_err work before after t = subst (λ p. Ticks p work before after) e t
+
+pub ticks_ok : (put : Result Bool Stop) (refused : Bool) (drawn : Shown) → put ≡ Ok refused → (work before after : ℕ) → Ticks put work before after → Ticks {T = Shown} (Ok drawn) work before after
+ticks_ok put refused drawn e work before after t = subst (λ p. Ticks p work before after) e t
+
+lines_same : (name : List ℕ) (notices : List Notice) → lines_told name (map drawn notices) ≡ lines_of name notices
+lines_same name [] = refl
+lines_same name (notice ∷ notices) = ap (λ l. notice_line name notice.chunks (sum_of notice.layers) ++ l) (lines_same name notices)
+
+-- the texts of a page that is drawn, by what was found in it
+drawn_texts : (rows : List Row) (name bytes : List ℕ) (end : FileEnd) (found : PageReading) → IsReading (reading rows (mark_of end) bytes) found
+    → texts_at name (lines_told name found.notices) (raster_of found.layers) (ending found.end) (reading rows (mark_of end) bytes).decisions ≡ texts_of_file rows (file_read name bytes end)
+drawn_texts rows name bytes end found r =
+    let wanted : PageResult = reading rows (mark_of end) bytes in
+    ap (λ n. texts_at name (lines_told name n) (raster_of found.layers) (ending found.end) wanted.decisions) r.notices
+    ∙ ap (λ l. texts_at name l (raster_of found.layers) (ending found.end) wanted.decisions) (lines_same name wanted.notices)
+    ∙ ap (λ l. texts_at name (lines_of name wanted.notices) (raster_of l) (ending found.end) wanted.decisions) r.layers
+    ∙ ap (λ e. texts_at name (lines_of name wanted.notices) (raster_of (last_layers wanted.notices)) e wanted.decisions) (sym r.end)
+
+-- what is put of a page doesn't depend on its work
+same_put : (name lines raster : List ℕ) (end : Ending) (work other : ℕ)
+    → ((texts_at name lines raster end work).out ≡ (texts_at name lines raster end other).out) × ((texts_at name lines raster end work).report ≡ (texts_at name lines raster end other).report) × ((texts_at name lines raster end work).refused ≡ (texts_at name lines raster end other).refused)
+same_put name lines raster Finished work other = (refl, refl, refl)
+same_put name lines raster (Fault kind offset) work other = (refl, refl, refl)
+same_put name lines raster NeedBytes work other = (refl, refl, refl)
+
+same_work : (name lines raster : List ℕ) (end : Ending) (work : ℕ) → (texts_at name lines raster end work).work ≡ work
+same_work name lines raster Finished work = refl
+same_work name lines raster (Fault kind offset) work = refl
+same_work name lines raster NeedBytes work = refl
+
+-- what is put of a page that was read
+pub record IsPut (rows : List Row) (name bytes : List ℕ) (end : FileEnd) (found : PageReading) : Type 0 where
+  pub out : (texts_found name found).out ≡ (texts_of_file rows (file_read name bytes end)).out
+  pub report : (texts_found name found).report ≡ (texts_of_file rows (file_read name bytes end)).report
+  pub refused : (texts_found name found).refused ≡ (texts_of_file rows (file_read name bytes end)).refused
+
+pub is_put : (rows : List Row) (name bytes : List ℕ) (end : FileEnd) (found : PageReading) → IsReading (reading rows (mark_of end) bytes) found → IsPut rows name bytes end found
+is_put rows name bytes end found r =
+    let same = same_put name (lines_told name found.notices) (raster_of found.layers) (ending found.end) 0 (reading rows (mark_of end) bytes).decisions in
+    let texts = drawn_texts rows name bytes end found r in
+    record {
+      out = same.0 ∙ ap (λ (t : Texts). t.out) texts;
+      report = same.1 ∙ ap (λ (t : Texts). t.report) texts;
+      refused = same.2 ∙ ap (λ (t : Texts). t.refused) texts;
+    }
+
+-- the work of a page is that of its reading
+pub work_of_reading : (name : List ℕ) (read : PageResult) → (texts_of_reading name read).work ≡ read.decisions
+work_of_reading name read = same_work name (lines_of name read.notices) (raster_of (last_layers read.notices)) read.end read.decisions
 
 fault_puts_nothing : (name : List ℕ) (tail : Tail) → (fault_text name tail).out ≡ []
 fault_puts_nothing name InHead = refl
@@ -147,12 +203,14 @@ fault_puts_nothing name (BrokenOff kind offset) = refl
 pub info_puts_nothing : (name bytes : List ℕ) (end : FileEnd) → (info_of_file (file_read name bytes end)).out ≡ []
 info_puts_nothing name bytes end = fault_puts_nothing name (closed (mark_of end) (length bytes) (chunks_of bytes).whole (chunks_of bytes).tail)
 
--- the same, where what was put is that of these bytes
-pub shows_seen : (mode : Mode) (files : Files) (name seen bytes : List ℕ) (end : FileEnd) (old new : List Failure) (put : Result Bool Stop) (result : Result Shown Stop) (old_out new_out old_report new_report : Option (List ℕ))
-    → seen ≡ bytes → IsReadWith files name bytes end old new
-    → ((text : List ℕ) → Gives put old_out new_out text → Gives result old_out new_out text) → ((text : List ℕ) → Gives put old_report new_report text → Gives result old_report new_report text)
-    → Gives put old_out new_out (texts_by mode (file_read name seen end)).out → Gives put old_report new_report (texts_by mode (file_read name seen end)).report
-    → IfOk result (λ shown. (shown.refused ≡ (texts_by mode (file_read name seen end)).refused) × (shown.broken ≡ is_broken end))
-    → Shows mode files (name ∷ []) result old new old_out new_out old_report new_report
-shows_seen mode files name seen bytes end old new put result old_out new_out old_report new_report same w outs reports gave told done =
-    shows_page mode files name seen end old new put result old_out new_out old_report new_report (subst (λ b. IsReadWith files name b end old new) (sym same) w) outs reports gave told done
+pub fault_reads_none : (name : List ℕ) (tail : Tail) → (fault_text name tail).work ≡ 0
+fault_reads_none name InHead = refl
+fault_reads_none name (InHeader offset bytes) = refl
+fault_reads_none name (InData chunk) = refl
+fault_reads_none name (InPad offset is_last) = refl
+fault_reads_none name FormEnd = refl
+fault_reads_none name (BrokenOff kind offset) = refl
+
+-- and reads no decision
+pub info_reads_none : (name bytes : List ℕ) (end : FileEnd) → (info_of_file (file_read name bytes end)).work ≡ 0
+info_reads_none name bytes end = fault_reads_none name (closed (mark_of end) (length bytes) (chunks_of bytes).whole (chunks_of bytes).tail)

@@ -1,5 +1,5 @@
 -- What the start of a run leaves to its pages.
-use Rattle.std.proofs.Common.{◌≡◌, ◌≢◌, ℕ, suc, ◌<◌, ◌≤◌, Bool, true, false, cond, not, ltb, ◌||◌, Option, Some, None, Result, Ok, Err, IsSome, unwrap_or, List, [], ◌∷◌, ◌++◌, length, take, get_or, refl, sym, arith, ap, subst, ◌+◌, ◌∙◌}
+use Rattle.std.proofs.Common.{◌≡◌, ◌≢◌, ℕ, suc, ◌<◌, ◌≤◌, Bool, true, false, cond, not, ltb, ◌||◌, Option, Some, None, Result, Ok, Err, IsSome, unwrap_or, List, [], ◌∷◌, ◌++◌, length, take, get_or, refl, sym, arith, ap, ◌+◌, ◌∙◌}
 use Rattle.std.specs.List.{AllPairs, position_or_len}
 use Rattle.std.specs.Str.{bytes_eq}
 use Rattle.std.proofs.lemmas.Bool.{true≢false, ltb-false}
@@ -11,18 +11,13 @@ use Rattle.djvu_base.specs.Library.{Files, Whole, names_of, contents_of, file_na
 use Rattle.djvu_outside.specs.Faults.{Failure, Listing, Reading}
 use Rattle.djvu_outside.specs.Reading.{HasFile, bytes_in}
 use Rattle.viewer_words.specs.Lines.{words_line, folder_line}
-use Rattle.viewer_run.specs.declared.front.Front.TheVariants as front
-use Rattle.viewer_run.specs.declared.front.Mode.{Mode}
-use Rattle.viewer_run.specs.declared.reading.FileEnd.{FileEnd}
-use Rattle.viewer_run.specs.declared.reading.FileEnd.TheVariants as file_end
+use Rattle.page_decoder.specs.declared.ends.FileEnd.{FileEnd}
+use Rattle.page_decoder.specs.declared.ends.FileEnd.TheVariants as file_end
 use Rattle.viewer_run.specs.Came.{IsReadTo}
-use Rattle.viewer_run.specs.Progress.{is_broken}
+use Rattle.page_decoder.specs.Ends.{is_broken}
 use Rattle.viewer_words.specs.declared.commands.TableChoice.{TableChoice}
 use Rattle.viewer_words.specs.declared.commands.TableChoice.TheVariants as choice
-use Rattle.zp_table.specs.declared.faults.TableFault.{TableFault}
-use Rattle.zp_table.specs.Reading.{fault_of}
-use Rattle.viewer_run.specs.declared.front.Front.{Front}
-use Rattle.viewer_run.specs.Front.{name_limit, is_listed, first_unlisted, has_table, front_by_pages, front_by_names, names_in, bytes_of_found, table_fault, front_by_table, with_table}
+use Rattle.viewer_run.specs.Front.{name_limit, is_listed, first_unlisted, has_table, line_by_pages, line_by_names, names_in, bytes_of_found, table_in, table_of}
 use Rattle.viewer_run.specs.Shown.{HasFiles, AreDistinct}
 use Rattle.viewer_run.specs.Start.{IsEarly, Starts, StartsFor, CanRead, CanStart}
 use Rattle.viewer_run.specs.Cut.{front_may_fail, names_table}
@@ -59,23 +54,23 @@ each_has : (files : Files) (pages : List (List ℕ)) → ((k : ℕ) (d : List �
 each_has files [] h = tt
 each_has files (page ∷ pages) h = (h 0 [] (omega arith), each_has files pages (λ k d within. h (suc k) d (omega arith)))
 
-by_pages : (files : Files) (count : ℕ) (table : TableChoice) (mode : Mode) (pages : List (List ℕ)) (o : Option ℕ) → first_unlisted (names_of files) pages ≡ o → CanRead files table → CanStart files table (front_by_pages o count mode pages)
-by_pages files count table mode pages (Some at) e read = tt
-by_pages files count table mode pages None e read = (read, each_has files pages (λ k d h. listed_file files (get_or pages k d) (all_listed (names_of files) pages e k d h)))
+by_pages : (files : Files) (count : ℕ) (table : TableChoice) (pages : List (List ℕ)) (o : Option ℕ) → first_unlisted (names_of files) pages ≡ o → CanRead files table → CanStart files table pages (line_by_pages o count pages)
+by_pages files count table pages (Some at) e read = tt
+by_pages files count table pages None e read = (read, each_has files pages (λ k d h. listed_file files (get_or pages k d) (all_listed (names_of files) pages e k d h)))
 
 can_read : (files : Files) (table : TableChoice) → has_table (names_of files) table ≡ true → CanRead files table
 can_read files choice.Djvu e = tt
 can_read files choice.Flat e = tt
 can_read files (choice.File name) e = listed_file files name e
 
-by_names : (files : Files) (count : ℕ) (table : TableChoice) (mode : Mode) (pages : List (List ℕ)) (line other : List ℕ) (many has : Bool) → has_table (names_of files) table ≡ has
-    → CanStart files table (cond many (front.Refused line) (cond has (front_by_pages (first_unlisted (names_of files) pages) count mode pages) (front.Refused other)))
-by_names files count table mode pages line other true has e = tt
-by_names files count table mode pages line other false false e = tt
-by_names files count table mode pages line other false true e = by_pages files count table mode pages (first_unlisted (names_of files) pages) refl (can_read files table e)
+by_names : (files : Files) (count : ℕ) (table : TableChoice) (pages : List (List ℕ)) (line other : List ℕ) (many has : Bool) → has_table (names_of files) table ≡ has
+    → CanStart files table pages (cond many (Some line) (cond has (line_by_pages (first_unlisted (names_of files) pages) count pages) (Some other)))
+by_names files count table pages line other true has e = tt
+by_names files count table pages line other false false e = tt
+by_names files count table pages line other false true e = by_pages files count table pages (first_unlisted (names_of files) pages) refl (can_read files table e)
 
-pub can_start : (files : Files) (count : ℕ) (table : TableChoice) (mode : Mode) (pages : List (List ℕ)) → CanStart files table (front_by_names (names_of files) count table mode pages)
-can_start files count table mode pages = by_names files count table mode pages (folder_line (length (names_of files))) (words_line 2) (ltb name_limit (length (names_of files))) (has_table (names_of files) table) refl
+pub can_start : (files : Files) (count : ℕ) (table : TableChoice) (pages : List (List ℕ)) → CanStart files table pages (line_by_names (names_of files) count table pages)
+can_start files count table pages = by_names files count table pages (folder_line (length (names_of files))) (words_line 2) (ltb name_limit (length (names_of files))) (has_table (names_of files) table) refl
 
 -- the library's names are the folder's
 pub names_of_library : (limit : ℕ) (files : Files) → names_in (library_within limit files) ≡ names_of files
@@ -91,15 +86,9 @@ bytes_found limit (file ∷ files) name = by (bytes_eq name file.0) (bytes_found
     by true h = refl
     by false h = h
 
--- a front once its table's file was read
-pub with_file : (files : Files) (before : Front) (table : TableChoice) (mode : Mode) (pages : List (List ℕ)) (name : List ℕ) (o : Option TableFault) → before ≡ front.Accepted mode pages → table ≡ choice.File name
-    → o ≡ fault_of (take file_limit (bytes_in files name)) → with_table (library_of files) table before ≡ front_by_table o mode pages
-with_file files before table mode pages name o f t e =
-    ap (with_table (library_of files) table) f ∙ ap (λ t. front_by_table (table_fault (library_of files) t) mode pages) t
-    ∙ ap (λ b. front_by_table (fault_of b) mode pages) (bytes_found file_limit files name) ∙ ap (λ x. front_by_table x mode pages) (sym e)
-
-pub can_read_file : (files : Files) (before : Front) (table : TableChoice) (mode : Mode) (pages : List (List ℕ)) (name : List ℕ) → CanStart files table before → before ≡ front.Accepted mode pages → table ≡ choice.File name → HasFile files name
-can_read_file files before table mode pages name c f t = subst (λ x. CanRead files x) t (subst (CanStart files table) f c).0
+-- the table of a file that was read
+pub table_found : (files : Files) (name : List ℕ) → table_of (library_of files) (choice.File name) ≡ table_in (take file_limit (bytes_in files name))
+table_found files name = ap table_in (bytes_found file_limit files name)
 
 -- a reading that failed, and one that didn't
 pub broken_read : (end : FileEnd) (bytes content name : List ℕ) (position : ℕ) (old new : List Failure) → is_broken end ≡ true → IsReadTo end bytes content name position old new → (entry : Failure) × (new ≡ old ++ entry ∷ []) × IsEarly (choice.File name) entry

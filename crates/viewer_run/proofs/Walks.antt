@@ -1,28 +1,22 @@
--- A walk over a page's file: what one more answer says.
-use Rattle.std.proofs.Common.{◌≡◌, ℕ, ◌+◌, ◌-◌, ◌*◌, ◌<◌, ◌≤◌, Bool, true, false, cond, leb, List, [], ◌∷◌, ◌++◌, ◌⊎◌, inl, inr, length, take, drop, refl, sym, ap, ◌∙◌, subst, arith, append_assoc, Option, Some, None}
+-- A walk over a file: what its last answer says, and where the file ends.
+use Rattle.std.proofs.Common.{◌≡◌, ℕ, ◌≤◌, Bool, true, false, cond, List, [], ◌∷◌, ◌++◌, ◌⊎◌, length, take, drop, refl, sym, ap, ◌∙◌, arith}
 use Rattle.std.proofs.lemmas.Bool.{true≢false}
-use Rattle.std.proofs.lemmas.List.{append-nil, take-append-drop, length-drop, length-append, length-take-le, take_all, drop_all}
+use Rattle.std.proofs.lemmas.List.{append-nil, take-append-drop, take_all}
 use Rattle.djvu_base.specs.declared.faults.FaultKind.{FaultKind}
+use Rattle.djvu_base.specs.declared.faults.FaultKind.TheVariants as fault
 use Rattle.iff_chunks.specs.declared.walker.WalkStep.{WalkStep}
 use Rattle.iff_chunks.specs.declared.walker.WalkStep.TheVariants as step
 use Rattle.iff_chunks.specs.declared.stages.Stage.{Stage}
-use Rattle.iff_chunks.specs.Chunks.{FormEnd, Broken, chunks_of, chunks_in_all, end_of}
-use Rattle.iff_chunks.specs.Events.{Event, Begun, Header, Data, ChunkEnd, events_of, tell, with_data, GoesOn, IsOpen, Ends, Takes}
-use Rattle.iff_chunks.specs.Order.{Turn, AtForm, AtHeader, AtData, AtEnd, InOrder}
+use Rattle.iff_chunks.specs.Chunks.{Tail, FormEnd, Broken, chunks_of, chunks_in_all, end_of}
+use Rattle.iff_chunks.specs.Chunks as grammar
+use Rattle.iff_chunks.specs.Events.{Event, ChunkEnd, events_of, tell, GoesOn, IsOpen, Ends, Takes, Settles}
+use Rattle.iff_chunks.specs.Order.{AtForm, InOrder}
 use Rattle.iff_chunks.specs.Told.{Told}
-use Rattle.viewer_run.specs.declared.progress.Progress.{Progress}
-use Rattle.viewer_run.specs.declared.progress.Progress.TheVariants as progress
-use Rattle.viewer_run.specs.Reading.{kind_fault, header_fault, size_fault, size_in, is_info}
-use Rattle.viewer_run.specs.Progress.{begun, at_header, at_size, after_form, after_header, after_data, after_end, after_events, after_step, is_quiet, is_refused}
-use Rattle.viewer_run.specs.Walk.{ends_in_data, AreAll, NoData, NoBytes, EndNext, Follows, IsRefusedEarly, IsToldWhole}
-use Rattle.viewer_run.proofs.ByEvents.{after_both}
-
--- 1 within a chunk
-abbrev pub open_count : Progress → ℕ
-open_count progress.Before = 0
-open_count (progress.Between is_first size) = 0
-open_count (progress.Within size info offset next) = 1
-open_count (progress.Refused size kind offset) = 0
+use Rattle.page_decoder.specs.declared.ends.FileEnd.{FileEnd}
+use Rattle.page_decoder.specs.declared.ends.FileEnd.TheVariants as file_end
+use Rattle.page_decoder.specs.declared.ends.PageEnd.TheVariants as page_end
+use Rattle.page_decoder.specs.Reading.{closed, broken_off, ending_of, is_cut}
+use Rattle.page_decoder.specs.Ends.{mark_of, ending, ended_so, is_quiet}
 
 -- a walker was fed this piece
 pub record Feeds (before after : Stage) (rest : List ℕ) (used : ℕ) (answer : WalkStep) : Type 0 where
@@ -35,250 +29,9 @@ pub record Feeds (before after : Stage) (rest : List ℕ) (used : ℕ) (answer :
   pub all_data : (taken more : List ℕ) (told : List Event) → Told taken told before → answer ≡ step.Data → (used ≡ length rest) ⊎ GoesOn (tell told answer (take used rest) ++ ChunkEnd ∷ []) (events_of (chunks_of (taken ++ (take used rest ++ more))))
   pub within : used ≤ length rest
 
--- data behind other events
-with_data_new : (told : List Event) (bytes : List ℕ) → ends_in_data told ≡ false → with_data told bytes ≡ told ++ Data bytes ∷ []
-with_data_new [] bytes e = refl
-with_data_new (Data old ∷ []) bytes e = absurd (true≢false e)
-with_data_new (Begun kind size ∷ []) bytes e = refl
-with_data_new (Header id offset size ∷ []) bytes e = refl
-with_data_new (ChunkEnd ∷ []) bytes e = refl
-with_data_new (Data old ∷ next ∷ told) bytes e = ap (λ l. Data old ∷ l) (with_data_new (next ∷ told) bytes e)
-with_data_new (Begun kind size ∷ next ∷ told) bytes e = ap (λ l. Begun kind size ∷ l) (with_data_new (next ∷ told) bytes e)
-with_data_new (Header id offset size ∷ next ∷ told) bytes e = ap (λ l. Header id offset size ∷ l) (with_data_new (next ∷ told) bytes e)
-with_data_new (ChunkEnd ∷ next ∷ told) bytes e = ap (λ l. ChunkEnd ∷ l) (with_data_new (next ∷ told) bytes e)
-
-with_some : (told : List Event) (bytes : List ℕ) → with_data told bytes ≡ [] → ⊥
-with_some [] bytes e = cc
-with_some (Data old ∷ []) bytes e = cc
-with_some (Data old ∷ next ∷ told) bytes e = cc
-with_some (Begun kind size ∷ told) bytes e = cc
-with_some (Header id offset size ∷ told) bytes e = cc
-with_some (ChunkEnd ∷ told) bytes e = cc
-
-behind_first : (x : Event) (grown events : List Event) → (grown ≡ [] → ⊥) → GoesOn (x ∷ grown) events → GoesOn grown (drop 1 events)
-behind_first x [] events some g = absurd (some refl)
-behind_first (Data old) (first ∷ grown) [] some g = absurd g
-behind_first (Data old) (first ∷ grown) (e ∷ events) some g = g.1
-behind_first (Begun kind size) (first ∷ grown) [] some g = absurd g
-behind_first (Begun kind size) (first ∷ grown) (e ∷ events) some g = g.1
-behind_first (Header id offset size) (first ∷ grown) [] some g = absurd g
-behind_first (Header id offset size) (first ∷ grown) (e ∷ events) some g = g.1
-behind_first ChunkEnd (first ∷ grown) [] some g = absurd g
-behind_first ChunkEnd (first ∷ grown) (e ∷ events) some g = g.1
-
-some_behind : (told : List Event) (event : Event) → told ++ event ∷ [] ≡ [] → ⊥
-some_behind [] event e = cc
-some_behind (x ∷ told) event e = cc
-
--- the chunk's end comes next, so no more data do
-no_more_data : (told : List Event) (bytes : List ℕ) (events : List Event) → ends_in_data told ≡ true → 0 < length bytes → GoesOn (told ++ ChunkEnd ∷ []) events → GoesOn (with_data told bytes) events → ⊥
-no_more_data [] bytes events e some g h = true≢false (sym e)
-no_more_data (Begun kind size ∷ []) bytes events e some g h = true≢false (sym e)
-no_more_data (Header id offset size ∷ []) bytes events e some g h = true≢false (sym e)
-no_more_data (ChunkEnd ∷ []) bytes events e some g h = true≢false (sym e)
-no_more_data (Data old ∷ []) bytes [] e some g h = g
-no_more_data (Data old ∷ []) bytes (Data all ∷ events) e some g h =
-    let same : old ≡ all = cc in
-    let sizes : length all ≡ length ((old ++ bytes) ++ h.0) = ap length h.1 in
-    omega (arith, sizes, some, ap length same, length-append (old ++ bytes) h.0, length-append old bytes)
-no_more_data (Data old ∷ []) bytes (Begun kind size ∷ events) e some g h = let same : Data old ≡ Begun kind size = g.0 in cc
-no_more_data (Data old ∷ []) bytes (Header id offset size ∷ events) e some g h = let same : Data old ≡ Header id offset size = g.0 in cc
-no_more_data (Data old ∷ []) bytes (ChunkEnd ∷ events) e some g h = let same : Data old ≡ ChunkEnd = g.0 in cc
-no_more_data (Data old ∷ next ∷ told) bytes events e some g h = no_more_data (next ∷ told) bytes (drop 1 events) e some (behind_first (Data old) ((next ∷ told) ++ ChunkEnd ∷ []) events (some_behind (next ∷ told) ChunkEnd) g) (behind_first (Data old) (with_data (next ∷ told) bytes) events (with_some (next ∷ told) bytes) h)
-no_more_data (Begun kind size ∷ next ∷ told) bytes events e some g h = no_more_data (next ∷ told) bytes (drop 1 events) e some (behind_first (Begun kind size) ((next ∷ told) ++ ChunkEnd ∷ []) events (some_behind (next ∷ told) ChunkEnd) g) (behind_first (Begun kind size) (with_data (next ∷ told) bytes) events (with_some (next ∷ told) bytes) h)
-no_more_data (Header id offset size ∷ next ∷ told) bytes events e some g h = no_more_data (next ∷ told) bytes (drop 1 events) e some (behind_first (Header id offset size) ((next ∷ told) ++ ChunkEnd ∷ []) events (some_behind (next ∷ told) ChunkEnd) g) (behind_first (Header id offset size) (with_data (next ∷ told) bytes) events (with_some (next ∷ told) bytes) h)
-no_more_data (ChunkEnd ∷ next ∷ told) bytes events e some g h = no_more_data (next ∷ told) bytes (drop 1 events) e some (behind_first ChunkEnd ((next ∷ told) ++ ChunkEnd ∷ []) events (some_behind (next ∷ told) ChunkEnd) g) (behind_first ChunkEnd (with_data (next ∷ told) bytes) events (with_some (next ∷ told) bytes) h)
-
-by_last : (told : List Event) (bytes : List ℕ) (events : List Event) (last : Bool) → ends_in_data told ≡ last → 0 < length bytes → GoesOn (told ++ ChunkEnd ∷ []) events → GoesOn (with_data told bytes) events → with_data told bytes ≡ told ++ Data bytes ∷ []
-by_last told bytes events true e some g h = absurd (no_more_data told bytes events e some g h)
-by_last told bytes events false e some g h = with_data_new told bytes e
-
--- where data are told, they are told for the first time
-new_data : (told : List Event) (rest : List ℕ) (events : List Event) (used : ℕ) → AreAll told rest events → 0 < used → used ≤ length rest → GoesOn (with_data told (take used rest)) events → with_data told (take used rest) ≡ told ++ Data (take used rest) ∷ []
-new_data _ _ _ used (NoData told rest events e) some within g = with_data_new told (take used rest) e
-new_data _ _ _ used (NoBytes told events) some within g = absurd (omega arith)
-new_data _ _ _ used (EndNext told rest events next) some within g = by_last told (take used rest) events (ends_in_data told) refl (omega (arith, length-take-le used rest within)) next g
-
--- behind a first event
-longer_list : (x y : Event) (events : List Event) → ends_in_data (x ∷ y ∷ events) ≡ ends_in_data (y ∷ events)
-longer_list (Data bytes) y events = refl
-longer_list (Begun kind size) y events = refl
-longer_list (Header id offset size) y events = refl
-longer_list ChunkEnd y events = refl
-
--- the last of events
-last_of : (told : List Event) (event : Event) → ends_in_data (told ++ event ∷ []) ≡ ends_in_data (event ∷ [])
-last_of [] event = refl
-last_of (x ∷ []) event = longer_list x event []
-last_of (x ∷ y ∷ told) event = longer_list x y (told ++ event ∷ []) ∙ last_of (y ∷ told) event
-
--- one more event, of which these bytes were used
-more_progress : (so_far : Progress) (told : List Event) (answer : WalkStep) (used : List ℕ) → so_far ≡ after_events progress.Before told → is_quiet answer ≡ false → (answer ≡ step.Data → with_data told used ≡ told ++ Data used ∷ []) → after_step so_far answer used ≡ after_events progress.Before (tell told answer used)
-more_progress so_far told (step.Form kind size) used e quiet d = ap (λ p. after_form p kind) e ∙ sym (after_both progress.Before told (Begun kind size ∷ []))
-more_progress so_far told (step.Header id offset size) used e quiet d = ap (λ p. after_header p id offset size) e ∙ sym (after_both progress.Before told (Header id offset size ∷ []))
-more_progress so_far told step.Data used e quiet d = ap (λ p. after_data p used) e ∙ sym (after_both progress.Before told (Data used ∷ [])) ∙ ap (after_events progress.Before) (sym (d refl))
-more_progress so_far told step.ChunkEnd used e quiet d = ap after_end e ∙ sym (after_both progress.Before told (ChunkEnd ∷ []))
-more_progress so_far told step.NeedBytes used e quiet d = absurd (true≢false quiet)
-more_progress so_far told step.FormEnd used e quiet d = absurd (true≢false quiet)
-more_progress so_far told (step.Broken kind offset) used e quiet d = absurd (true≢false quiet)
-
--- then data that were told last are all again
-data_or_end : (told : List Event) (rest next : List ℕ) (events : List Event) (used : ℕ) → next ≡ drop used rest → (used ≡ length rest) ⊎ GoesOn (told ++ ChunkEnd ∷ []) events → AreAll told next events
-data_or_end told rest next events used n (inl e) = subst (λ r. AreAll told r events) (sym (n ∙ drop_all used rest (omega (arith, e)))) (NoBytes told events)
-data_or_end told rest next events used n (inr g) = EndNext told next events g
-
-more_all : (told : List Event) (rest next : List ℕ) (events : List Event) (used : ℕ) (answer : WalkStep) → next ≡ drop used rest → is_quiet answer ≡ false
-    → (answer ≡ step.Data → (used ≡ length rest) ⊎ GoesOn (tell told answer (take used rest) ++ ChunkEnd ∷ []) events) → AreAll (tell told answer (take used rest)) next events
-more_all told rest next events used (step.Form kind size) n quiet d = NoData (told ++ Begun kind size ∷ []) next events (last_of told (Begun kind size))
-more_all told rest next events used (step.Header id offset size) n quiet d = NoData (told ++ Header id offset size ∷ []) next events (last_of told (Header id offset size))
-more_all told rest next events used step.Data n quiet d = data_or_end (with_data told (take used rest)) rest next events used n (d refl)
-more_all told rest next events used step.ChunkEnd n quiet d = NoData (told ++ ChunkEnd ∷ []) next events (last_of told ChunkEnd)
-more_all told rest next events used step.NeedBytes n quiet d = absurd (true≢false quiet)
-more_all told rest next events used step.FormEnd n quiet d = absurd (true≢false quiet)
-more_all told rest next events used (step.Broken kind offset) n quiet d = absurd (true≢false quiet)
-
-takes_data : (answer : WalkStep) (used : ℕ) → Takes answer used → answer ≡ step.Data → 0 < used
-takes_data answer used t e = subst (λ a. Takes a used) e t
-
 -- the parts of a file that was taken so far
 pub whole_file : (file rest taken : List ℕ) (used : ℕ) → file ≡ taken ++ rest → taken ++ (take used rest ++ drop used rest) ≡ file
 whole_file file rest taken used e = ap (λ r. taken ++ r) (take-append-drop used rest) ∙ sym e
-
-pub follows_on : (file rest next : List ℕ) (so_far : Progress) (before after : Stage) (used : ℕ) (answer : WalkStep) → Follows file rest so_far before → Feeds before after rest used answer → is_quiet answer ≡ false → next ≡ drop used rest → Follows file next (after_step so_far answer (take used rest)) after
-follows_on file rest next so_far before after used answer f g quiet n =
-    let whole = whole_file file rest f.taken used f.parts in
-    let events = events_of (chunks_of file) in
-    let now = tell f.told answer (take used rest) in
-    let goes : GoesOn now events = subst (λ b. GoesOn now (events_of (chunks_of b))) whole (g.events f.taken (drop used rest) f.told f.is_told) in
-    record {
-      taken = f.taken ++ take used rest;
-      told = now;
-      parts = sym whole ∙ sym (append_assoc f.taken (take used rest) (drop used rest)) ∙ ap (λ r. (f.taken ++ take used rest) ++ r) (sym n);
-      is_told = g.told f.taken f.told f.is_told;
-      goes = goes;
-      all_data = more_all f.told rest next events used answer n quiet (λ e. subst (λ b. (used ≡ length rest) ⊎ GoesOn (now ++ ChunkEnd ∷ []) (events_of (chunks_of b))) whole (g.all_data f.taken (drop used rest) f.told f.is_told e));
-      progress = more_progress so_far f.told answer (take used rest) f.progress quiet (λ e. new_data f.told rest events used f.all_data (takes_data answer used g.takes e) g.within (subst (λ a. GoesOn (tell f.told a (take used rest)) events) e goes));
-    }
-
--- within a chunk the reading is within it, unless the page is refused
-abbrev Agrees : Turn → Progress → Type 0
-Agrees AtForm progress.Before = Unit {0}
-Agrees AtForm (progress.Between is_first size) = ⊥
-Agrees AtForm (progress.Within size info offset next) = ⊥
-Agrees AtForm (progress.Refused size kind offset) = Unit {0}
-Agrees AtHeader progress.Before = ⊥
-Agrees AtHeader (progress.Between is_first size) = Unit {0}
-Agrees AtHeader (progress.Within size info offset next) = ⊥
-Agrees AtHeader (progress.Refused size kind offset) = Unit {0}
-Agrees AtData progress.Before = ⊥
-Agrees AtData (progress.Between is_first size) = ⊥
-Agrees AtData (progress.Within size info offset next) = Unit {0}
-Agrees AtData (progress.Refused size kind offset) = Unit {0}
-Agrees AtEnd progress.Before = ⊥
-Agrees AtEnd (progress.Between is_first size) = ⊥
-Agrees AtEnd (progress.Within size info offset next) = Unit {0}
-Agrees AtEnd (progress.Refused size kind offset) = Unit {0}
-
-agrees_form : (so_far : Progress) (kind : List ℕ) → Agrees AtForm so_far → Agrees AtHeader (after_form so_far kind)
-agrees_form progress.Before kind a = by (kind_fault kind)
-  where
-    by : (f : Option FaultKind) → Agrees AtHeader (begun f)
-    by (Some kind) = tt
-    by None = tt
-agrees_form (progress.Between is_first size) kind a = absurd a
-agrees_form (progress.Within size info offset next) kind a = absurd a
-agrees_form (progress.Refused size f offset) kind a = tt
-
-agrees_header : (so_far : Progress) (id : List ℕ) (offset count : ℕ) → Agrees AtHeader so_far → Agrees AtData (after_header so_far id offset count)
-agrees_header progress.Before id offset count a = absurd a
-agrees_header (progress.Between is_first size) id offset count a = by (header_fault is_first id count)
-  where
-    by : (f : Option FaultKind) → Agrees AtData (at_header f size (is_info id) offset)
-    by (Some kind) = tt
-    by None = tt
-agrees_header (progress.Within size info place next) id offset count a = absurd a
-agrees_header (progress.Refused size f place) id offset count a = tt
-
-agrees_data : (so_far : Progress) (bytes : List ℕ) → Agrees AtData so_far → Agrees AtEnd (after_data so_far bytes)
-agrees_data progress.Before bytes a = absurd a
-agrees_data (progress.Between is_first size) bytes a = absurd a
-agrees_data (progress.Within size false offset next) bytes a = tt
-agrees_data (progress.Within size true offset next) bytes a = by (leb 4 (length bytes)) (size_fault (size_in bytes))
-  where
-    by : (t : Bool) (f : Option FaultKind) → Agrees AtEnd (cond t (at_size f size offset (size_in bytes)) (progress.Within size true offset next))
-    by true (Some kind) = tt
-    by true None = tt
-    by false f = tt
-agrees_data (progress.Refused size f offset) bytes a = tt
-
-agrees_end : (turn : Turn) (so_far : Progress) → (turn ≡ AtData) ⊎ (turn ≡ AtEnd) → Agrees turn so_far → Agrees AtHeader (after_end so_far)
-agrees_end turn progress.Before (inl e) a = absurd (subst (λ t. Agrees t progress.Before) e a)
-agrees_end turn progress.Before (inr e) a = absurd (subst (λ t. Agrees t progress.Before) e a)
-agrees_end turn (progress.Between is_first size) (inl e) a = absurd (subst (λ t. Agrees t (progress.Between is_first size)) e a)
-agrees_end turn (progress.Between is_first size) (inr e) a = absurd (subst (λ t. Agrees t (progress.Between is_first size)) e a)
-agrees_end turn (progress.Within size info offset next) h a = tt
-agrees_end turn (progress.Refused size kind offset) h a = tt
-
--- where the chunk's end comes next, the reading is within the chunk
-within_at_end : (turn : Turn) (so_far : Progress) → Agrees turn so_far → InOrder turn (ChunkEnd ∷ []) → is_refused so_far ≡ false → open_count so_far ≡ 1
-within_at_end AtForm so_far a o r = absurd o
-within_at_end AtHeader so_far a o r = absurd o
-within_at_end AtData progress.Before a o r = absurd a
-within_at_end AtData (progress.Between is_first size) a o r = absurd a
-within_at_end AtData (progress.Within size info offset next) a o r = refl
-within_at_end AtData (progress.Refused size kind offset) a o r = absurd (true≢false r)
-within_at_end AtEnd progress.Before a o r = absurd a
-within_at_end AtEnd (progress.Between is_first size) a o r = absurd a
-within_at_end AtEnd (progress.Within size info offset next) a o r = refl
-within_at_end AtEnd (progress.Refused size kind offset) a o r = absurd (true≢false r)
-
-at_chunk_end : (turn : Turn) (so_far : Progress) (told : List Event) → Agrees turn so_far → InOrder turn (told ++ ChunkEnd ∷ []) → is_refused (after_events so_far told) ≡ false → open_count (after_events so_far told) ≡ 1
-at_chunk_end turn so_far [] a o r = within_at_end turn so_far a o r
-at_chunk_end AtForm so_far (Begun kind size ∷ told) a o r = at_chunk_end AtHeader (after_form so_far kind) told (agrees_form so_far kind a) o r
-at_chunk_end AtForm so_far (Header id offset size ∷ told) a o r = absurd o
-at_chunk_end AtForm so_far (Data bytes ∷ told) a o r = absurd o
-at_chunk_end AtForm so_far (ChunkEnd ∷ told) a o r = absurd o
-at_chunk_end AtHeader so_far (Header id offset size ∷ told) a o r = at_chunk_end AtData (after_header so_far id offset size) told (agrees_header so_far id offset size a) o r
-at_chunk_end AtHeader so_far (Begun kind size ∷ told) a o r = absurd o
-at_chunk_end AtHeader so_far (Data bytes ∷ told) a o r = absurd o
-at_chunk_end AtHeader so_far (ChunkEnd ∷ told) a o r = absurd o
-at_chunk_end AtData so_far (Data bytes ∷ told) a o r = at_chunk_end AtEnd (after_data so_far bytes) told (agrees_data so_far bytes a) o r
-at_chunk_end AtData so_far (ChunkEnd ∷ told) a o r = at_chunk_end AtHeader (after_end so_far) told (agrees_end AtData so_far (inl refl) a) o r
-at_chunk_end AtData so_far (Begun kind size ∷ told) a o r = absurd o
-at_chunk_end AtData so_far (Header id offset size ∷ told) a o r = absurd o
-at_chunk_end AtEnd so_far (ChunkEnd ∷ told) a o r = at_chunk_end AtHeader (after_end so_far) told (agrees_end AtEnd so_far (inr refl) a) o r
-at_chunk_end AtEnd so_far (Begun kind size ∷ told) a o r = absurd o
-at_chunk_end AtEnd so_far (Header id offset size ∷ told) a o r = absurd o
-at_chunk_end AtEnd so_far (Data bytes ∷ told) a o r = absurd o
-
-few_open : (so_far : Progress) → open_count so_far ≤ 1
-few_open progress.Before = omega arith
-few_open (progress.Between is_first size) = omega arith
-few_open (progress.Within size info offset next) = omega arith
-few_open (progress.Refused size kind offset) = omega arith
-
-end_opens_none : (so_far : Progress) → open_count so_far ≡ 1 → open_count (after_end so_far) ≡ 0
-end_opens_none progress.Before e = refl
-end_opens_none (progress.Between is_first size) e = refl
-end_opens_none (progress.Within size info offset next) e = refl
-end_opens_none (progress.Refused size kind offset) e = refl
-
--- each event leaves less
-less : (rest next : List ℕ) (so_far : Progress) (told : List Event) (used : ℕ) (answer : WalkStep) → so_far ≡ after_events progress.Before told → InOrder AtForm (tell told answer (take used rest)) → Takes answer used → used ≤ length rest → is_quiet answer ≡ false → is_refused so_far ≡ false → length next ≡ length rest - used
-    → 2 * length next + open_count (after_step so_far answer (take used rest)) < 2 * length rest + open_count so_far
-less rest next so_far told used (step.Form kind size) e o t within quiet r n = omega (arith, t, few_open (after_form so_far kind))
-less rest next so_far told used (step.Header id offset size) e o t within quiet r n = omega (arith, t, few_open (after_header so_far id offset size))
-less rest next so_far told used step.Data e o t within quiet r n = omega (arith, t, few_open (after_data so_far (take used rest)))
-less rest next so_far told used step.ChunkEnd e o t within quiet r n =
-    let one : open_count so_far ≡ 1 = subst (λ p. open_count p ≡ 1) (sym e) (at_chunk_end AtForm progress.Before told tt o (subst (λ p. is_refused p ≡ false) e r)) in
-    omega (arith, one, end_opens_none so_far one)
-less rest next so_far told used step.NeedBytes e o t within quiet r n = absurd (true≢false quiet)
-less rest next so_far told used step.FormEnd e o t within quiet r n = absurd (true≢false quiet)
-less rest next so_far told used (step.Broken kind offset) e o t within quiet r n = absurd (true≢false quiet)
-
-pub goes_down : (file rest next : List ℕ) (so_far : Progress) (before after : Stage) (used : ℕ) (answer : WalkStep) → Follows file rest so_far before → Feeds before after rest used answer → is_quiet answer ≡ false → is_refused so_far ≡ false → next ≡ drop used rest
-    → 2 * length next + open_count (after_step so_far answer (take used rest)) < 2 * length rest + open_count so_far
-goes_down file rest next so_far before after used answer f g quiet r n = less rest next so_far f.told used answer f.progress (g.order f.taken f.told f.is_told) g.takes g.within quiet r (ap length n ∙ length-drop used rest)
 
 -- the last answer
 pub quiet_end : (file rest taken : List ℕ) (told : List Event) (used : ℕ) (answer : WalkStep) → file ≡ taken ++ rest → is_quiet answer ≡ true
@@ -317,18 +70,18 @@ quiet_tell told step.NeedBytes used q = refl
 quiet_tell told step.FormEnd used q = refl
 quiet_tell told (step.Broken kind offset) used q = refl
 
-pub told_whole : (file rest : List ℕ) (so_far : Progress) (before after : Stage) (used : ℕ) (answer : WalkStep) → Follows file rest so_far before → Feeds before after rest used answer → is_quiet answer ≡ true → IsToldWhole file so_far after
-told_whole file rest so_far before after used answer f g q =
-    let all = quiet_end file rest f.taken f.told used answer f.parts q (g.needs f.taken f.told f.is_told) (λ more. g.ends f.taken more f.told f.is_told) in
-    record {
-      taken = f.taken ++ take used rest;
-      is_told = subst (λ t. Told (f.taken ++ take used rest) t after) (quiet_tell f.told answer (take used rest) q ∙ sym all.0) (g.told f.taken f.told f.is_told);
-      same_end = all.1;
-      progress = f.progress ∙ ap (after_events progress.Before) (sym all.0);
-    }
+by_cut : (cut : Bool) (arrived : ℕ) (kind : FaultKind) (offset : ℕ) → ending_of (cond cut (grammar.Broken fault.Read arrived) (grammar.Broken kind offset)) ≡ ending (cond cut (page_end.Refused fault.Read arrived) (page_end.Refused kind offset))
+by_cut true arrived kind offset = refl
+by_cut false arrived kind offset = refl
 
-pub refused_early : (file rest : List ℕ) (so_far : Progress) (walker : Stage) → Follows file rest so_far walker → is_refused so_far ≡ true → IsRefusedEarly file so_far
-refused_early file rest so_far walker f r = record { told = f.told; goes = f.goes; progress = f.progress; refused = r }
-
-pub at_start : (file : List ℕ) (walker : Stage) → Told [] [] walker → Follows file file progress.Before walker
-at_start file walker t = record { taken = []; told = []; parts = refl; is_told = t; goes = tt; all_data = NoData [] file (events_of (chunks_of file)) refl; progress = refl }
+-- the walker's last answer says where the file ends
+pub ends_same : (end : FileEnd) (arrived : ℕ) (whole : List grammar.Chunk) (tail : Tail) (answer : WalkStep) → Settles answer (end_of whole tail) → ending_of (closed (mark_of end) arrived whole tail) ≡ ending (ended_so answer end arrived)
+ends_same file_end.Whole arrived whole tail step.FormEnd s = ap ending_of s
+ends_same file_end.Whole arrived whole tail (step.Broken kind offset) s = ap ending_of s
+ends_same file_end.Broken arrived whole tail step.FormEnd s = ap (λ t. ending_of (broken_off arrived t)) s
+ends_same file_end.Broken arrived whole tail (step.Broken kind offset) s = ap (λ t. ending_of (broken_off arrived t)) s ∙ by_cut (is_cut kind) arrived kind offset
+ends_same end arrived whole tail (step.Form kind count) s = absurd s
+ends_same end arrived whole tail (step.Header id offset count) s = absurd s
+ends_same end arrived whole tail step.Data s = absurd s
+ends_same end arrived whole tail step.ChunkEnd s = absurd s
+ends_same end arrived whole tail step.NeedBytes s = absurd s

@@ -3,8 +3,8 @@ use Rattle.std.specs.Prelude.{ℕ, ◌≡◌, ◌+◌, ◌≤◌, ◌++◌, ◌�
 use Rattle.djvu_base.specs.Library.{Files}
 use Rattle.djvu_outside.specs.Faults.{Failure, Reading, Rises}
 use Rattle.djvu_outside.specs.Reading.{Opened, bytes_in}
-use Rattle.viewer_run.specs.declared.reading.FileEnd.{FileEnd}
-use Rattle.viewer_run.specs.declared.reading.FileEnd.TheVariants as file_end
+use Rattle.page_decoder.specs.declared.ends.FileEnd.{FileEnd}
+use Rattle.page_decoder.specs.declared.ends.FileEnd.TheVariants as file_end
 use Rattle.viewer_run.specs.declared.read.FileRead.{FileRead}
 use Rattle.viewer_run.specs.declared.stop.Stop.{Stop}
 

@@ -1,4 +1,4 @@
--- The text of `info`, read off the chunks of a file alone.
+-- The text of `info`, read off the chunks of a file alone. No decision is read.
 use Rattle.std.specs.Prelude.{ℕ, true, false, ◌≡◌, ◌++◌, List, [], length, Option, Some, None}
 use Rattle.std.specs.List.{flat_map}
 use Rattle.djvu_base.specs.Library.{File, Mark}
@@ -10,7 +10,7 @@ use Rattle.iff_chunks.specs.Events.{Event, Begun, Header, Data, ChunkEnd, events
 use Rattle.iff_chunks.specs.Told.{Told}
 use Rattle.viewer_words.specs.Lines.{form_line, chunk_line}
 use Rattle.viewer_run.specs.Texts.{Texts, page_fault}
-use Rattle.viewer_run.specs.Reading.{closed}
+use Rattle.page_decoder.specs.Reading.{closed}
 
 abbrev pub form_lines : List ℕ → Option Form → List ℕ
 form_lines name None = []
@@ -33,15 +33,15 @@ heading_lines name chunks = form_lines name chunks.form ++ (flat_map (header_lin
 
 -- the line of a fault of form
 abbrev pub fault_text : List ℕ → Tail → Texts
-fault_text name (Broken kind offset) = record { out = []; report = page_fault name kind offset; refused = true }
-fault_text name InHead = record { out = []; report = []; refused = false }
-fault_text name (InHeader offset bytes) = record { out = []; report = []; refused = false }
-fault_text name (InData chunk) = record { out = []; report = []; refused = false }
-fault_text name (InPad offset is_last) = record { out = []; report = []; refused = false }
-fault_text name FormEnd = record { out = []; report = []; refused = false }
+fault_text name (Broken kind offset) = record { out = []; report = page_fault name kind offset; refused = true; work = 0 }
+fault_text name InHead = record { out = []; report = []; refused = false; work = 0 }
+fault_text name (InHeader offset bytes) = record { out = []; report = []; refused = false; work = 0 }
+fault_text name (InData chunk) = record { out = []; report = []; refused = false; work = 0 }
+fault_text name (InPad offset is_last) = record { out = []; report = []; refused = false; work = 0 }
+fault_text name FormEnd = record { out = []; report = []; refused = false; work = 0 }
 
 abbrev pub with_headings : List ℕ → Texts → Texts
-with_headings lines texts = record { out = texts.out; report = lines ++ texts.report; refused = texts.refused }
+with_headings lines texts = record { out = texts.out; report = lines ++ texts.report; refused = texts.refused; work = texts.work }
 
 -- the FORM, the chunks and the fault of form of a file, by what is known of its end
 abbrev pub info_report : List ℕ → Mark → List ℕ → Texts

@@ -1,6 +1,3 @@
-pub mod Reading
-pub mod Progress
-pub mod Walk
 pub mod Lines
 pub mod Cut
 pub mod Texts

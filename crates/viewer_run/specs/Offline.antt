@@ -1,7 +1,9 @@
--- What a run writes, and its status.
+-- What a run writes, its status, and how many decisions it reads.
 use Rattle.std.specs.Prelude.{ℕ, Bool, true, false, ◌≡◌, ◌⊎◌, List, [], ◌∷◌, Option, Some, None}
 use Rattle.djvu_base.specs.Library.{File, Library, file_named}
 use Rattle.djvu_outside.specs.Faults.{Failure}
+use Rattle.zp_table.specs.declared.rows.Row.{Row}
+use Rattle.page_decoder.specs.Reading.{reading}
 use Rattle.viewer_run.specs.declared.front.Front.{Front}
 use Rattle.viewer_run.specs.declared.front.Front.TheVariants as front
 use Rattle.viewer_run.specs.declared.front.Mode.{Mode}
@@ -11,9 +13,9 @@ use Rattle.viewer_run.specs.Info.{info_of_file}
 use Rattle.viewer_run.specs.Front.{front_of}
 use Rattle.viewer_run.specs.Cut.{cut, front_may_fail, front_failed}
 
--- a page is drawn, or its chunks are listed
+-- a page is drawn with a state table, or its chunks are listed
 abbrev pub texts_by : Mode → File → Texts
-texts_by mode.Draw file = texts_of_file file
+texts_by (mode.Draw rows) file = texts_of_file rows file
 texts_by mode.Info file = info_of_file file
 
 abbrev pub texts_of_found : Mode → Option File → Texts
@@ -25,11 +27,18 @@ abbrev pub texts_of_names : Mode → Library → List (List ℕ) → Texts
 texts_of_names mode library [] = no_texts
 texts_of_names mode library (name ∷ names) = joined (texts_of_found mode (file_named name library)) (texts_of_names mode library names)
 
--- what a run puts to its two sinks, and its status
+-- the decisions of a page's reading, of a file that is there
+abbrev pub decisions_of : List Row → Option File → ℕ
+decisions_of rows None = 0
+decisions_of rows (Some file) = (reading rows file.mark file.bytes).decisions
+
+-- what a run puts to its two sinks, its status, and its work: the decisions of the readings of all pages, those of refused
+-- pages and of chunks that are cut among them
 pub record Written : Type 0 where
   pub out : List ℕ
   pub report : List ℕ
   pub status : ℕ
+  pub work : ℕ
 
 -- 1 where a page was refused
 abbrev pub status_by : Bool → ℕ
@@ -37,10 +46,10 @@ status_by true = 1
 status_by false = 0
 
 abbrev pub written : Texts → Written
-written texts = record { out = texts.out; report = texts.report; status = status_by texts.refused }
+written texts = record { out = texts.out; report = texts.report; status = status_by texts.refused; work = texts.work }
 
 abbrev pub written_by : Library → Front → Written
-written_by library (front.Refused line) = record { out = []; report = line; status = 2 }
+written_by library (front.Refused line) = record { out = []; report = line; status = 2; work = 0 }
 written_by library (front.Accepted mode pages) = written (texts_of_names mode library pages)
 
 -- a run over a library, where nothing outside fails
@@ -49,7 +58,7 @@ offline library words = written_by library (front_of library words)
 
 abbrev pub with_failures : List Failure → Written → Written
 with_failures [] texts = texts
-with_failures (entry ∷ entries) texts = record { out = texts.out; report = texts.report; status = 3 }
+with_failures (entry ∷ entries) texts = record { out = texts.out; report = texts.report; status = 3; work = texts.work }
 
 -- the words and the table are those of the library, and the pages are its files as far as they came; the status is 3 where
 -- any reading failed
@@ -57,7 +66,7 @@ abbrev pub written_cut : List Failure → Library → List (List ℕ) → Writte
 written_cut failures library words = with_failures failures (written_by (cut failures library) (front_of library words))
 
 abbrev pub nothing_written : Written
-nothing_written = record { out = []; report = []; status = 3 }
+nothing_written = record { out = []; report = []; status = 3; work = 0 }
 
 -- what a run over a library comes to, where the folder failed so: nothing where the listing or the table failed, and else
 -- what is written for the files as far as they came

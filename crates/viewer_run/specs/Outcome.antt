@@ -1,7 +1,8 @@
 -- How a run, or a part of it, ends.
-use Rattle.std.specs.Prelude.{ℕ, ◌≡◌, ◌++◌, ◌⊎◌, ⊤, List, Option, Some, Result, Ok, Err}
+use Rattle.std.specs.Prelude.{ℕ, ◌≡◌, ◌≤◌, ◌++◌, ◌⊎◌, ⊤, List, Option, Some, Result, Ok, Err}
 use Rattle.djvu_outside.specs.Faults.{Rises}
 use Rattle.djvu_outside.specs.Reading.{GrowsWithin}
+use Rattle.jb2_numbers.specs.Number.{ticked}
 use Rattle.viewer_run.specs.declared.stop.Stop.{Stop}
 use Rattle.viewer_run.specs.declared.stop.Stop.TheVariants as stop
 
@@ -46,3 +47,12 @@ NeverFolder (Ok value) = ⊤
 NeverFolder (Err stop.Folder) = ⊥
 NeverFolder (Err stop.Sink) = ⊤
 NeverFolder (Err stop.Memory) = ⊤
+
+-- a meter counts the work of a part, or, where the part stopped, no more than that
+abbrev pub Ticks : {T : Type 0} → Result T Stop → ℕ → ℕ → ℕ → Type 0
+Ticks (Ok value) work before after = after ≡ ticked work before
+Ticks (Err fault) work before after = (ticks : ℕ) × (ticks ≤ work) × (after ≡ ticked ticks before)
+
+-- a meter was ticked, and nothing else
+abbrev pub OnlyTicks : ℕ → ℕ → Type 0
+OnlyTicks before after = (ticks : ℕ) × (after ≡ ticked ticks before)

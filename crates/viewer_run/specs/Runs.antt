@@ -1,23 +1,28 @@
 -- A whole run.
-use Rattle.std.specs.Prelude.{ℕ, false, ◌≡◌, ◌++◌, ◌<◌, ⊤, List, [], Option, Some, Result, Ok, Err}
+use Rattle.std.specs.Prelude.{ℕ, false, ◌≡◌, ◌++◌, ◌<◌, ◌≤◌, ⊤, List, [], Option, Some, Result, Ok, Err}
 use Rattle.djvu_base.specs.Library.{Files, library_of}
 use Rattle.djvu_outside.specs.declared.faults.Status.{Status}
 use Rattle.djvu_outside.specs.Faults.{Failure, Rises}
 use Rattle.djvu_outside.specs.Reading.{GrowsWithin}
+use Rattle.jb2_numbers.specs.Number.{ticked}
 use Rattle.viewer_run.specs.declared.stop.Stop.{Stop}
 use Rattle.viewer_run.specs.declared.stop.Stop.TheVariants as stop
 use Rattle.viewer_run.specs.Cut.{front_failed, NamesRead}
 use Rattle.viewer_run.specs.Offline.{Written, IsOutcome}
-use Rattle.viewer_run.specs.Outcome.{Gives}
+use Rattle.viewer_run.specs.Outcome.{Gives, Ticks}
 
 -- a sink that tells what it was given got all of a text where the status is below 4, and else a front of it
 abbrev pub Gets : ℕ → Option (List ℕ) → Option (List ℕ) → List ℕ → Type 0
 Gets status old new text =
     (before : List ℕ) → old ≡ Some before → (after : List ℕ) × (new ≡ Some after) × (status < 4 → after ≡ before ++ text) × GrowsWithin before text after
 
+-- a meter counts the work where the status is below 4, and else no more than that
+abbrev pub Counts : ℕ → ℕ → ℕ → ℕ → Type 0
+Counts status work before after = (ticks : ℕ) × (ticks ≤ work) × (status < 4 → ticks ≡ work) × (after ≡ ticked ticks before)
+
 -- a run with these words over a folder with these files: the failures that it added to the folder's, what they leave to be
--- written, and that it was written
-pub record Run (files : Files) (words : List (List ℕ)) (status : ℕ) (old_failures new_failures : List Failure) (old_out new_out old_report new_report : Option (List ℕ)) : Type 0 where
+-- written, that it was written, and that its work was counted
+pub record Run (files : Files) (words : List (List ℕ)) (status : ℕ) (old_failures new_failures : List Failure) (old_out new_out old_report new_report : Option (List ℕ)) (old_count new_count : ℕ) : Type 0 where
   pub added : List Failure
   pub grown : new_failures ≡ old_failures ++ added
   pub only : NamesRead words added
@@ -26,6 +31,7 @@ pub record Run (files : Files) (words : List (List ℕ)) (status : ℕ) (old_fai
   pub out : Gets status old_out new_out written.out
   pub report : Gets status old_report new_report written.report
   pub same_status : status < 4 → status ≡ written.status
+  pub counts : Counts status written.work old_count new_count
 
 -- a run that stops for the folder has the status 3
 abbrev pub EndsSo : Result Status Stop → ℕ → Type 0
@@ -48,8 +54,8 @@ RunCounts (Err stop.Folder) before after = Rises before after
 RunCounts (Err stop.Sink) before after = ⊤
 RunCounts (Err stop.Memory) before after = ⊤
 
--- the same of a run that may have stopped; where it stopped for the folder it put nothing
-pub record Runs (files : Files) (words : List (List ℕ)) (result : Result Status Stop) (old_failures new_failures : List Failure) (old_out new_out old_report new_report : Option (List ℕ)) : Type 0 where
+-- the same of a run that may have stopped; where it stopped for the folder it put nothing and counted nothing
+pub record Runs (files : Files) (words : List (List ℕ)) (result : Result Status Stop) (old_failures new_failures : List Failure) (old_out new_out old_report new_report : Option (List ℕ)) (old_count new_count : ℕ) : Type 0 where
   pub added : List Failure
   pub grown : new_failures ≡ old_failures ++ added
   pub only : NamesRead words added
@@ -59,4 +65,5 @@ pub record Runs (files : Files) (words : List (List ℕ)) (result : Result Statu
   pub out : Gives result old_out new_out written.out
   pub report : Gives result old_report new_report written.report
   pub status : EndsSo result written.status
-  pub nothing : result ≡ Err stop.Folder → (written.out ≡ []) × (written.report ≡ [])
+  pub ticks : Ticks result written.work old_count new_count
+  pub nothing : result ≡ Err stop.Folder → (written.out ≡ []) × (written.report ≡ []) × (written.work ≡ 0)

@@ -1,4 +1,4 @@
--- What pages that are drawn came to, and which failures were met.
+-- What pages that are shown came to, and which failures were met.
 use Rattle.std.specs.Prelude.{ℕ, Bool, true, false, ◌≡◌, ◌++◌, ◌≢◌, ◌||◌, ⊤, List, [], ◌∷◌, Option, None, Result, IfOk, take, if◌then◌else◌}
 use Rattle.djvu_base.specs.Library.{File, Files, Whole, file_limit}
 use Rattle.djvu_outside.specs.Faults.{Failure, Listing, Reading, Rises}
@@ -6,13 +6,13 @@ use Rattle.djvu_outside.specs.Reading.{HasFile, bytes_in}
 use Rattle.viewer_run.specs.declared.pages.Shown.{Shown}
 use Rattle.viewer_run.specs.declared.stop.Stop.{Stop}
 use Rattle.viewer_run.specs.declared.front.Mode.{Mode}
-use Rattle.viewer_run.specs.declared.reading.FileEnd.{FileEnd}
-use Rattle.viewer_run.specs.Progress.{mark_of}
+use Rattle.page_decoder.specs.declared.ends.FileEnd.{FileEnd}
+use Rattle.page_decoder.specs.Ends.{mark_of}
 use Rattle.viewer_run.specs.Cut.{first_entry, cut_file}
 use Rattle.viewer_run.specs.Texts.{Texts, no_texts, joined}
 use Rattle.viewer_run.specs.Front.{is_listed}
 use Rattle.viewer_run.specs.Offline.{texts_by}
-use Rattle.viewer_run.specs.Outcome.{Gives}
+use Rattle.viewer_run.specs.Outcome.{Gives, Ticks}
 
 -- the file of a folder up to the limit, as these failures cut it
 abbrev pub file_of : Files → List Failure → List ℕ → File
@@ -42,19 +42,22 @@ abbrev pub HasBroken : Bool → List Failure → Type 0
 HasBroken true failures = failures ≢ []
 HasBroken false failures = failures ≡ []
 
--- the pages of these names were drawn: what was put is their texts, cut by the failures that were met
-pub record Shows (mode : Mode) (files : Files) (names : List (List ℕ)) (result : Result Shown Stop) (old_failures new_failures : List Failure) (old_out new_out old_report new_report : Option (List ℕ)) : Type 0 where
+-- the pages of these names were shown: what was put is their texts, cut by the failures that were met, and the meter counts
+-- their work
+pub record Shows (mode : Mode) (files : Files) (names : List (List ℕ)) (result : Result Shown Stop) (old_failures new_failures : List Failure) (old_out new_out old_report new_report : Option (List ℕ)) (old_count new_count : ℕ) : Type 0 where
   pub added : List Failure
   pub grown : new_failures ≡ old_failures ++ added
   pub only : NamesOnly names added
   pub behind : lists_first added ≡ false
   pub out : Gives result old_out new_out (texts_of_pages mode files added names).out
   pub report : Gives result old_report new_report (texts_of_pages mode files added names).report
+  pub ticks : Ticks result (texts_of_pages mode files added names).work old_count new_count
   pub refused : IfOk result (λ drawn. drawn.refused ≡ (texts_of_pages mode files added names).refused)
   pub broken : IfOk result (λ drawn. HasBroken drawn.broken added)
 
-abbrev pub ShowsPage : Mode → Files → List ℕ → Result Shown Stop → List Failure → List Failure → Option (List ℕ) → Option (List ℕ) → Option (List ℕ) → Option (List ℕ) → Type 0
-ShowsPage mode files name result old_failures new_failures old_out new_out old_report new_report = Shows mode files (name ∷ []) result old_failures new_failures old_out new_out old_report new_report
+abbrev pub ShowsPage : Mode → Files → List ℕ → Result Shown Stop → List Failure → List Failure → Option (List ℕ) → Option (List ℕ) → Option (List ℕ) → Option (List ℕ) → ℕ → ℕ → Type 0
+ShowsPage mode files name result old_failures new_failures old_out new_out old_report new_report old_count new_count =
+    Shows mode files (name ∷ []) result old_failures new_failures old_out new_out old_report new_report old_count new_count
 
 -- the folder's count of faults rose where a reading failed
 abbrev pub BrokenCounts : Bool → ℕ → ℕ → Type 0

@@ -1,5 +1,5 @@
 -- The start of a run, up to its pages.
-use Rattle.std.specs.Prelude.{ℕ, ◌≡◌, ◌++◌, true, ⊤, List, [], ◌∷◌, Result, Ok, Err}
+use Rattle.std.specs.Prelude.{ℕ, ◌≡◌, ◌++◌, true, ⊤, List, [], ◌∷◌, Option, Some, None, Result, Ok, Err}
 use Rattle.djvu_base.specs.Library.{Files}
 use Rattle.djvu_outside.specs.Faults.{Failure, Listing, Reading}
 use Rattle.djvu_outside.specs.Reading.{HasFile}
@@ -42,11 +42,11 @@ CanRead files choice.Djvu = ⊤
 CanRead files choice.Flat = ⊤
 CanRead files (choice.File name) = HasFile files name
 
--- and that of the table, where the words are accepted
-abbrev pub CanStart : Files → TableChoice → Front → Type 0
-CanStart files table (front.Refused line) = ⊤
-CanStart files table (front.Accepted mode pages) = CanRead files table × HasFiles files pages
-
 abbrev pub ShowsEachOnce : Front → Type 0
 ShowsEachOnce (front.Refused line) = ⊤
 ShowsEachOnce (front.Accepted mode pages) = AreDistinct pages
+
+-- where no line refuses a run, the folder has its table's file and its pages
+abbrev pub CanStart : Files → TableChoice → List (List ℕ) → Option (List ℕ) → Type 0
+CanStart files table pages (Some line) = ⊤
+CanStart files table pages None = CanRead files table × HasFiles files pages

@@ -1,15 +1,16 @@
 //! What stands before the pages: the words, the listing, the number of names, the words that name files, and the table.
-ghost use Rattle.std.specs.Prelude.{◌≡◌, ◌≢◌, ℕ, Some, Err, IfOk, IfSome, ◌<◌, length};
-ghost use Rattle.djvu_base.specs.Library.{Files, library_of, names_of};
+ghost use Rattle.std.specs.Prelude.{◌≡◌, ◌≢◌, ℕ, false, Some, Err, IfOk, IfSome, ◌<◌, length};
+ghost use Rattle.djvu_base.specs.Library.{Files, library_of};
 ghost use Rattle.viewer_words.specs.Words.{words_of};
 ghost use Rattle.viewer_words.specs.Lines.{words_line};
-ghost use Rattle.viewer_run.specs.Front.{is_listed, first_unlisted, has_table, front_of, front_by_library, front_by_names};
+ghost use Rattle.viewer_run.specs.Front.{is_listed, first_unlisted, has_table, line_by_names, names_in, front_of, front_of_draw, front_of_info, draws, ReadsNone};
 ghost use Rattle.viewer_run.specs.Shown.{AreDistinct};
 ghost use Rattle.viewer_run.specs.Outcome.{FolderStops};
-ghost use Rattle.viewer_run.specs.Start.{Starts, StartsFor, CanShow, ShowsEachOnce};
+ghost use Rattle.viewer_run.specs.Start.{Starts, StartsFor, CanShow, CanStart, ShowsEachOnce};
 
+use crate::lines::table_line;
 use crate::stop::Stop;
-use crate::tables::with_table;
+use crate::tables::{Chosen, SharedTable, choose_table};
 use djvu_base::{Items, Name};
 use djvu_outside::{Folder, FolderFault};
 use std::alloc::{AllocError, Global};
@@ -19,10 +20,10 @@ use viewer_words::{Command, TableChoice, WordsError, folder_line, read_words, wo
 const NAME_LIMIT: usize = 1_024;
 
 /// What is done with each page.
-#[derive(Clone, Copy, Debug, PartialEq, Eq)]
+#[derive(Debug, Drop)]
 pub enum Mode {
-    /// It is drawn.
-    Draw,
+    /// It is drawn, with this state table.
+    Draw(SharedTable),
     /// Its chunks are listed.
     Info,
 }
@@ -47,6 +48,7 @@ pub fn find_front<F: Folder>(
     ensures failure { (told : Files) → F.files folder.old ≡ Some told → StartsFor result words.now (F.failures folder.old) (F.failures folder.new) }
     ensures can_show { (told : Files) → F.files folder.old ≡ Some told → IfOk result (λ front. CanShow told front) }
     ensures each_once { IfOk result ShowsEachOnce }
+    ensures reads_none { draws (words_of words.now) ≡ false → IfOk result ReadsNone }
     ensures stops { FolderStops result (F.faults folder.old) (F.faults folder.new) }
     ensures same_files { F.files folder.new ≡ F.files folder.old }
     ensures words_first { (number : ℕ) → words_of words.now ≡ Err number → folder.new ≡ folder.old }
@@ -56,12 +58,9 @@ pub fn find_front<F: Folder>(
     viewer_words::written_commands();
     match read_words(alloc, words) {
         Ok(Command::Draw { table, pages }) => {
-            listed_front(alloc, words.len(), table, Mode::Draw, pages, folder)
+            front_of_draw(alloc, words.len(), &table, pages, folder)
         }
-        Ok(Command::Info { pages }) => {
-            let table = TableChoice::Djvu;
-            listed_front(alloc, words.len(), table, Mode::Info, pages, folder)
-        }
+        Ok(Command::Info { pages }) => front_of_info(alloc, words.len(), pages, folder),
         Err(WordsError::Refused(number)) => {
             Ok(Front::Refused(Items::of(words_line(alloc, number)?)))
         }
@@ -69,21 +68,74 @@ pub fn find_front<F: Folder>(
     }
 }
 
-/// What a run with so many words that is to do this with these pages, by this table, does over this folder.
-fn listed_front<F: Folder>(
+/// What a run with so many words that is to draw these pages, with this table, does over this folder.
+fn front_of_draw<F: Folder>(
     alloc: Global,
     count: usize,
-    table: TableChoice,
-    mode: Mode,
+    table: &TableChoice,
     pages: Items<Name>,
     folder: &mut F,
 ) -> Result<Front, Stop>
     requires distinct { AreDistinct pages }
     requires behind { length pages < count }
-    ensures told { (told : Files) → F.files folder.old ≡ Some told → IfOk result (λ front. front ≡ front_by_library (library_of told) count table mode pages) }
-    ensures failure { (told : Files) → F.files folder.old ≡ Some told → Starts result table (F.failures folder.old) (F.failures folder.new) }
+    ensures told { (told : Files) → F.files folder.old ≡ Some told → IfOk result (λ front. front ≡ front_of_draw (library_of told) count table.now pages) }
+    ensures failure { (told : Files) → F.files folder.old ≡ Some told → Starts result table.now (F.failures folder.old) (F.failures folder.new) }
     ensures can_show { (told : Files) → F.files folder.old ≡ Some told → IfOk result (λ front. CanShow told front) }
     ensures each_once { IfOk result ShowsEachOnce }
+    ensures stops { FolderStops result (F.faults folder.old) (F.faults folder.new) }
+    ensures same_files { F.files folder.new ≡ F.files folder.old }
+{
+    if let Some(line) = refusal(alloc, count, table, pages.slice(), folder)? {
+        return Ok(Front::Refused(line));
+    }
+    match choose_table(alloc, table, folder)? {
+        Chosen::Table(table) => Ok(Front::Accepted {
+            mode: Mode::Draw(table),
+            pages,
+        }),
+        Chosen::Refused(fault) => Ok(Front::Refused(Items::of(table_line(alloc, fault)?))),
+    }
+}
+
+/// What a run with so many words that is to list the chunks of these files does over this folder.
+fn front_of_info<F: Folder>(
+    alloc: Global,
+    count: usize,
+    pages: Items<Name>,
+    folder: &mut F,
+) -> Result<Front, Stop>
+    requires distinct { AreDistinct pages }
+    requires behind { length pages < count }
+    ensures told { (told : Files) → F.files folder.old ≡ Some told → IfOk result (λ front. front ≡ front_of_info (library_of told) count pages) }
+    ensures failure { (told : Files) → F.files folder.old ≡ Some told → Starts result TableChoice.Djvu (F.failures folder.old) (F.failures folder.new) }
+    ensures can_show { (told : Files) → F.files folder.old ≡ Some told → IfOk result (λ front. CanShow told front) }
+    ensures each_once { IfOk result ShowsEachOnce }
+    ensures reads_none { IfOk result ReadsNone }
+    ensures stops { FolderStops result (F.faults folder.old) (F.faults folder.new) }
+    ensures same_files { F.files folder.new ≡ F.files folder.old }
+{
+    match refusal(alloc, count, &TableChoice::Djvu, pages.slice(), folder)? {
+        Some(line) => Ok(Front::Refused(line)),
+        None => Ok(Front::Accepted {
+            mode: Mode::Info,
+            pages,
+        }),
+    }
+}
+
+/// The line by which so many words that name this table and these pages are refused over this folder, if they don't fit its
+/// list.
+fn refusal<F: Folder>(
+    alloc: Global,
+    count: usize,
+    table: &TableChoice,
+    pages: &[Name],
+    folder: &mut F,
+) -> Result<Option<Items<u8>>, Stop>
+    requires { length pages.now < count }
+    ensures told { (told : Files) → F.files folder.old ≡ Some told → IfOk result (λ line. line ≡ line_by_names (names_in (library_of told)) count table.now pages.now) }
+    ensures failure { (told : Files) → F.files folder.old ≡ Some told → Starts result table.now (F.failures folder.old) (F.failures folder.new) }
+    ensures can_start { (told : Files) → F.files folder.old ≡ Some told → IfOk result (λ line. CanStart told table.now pages.now line) }
     ensures stops { FolderStops result (F.faults folder.old) (F.faults folder.new) }
     ensures same_files { F.files folder.new ≡ F.files folder.old }
 {
@@ -92,33 +144,31 @@ fn listed_front<F: Folder>(
         Err(FolderFault::Failed) => return Err(Stop::Folder),
         Err(FolderFault::OutOfMemory) => return Err(Stop::Memory),
     };
-    let front = front_among(alloc, names.as_slice(), count, &table, mode, pages)?;
-    with_table(alloc, front, &table, folder)
+    Ok(line_by_names(alloc, names.as_slice(), count, table, pages)?)
 }
 
-/// What a run with so many words that is to do this with these pages, by this table, does where these names are listed.
-fn front_among(
+/// The same where these names are listed.
+fn line_by_names(
     alloc: Global,
     names: &[Name],
     count: usize,
     table: &TableChoice,
-    mode: Mode,
-    pages: Items<Name>,
-) -> Result<Front, AllocError>
-    requires { length pages < count }
-    ensures { IfOk result (λ front. front ≡ front_by_names names.now count table.now mode pages) }
+    pages: &[Name],
+) -> Result<Option<Items<u8>>, AllocError>
+    requires { length pages.now < count }
+    ensures { IfOk result (λ line. line ≡ line_by_names names.now count table.now pages.now) }
 {
     if NAME_LIMIT < names.len() {
-        return Ok(Front::Refused(Items::of(folder_line(alloc, names.len())?)));
+        return Ok(Some(Items::of(folder_line(alloc, names.len())?)));
     }
     if !has_table(names, table) {
-        return Ok(Front::Refused(Items::of(words_line(alloc, 2)?)));
+        return Ok(Some(Items::of(words_line(alloc, 2)?)));
     }
-    let Some(at) = first_unlisted(names, pages.slice()) else {
-        return Ok(Front::Accepted { mode, pages });
+    let Some(at) = first_unlisted(names, pages) else {
+        return Ok(None);
     };
-    let number = count - pages.slice().len() + at;
-    Ok(Front::Refused(Items::of(words_line(alloc, number)?)))
+    let number = count - pages.len() + at;
+    Ok(Some(Items::of(words_line(alloc, number)?)))
 }
 
 /// Whether a table's file is listed.

@@ -2,13 +2,13 @@
 ghost use Rattle.std.specs.Prelude.{◌≡◌, ◌<◌, ◌^◌, IfOk, [], length};
 ghost use Rattle.iff_chunks.specs.Told.{Told};
 ghost use Rattle.viewer_run.specs.Info.{info_report, step_line, InformsWhole};
-ghost use Rattle.viewer_run.specs.Progress.{mark_of};
+ghost use Rattle.page_decoder.specs.Ends.{mark_of};
 
-use crate::reading::{FileEnd, PageEnd, ended_so, is_quiet};
 use crate::slices::behind;
 use crate::texts::own_fault;
 use djvu_base::Name;
 use iff_chunks::{WalkStep, Walker};
+use page_decoder::{FileEnd, PageEnd, ended_so, is_quiet};
 use std::alloc::{AllocError, Global};
 use viewer_words::{chunk_line, form_line};
 

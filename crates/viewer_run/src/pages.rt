@@ -1,23 +1,24 @@
 //! Pages, one after the other.
-ghost use Rattle.std.specs.Prelude.{◌≡◌, ◌<◌, ◌^◌, ◌++◌, length, List, Some, true, false, IfOk, IsErr};
+ghost use Rattle.std.specs.Prelude.{◌≡◌, ◌<◌, ◌^◌, Some, IfOk, vec_len};
 ghost use Rattle.djvu_base.specs.Library.{Files};
-ghost use Rattle.djvu_outside.specs.Faults.{Failure, Rises};
 ghost use Rattle.djvu_outside.specs.Reading.{HasFile};
+ghost use Rattle.page_decoder.specs.Ends.{mark_of};
 ghost use Rattle.viewer_run.specs.Info.{info_report};
 ghost use Rattle.viewer_run.specs.Offline.{texts_by};
-ghost use Rattle.viewer_run.specs.Progress.{mark_of};
-ghost use Rattle.viewer_run.specs.Outcome.{Gives, SinksEnd, SinkStops, NeverFolder};
+ghost use Rattle.viewer_run.specs.Texts.{texts_of_file};
+ghost use Rattle.viewer_run.specs.Outcome.{Gives, SinksEnd, SinkStops, NeverFolder, Ticks, OnlyTicks};
 ghost use Rattle.viewer_run.specs.Shown.{file_read, Shows, ShowsPage, BrokenCounts, HasFiles, AreDistinct, both, status_shown};
 
 use crate::front::Mode;
 use crate::info::info_of;
 use crate::put::put_text;
-use crate::read::read_file;
-use crate::reading::{FileEnd, read_page};
+use crate::read::{FileRead, read_file};
 use crate::stop::Stop;
+use crate::tables::SharedTable;
 use crate::texts::put_page;
-use djvu_base::Name;
+use djvu_base::{Meter, Name};
 use djvu_outside::{Folder, Sink, Status};
+use page_decoder::read_page;
 use std::alloc::Global;
 
 /// No page was refused.
@@ -64,95 +65,122 @@ impl Shown {
 }
 
 /// Reads a page, and puts what it comes to.
-fn show_page<F: Folder, S: Sink, E: Sink>(
+fn show_page<F: Folder, S: Sink, E: Sink, M: Meter>(
     alloc: Global,
-    mode: Mode,
+    mode: &Mode,
     page: &Name,
     folder: &mut F,
     out: &mut S,
     report: &mut E,
+    meter: &mut M,
 ) -> Result<Shown, Stop>
     requires { (told : Files) → F.files folder.old ≡ Some told → HasFile told page.now }
     ensures told { (told : Files) → F.files folder.old ≡ Some told →
-        ShowsPage mode told page.now result (F.failures folder.old) (F.failures folder.new) (S.given out.old) (S.given out.new) (E.given report.old) (E.given report.new) }
+        ShowsPage mode.now told page.now result (F.failures folder.old) (F.failures folder.new) (S.given out.old) (S.given out.new) (E.given report.old) (E.given report.new) (M.count meter.old) (M.count meter.new) }
     ensures counts { IfOk result (λ shown. BrokenCounts shown.broken (F.faults folder.old) (F.faults folder.new)) }
     ensures sinks_end { SinksEnd result (S.faults out.old) (S.faults out.new) (E.faults report.old) (E.faults report.new) }
     ensures no_folder { NeverFolder result }
+    ensures only_ticks { OnlyTicks (M.count meter.old) (M.count meter.new) }
+    ensures still { mode.now ≡ Mode.Info → meter.new ≡ meter.old }
     ensures same_files { F.files folder.new ≡ F.files folder.old }
 {
     let file = read_file(alloc, folder, page)?;
-    let refused = put_file(
-        alloc,
-        mode,
-        page,
-        file.bytes.as_slice(),
-        file.end,
-        out,
-        report,
-    )?;
+    let refused = put_file(alloc, mode, page, &file, out, report, meter)?;
     Ok(Shown {
         refused,
         broken: file.end.is_broken(),
     })
 }
 
-/// Puts what a page with these bytes comes to. Answers whether it is refused.
-fn put_file<S: Sink, E: Sink>(
+/// Puts what a page with this file comes to. Answers whether it is refused.
+fn put_file<S: Sink, E: Sink, M: Meter>(
     alloc: Global,
-    mode: Mode,
+    mode: &Mode,
     page: &Name,
-    bytes: &[u8],
-    end: FileEnd,
+    file: &FileRead,
     out: &mut S,
     report: &mut E,
+    meter: &mut M,
 ) -> Result<bool, Stop>
-    requires { length bytes.now < 2 ^ 32 }
-    ensures out_text { Gives result (S.given out.old) (S.given out.new) (texts_by mode (file_read page.now bytes.now end)).out }
-    ensures report_text { Gives result (E.given report.old) (E.given report.new) (texts_by mode (file_read page.now bytes.now end)).report }
-    ensures refused { IfOk result (λ refused. refused ≡ (texts_by mode (file_read page.now bytes.now end)).refused) }
+    requires { vec_len file.now.bytes < 2 ^ 32 }
+    ensures out_text { Gives result (S.given out.old) (S.given out.new) (texts_by mode.now (file_read page.now file.now.bytes.items file.now.end)).out }
+    ensures report_text { Gives result (E.given report.old) (E.given report.new) (texts_by mode.now (file_read page.now file.now.bytes.items file.now.end)).report }
+    ensures refused { IfOk result (λ refused. refused ≡ (texts_by mode.now (file_read page.now file.now.bytes.items file.now.end)).refused) }
+    ensures ticks { Ticks result (texts_by mode.now (file_read page.now file.now.bytes.items file.now.end)).work (M.count meter.old) (M.count meter.new) }
+    ensures sinks_end { SinksEnd result (S.faults out.old) (S.faults out.new) (E.faults report.old) (E.faults report.new) }
+    ensures no_folder { NeverFolder result }
+    ensures still { mode.now ≡ Mode.Info → meter.new ≡ meter.old }
+{
+    match mode {
+        Mode::Draw(table) => put_drawn(alloc, table, page, file, out, report, meter),
+        Mode::Info => put_info(alloc, page, file, report),
+    }
+}
+
+/// Draws a page with this file, and puts what it comes to. Answers whether it is refused.
+fn put_drawn<S: Sink, E: Sink, M: Meter>(
+    alloc: Global,
+    table: &SharedTable,
+    page: &Name,
+    file: &FileRead,
+    out: &mut S,
+    report: &mut E,
+    meter: &mut M,
+) -> Result<bool, Stop>
+    requires { vec_len file.now.bytes < 2 ^ 32 }
+    ensures out_text { Gives result (S.given out.old) (S.given out.new) (texts_of_file table.now (file_read page.now file.now.bytes.items file.now.end)).out }
+    ensures report_text { Gives result (E.given report.old) (E.given report.new) (texts_of_file table.now (file_read page.now file.now.bytes.items file.now.end)).report }
+    ensures refused { IfOk result (λ refused. refused ≡ (texts_of_file table.now (file_read page.now file.now.bytes.items file.now.end)).refused) }
+    ensures ticks { Ticks result (texts_of_file table.now (file_read page.now file.now.bytes.items file.now.end)).work (M.count meter.old) (M.count meter.new) }
     ensures sinks_end { SinksEnd result (S.faults out.old) (S.faults out.new) (E.faults report.old) (E.faults report.new) }
     ensures no_folder { NeverFolder result }
 {
-    match mode {
-        Mode::Draw => put_page(alloc, page, read_page(bytes, end), out, report),
-        Mode::Info => put_info(alloc, page, bytes, end, report),
-    }
+    let read = read_page(
+        alloc,
+        table.shared(),
+        file.bytes.as_slice(),
+        file.end,
+        meter,
+    )?;
+    put_page(alloc, page, &read, out, report)
 }
 
 /// Puts the lines of a file's chunks. Answers whether it has a fault of form.
 fn put_info<E: Sink>(
     alloc: Global,
     page: &Name,
-    bytes: &[u8],
-    end: FileEnd,
+    file: &FileRead,
     report: &mut E,
 ) -> Result<bool, Stop>
-    requires { length bytes.now < 2 ^ 32 }
-    ensures report_text { Gives result (E.given report.old) (E.given report.new) (info_report page.now (mark_of end) bytes.now).report }
-    ensures refused { IfOk result (λ refused. refused ≡ (info_report page.now (mark_of end) bytes.now).refused) }
+    requires { vec_len file.now.bytes < 2 ^ 32 }
+    ensures report_text { Gives result (E.given report.old) (E.given report.new) (info_report page.now (mark_of file.now.end) file.now.bytes.items).report }
+    ensures refused { IfOk result (λ refused. refused ≡ (info_report page.now (mark_of file.now.end) file.now.bytes.items).refused) }
     ensures stops { SinkStops result (E.faults report.old) (E.faults report.new) }
 {
-    let text = info_of(alloc, page, bytes, end)?;
+    let text = info_of(alloc, page, file.bytes.as_slice(), file.end)?;
     put_text(report, text.lines.as_slice())?;
     Ok(text.refused)
 }
 
 /// Does this with these pages, one after the other.
-pub fn show_pages<F: Folder, S: Sink, E: Sink>(
+pub fn show_pages<F: Folder, S: Sink, E: Sink, M: Meter>(
     alloc: Global,
-    mode: Mode,
+    mode: &Mode,
     pages: &[Name],
     folder: &mut F,
     out: &mut S,
     report: &mut E,
+    meter: &mut M,
 ) -> Result<Shown, Stop>
     requires listed { (told : Files) → F.files folder.old ≡ Some told → HasFiles told pages.now }
     requires distinct { AreDistinct pages.now }
     ensures told { (told : Files) → F.files folder.old ≡ Some told →
-        Shows mode told pages.now result (F.failures folder.old) (F.failures folder.new) (S.given out.old) (S.given out.new) (E.given report.old) (E.given report.new) }
+        Shows mode.now told pages.now result (F.failures folder.old) (F.failures folder.new) (S.given out.old) (S.given out.new) (E.given report.old) (E.given report.new) (M.count meter.old) (M.count meter.new) }
     ensures counts { IfOk result (λ shown. BrokenCounts shown.broken (F.faults folder.old) (F.faults folder.new)) }
     ensures sinks_end { SinksEnd result (S.faults out.old) (S.faults out.new) (E.faults report.old) (E.faults report.new) }
     ensures no_folder { NeverFolder result }
+    ensures only_ticks { OnlyTicks (M.count meter.old) (M.count meter.new) }
+    ensures still { mode.now ≡ Mode.Info → meter.new ≡ meter.old }
     ensures same_files { F.files folder.new ≡ F.files folder.old }
 {
     let mut all = Shown {
@@ -160,7 +188,7 @@ pub fn show_pages<F: Folder, S: Sink, E: Sink>(
         broken: false,
     };
     for at in 0..pages.len() {
-        let shown = show_page(alloc, mode, &pages[at], folder, out, report)?;
+        let shown = show_page(alloc, mode, &pages[at], folder, out, report, meter)?;
         all = all.with(shown);
     }
     Ok(all)

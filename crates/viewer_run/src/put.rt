@@ -1,13 +1,14 @@
 //! Putting texts and rasters into sinks.
-ghost use Rattle.std.specs.Prelude.{◌≡◌, ℕ, ◌*◌, ◌<◌, ◌≤◌, List, IfOk, Some, length, take, replicate};
+ghost use Rattle.std.specs.Prelude.{◌≡◌, ℕ, ◌+◌, ◌*◌, ◌<◌, ◌≤◌, IfOk, length, vec_len};
+ghost use Rattle.layer_compose.specs.Drawing.{samples_of, rows_of};
+ghost use Rattle.page_decoder.specs.Found.{CanDraw};
 ghost use Rattle.viewer_run.specs.Lines.{raster_text};
 ghost use Rattle.viewer_run.specs.Outcome.{SinkStops, Gives};
 
 use crate::lines::raster_head;
-use crate::page::Size;
-use crate::slices::first;
 use crate::stop::Stop;
 use djvu_outside::{Sink, SinkFault};
+use layer_compose::Layers;
 use std::alloc::{AllocError, Global};
 
 /// About how many bytes of a raster are put at once: as many whole rows as fit, and at least one.
@@ -28,40 +29,57 @@ pub fn put_text<S: Sink>(sink: &mut S, text: &[u8]) -> Result<(), Stop>
     }
 }
 
-/// Puts the raster of a blank page, in blocks of rows.
-pub fn put_raster<S: Sink>(alloc: Global, sink: &mut S, size: Size) -> Result<(), Stop>
-    requires wide { 0 < size.width }
-    requires high { 0 < size.height }
-    ensures taken { Gives result (S.given sink.old) (S.given sink.new) (raster_text size) }
+/// Puts the raster of a drawing, in blocks of rows.
+pub fn put_raster<S: Sink>(alloc: Global, sink: &mut S, layers: &Layers) -> Result<(), Stop>
+    requires { CanDraw layers.now }
+    ensures taken { Gives result (S.given sink.old) (S.given sink.new) (raster_text layers.now) }
     ensures stops { SinkStops result (S.faults sink.old) (S.faults sink.new) }
 {
-    let head = raster_head(alloc, size)?;
+    let head = raster_head(alloc, layers.width, layers.height)?;
     put_text(sink, head.as_slice())?;
-    let row = 3 * u32::from(size.width);
-    put_rows(alloc, sink, row, u32::from(size.height))
+    put_rows(alloc, sink, layers)
 }
 
-/// Puts so many white rows, each of so many bytes.
-fn put_rows<S: Sink>(alloc: Global, sink: &mut S, row: u32, rows: u32) -> Result<(), Stop>
-    requires some { 0 < row }
-    requires fits { row < 196_606 }
-    ensures taken { Gives result (S.given sink.old) (S.given sink.new) (replicate (row * rows) 255) }
+/// Puts all rows of a drawing, from the top.
+fn put_rows<S: Sink>(alloc: Global, sink: &mut S, layers: &Layers) -> Result<(), Stop>
+    requires { CanDraw layers.now }
+    ensures taken { Gives result (S.given sink.old) (S.given sink.new) (samples_of layers.now) }
     ensures stops { SinkStops result (S.faults sink.old) (S.faults sink.new) }
 {
+    layer_compose::rows_make_the_raster();
+    let row = 3 * layers.width;
     let at_once = (BLOCK / row).max(1);
-    let block = white(alloc, (at_once * row) as usize)?;
+    let mut block = make_block(alloc, (at_once * row) as usize)?;
     let mut done = 0;
-    while done < rows {
-        let now = (rows - done).min(at_once);
-        put_text(sink, first(block.as_slice(), (now * row) as usize))?;
+    while done < layers.height {
+        let now = (layers.height - done).min(at_once);
+        put_block(sink, layers, done, now, &mut block[..(now * row) as usize])?;
         done += now;
     }
     Ok(())
 }
 
-/// So many white samples.
-fn white(alloc: Global, count: usize) -> Result<Vec<u8>, AllocError>
-    ensures { IfOk result (λ samples. samples.items ≡ replicate count 255) }
+/// Puts so many rows of a drawing, from a row on, which are written into the block first.
+fn put_block<S: Sink>(
+    sink: &mut S,
+    layers: &Layers,
+    from: u32,
+    count: u32,
+    block: &mut [u8],
+) -> Result<(), Stop>
+    requires drawable { CanDraw layers.now }
+    requires rows { from + count ≤ layers.now.height }
+    requires room { length block.old ≡ 3 * layers.now.width * count }
+    ensures taken { Gives result (S.given sink.old) (S.given sink.new) (rows_of layers.now from count) }
+    ensures stops { SinkStops result (S.faults sink.old) (S.faults sink.new) }
 {
-    vec![in alloc; 255u8; count]
+    layers.rows(from, count, block);
+    put_text(sink, block)
+}
+
+/// Room for so many samples.
+fn make_block(alloc: Global, count: usize) -> Result<Vec<u8>, AllocError>
+    ensures { IfOk result (λ block. vec_len block ≡ count) }
+{
+    vec![in alloc; 0u8; count]
 }

@@ -4,11 +4,11 @@ ghost use Rattle.djvu_base.specs.Library.{Files, file_limit};
 ghost use Rattle.djvu_outside.specs.Reading.{Opened, HasFile, bytes_in, moved_on};
 ghost use Rattle.viewer_run.specs.Came.{CameBytes, Counted, CountsCame, CountsRead, Reads};
 
-use crate::reading::FileEnd;
 use crate::slices::first;
 use crate::stop::Stop;
 use djvu_base::Name;
 use djvu_outside::{Folder, FolderFault};
+use page_decoder::FileEnd;
 use std::alloc::{AllocError, Global};
 
 /// How many bytes are asked for at once.

@@ -1,59 +1,87 @@
-//! Tables that a folder has as files.
+//! The state table by which the pages of a run are drawn.
 ghost use Rattle.std.specs.Prelude.{◌≡◌, Some, IfOk, take};
+ghost use Rattle.std.specs.Arc.{arc_value};
 ghost use Rattle.djvu_base.specs.Library.{Files, library_of, file_limit};
 ghost use Rattle.djvu_outside.specs.Reading.{HasFile, bytes_in};
-ghost use Rattle.zp_table.specs.Reading.{fault_of};
-ghost use Rattle.viewer_run.specs.Front.{with_table};
+ghost use Rattle.viewer_run.specs.Front.{table_of, table_in};
 ghost use Rattle.viewer_run.specs.Outcome.{FolderStops};
-ghost use Rattle.viewer_run.specs.Start.{Starts, CanShow, CanStart, ShowsEachOnce};
+ghost use Rattle.viewer_run.specs.Start.{Starts, CanRead};
 
-use crate::front::Front;
-use crate::lines::table_line;
 use crate::read::read_file;
 use crate::stop::Stop;
-use djvu_base::{Items, Name};
+use djvu_base::Name;
 use djvu_outside::Folder;
-use std::alloc::Global;
+use std::alloc::{AllocError, Global};
+use std::marker::Model;
+use std::sync::Arc;
 use viewer_words::TableChoice;
 use zp_table::{Table, TableError, TableFault};
 
-/// What a run does once its table is read, where it isn't refused before. No chunk that needs a table is drawn yet, so the
-/// table isn't kept.
-pub fn with_table<F: Folder>(
-    alloc: Global,
-    front: Front,
-    table: &TableChoice,
-    folder: &mut F,
-) -> Result<Front, Stop>
-    requires can_start { (told : Files) → F.files folder.old ≡ Some told → CanStart told table.now front }
-    requires each_once { ShowsEachOnce front }
-    ensures told { (told : Files) → F.files folder.old ≡ Some told → IfOk result (λ checked. checked ≡ with_table (library_of told) table.now front) }
-    ensures failure { (told : Files) → F.files folder.old ≡ Some told → Starts result table.now (F.failures folder.old) (F.failures folder.new) }
-    ensures can_show { (told : Files) → F.files folder.old ≡ Some told → IfOk result (λ checked. CanShow told checked) }
-    ensures each_once { IfOk result ShowsEachOnce }
-    ensures stops { FolderStops result (F.faults folder.old) (F.faults folder.new) }
-    ensures same_files { F.files folder.new ≡ F.files folder.old }
-{
-    let Front::Accepted { mode, pages } = front else {
-        return Ok(front);
-    };
-    let TableChoice::File(name) = table else {
-        return Ok(Front::Accepted { mode, pages });
-    };
-    match read_fault(alloc, name, folder)? {
-        None => Ok(Front::Accepted { mode, pages }),
-        Some(fault) => Ok(Front::Refused(Items::of(table_line(alloc, fault)?))),
+/// A state table that all pages of a run share. Contracts see it as the list of its rows.
+#[derive(Debug, Drop)]
+pub struct SharedTable {
+    table: Arc<Table>,
+}
+
+impl Model for SharedTable {
+    ghost use Rattle.std.specs.Prelude.{List};
+    ghost use Rattle.std.specs.Arc.{arc_value};
+    ghost use Rattle.zp_table.specs.declared.rows.Row.{Row};
+
+    ghost Value = { List Row };
+
+    ghost view = { λ a. arc_value a.table };
+}
+
+impl SharedTable {
+    /// A table, to be shared.
+    fn new(alloc: Global, table: Table) -> Result<SharedTable, AllocError>
+        ensures { IfOk result (λ shared. shared ≡ table) }
+    {
+        let table = Arc::new(alloc, table)?;
+        Ok(SharedTable { table })
+    }
+
+    /// The table.
+    pub fn shared(&self) -> &Arc<Table>
+        ensures { arc_value result.now ≡ self.now }
+    {
+        &self.table
     }
 }
 
-/// What is wrong with the table in the file of this name.
-fn read_fault<F: Folder>(
+/// What the choice of a table comes to.
+#[derive(Debug, Drop)]
+pub enum Chosen {
+    /// The table.
+    Table(SharedTable),
+    /// Its file is no table, and this is what is wrong with it.
+    Refused(TableFault),
+}
+
+/// The table of this choice. Where it is a file's, that is read.
+pub fn choose_table<F: Folder>(
     alloc: Global,
-    name: &Name,
+    choice: &TableChoice,
     folder: &mut F,
-) -> Result<Option<TableFault>, Stop>
+) -> Result<Chosen, Stop>
+    requires { (told : Files) → F.files folder.old ≡ Some told → CanRead told choice.now }
+    ensures told { (told : Files) → F.files folder.old ≡ Some told → IfOk result (λ chosen. chosen ≡ table_of (library_of told) choice.now) }
+    ensures failure { (told : Files) → F.files folder.old ≡ Some told → Starts result choice.now (F.failures folder.old) (F.failures folder.new) }
+    ensures stops { FolderStops result (F.faults folder.old) (F.faults folder.new) }
+    ensures same_files { F.files folder.new ≡ F.files folder.old }
+{
+    match choice {
+        TableChoice::Djvu => Ok(Chosen::Table(SharedTable::new(alloc, Table::djvu(alloc)?)?)),
+        TableChoice::Flat => Ok(Chosen::Table(SharedTable::new(alloc, Table::flat(alloc)?)?)),
+        TableChoice::File(name) => read_table(alloc, name, folder),
+    }
+}
+
+/// The table in the file of this name.
+fn read_table<F: Folder>(alloc: Global, name: &Name, folder: &mut F) -> Result<Chosen, Stop>
     requires { (told : Files) → F.files folder.old ≡ Some told → HasFile told name.now }
-    ensures told { (told : Files) → F.files folder.old ≡ Some told → IfOk result (λ fault. fault ≡ fault_of (take file_limit (bytes_in told name.now))) }
+    ensures told { (told : Files) → F.files folder.old ≡ Some told → IfOk result (λ chosen. chosen ≡ table_in (take file_limit (bytes_in told name.now))) }
     ensures failure { (told : Files) → F.files folder.old ≡ Some told → Starts result (TableChoice.File name.now) (F.failures folder.old) (F.failures folder.new) }
     ensures stops { FolderStops result (F.faults folder.old) (F.faults folder.new) }
     ensures same_files { F.files folder.new ≡ F.files folder.old }
@@ -63,8 +91,8 @@ fn read_fault<F: Folder>(
         return Err(Stop::Folder);
     }
     match Table::read(alloc, file.bytes.as_slice()) {
-        Ok(_) => Ok(None),
-        Err(TableError::Refused(fault)) => Ok(Some(fault)),
+        Ok(table) => Ok(Chosen::Table(SharedTable::new(alloc, table)?)),
+        Err(TableError::Refused(fault)) => Ok(Chosen::Refused(fault)),
         Err(TableError::OutOfMemory) => Err(Stop::Memory),
     }
 }

@@ -3,13 +3,16 @@ ghost use Rattle.djvu_base.specs.Name.{IsAscending, is_ascending};
 ghost use Rattle.djvu_base.specs.Library.{names_of};
 
 mod cases;
+mod masks;
 
 use crate::run;
 use cases::{
-    BLANK, BOTH_LINES, BOTH_RASTERS, COMMANDS, DRAW_P, DRAWN, LINE, NONE, RASTER, REFUSED,
+    BLANK, BOTH_LINES, BOTH_RASTERS, COMMANDS, Case, DRAW_P, DRAWN, LINE, MASKED, NONE, RASTER,
+    REFUSED,
 };
 use djvu_base::{CountMeter, Items, Name};
 use djvu_outside::{MemoryFolder, MemorySink, SureFolder, SureSink};
+use masks::MASKS;
 use std::alloc::Global;
 use std::process::Abort;
 
@@ -100,11 +103,23 @@ fn came_over(alloc: Global, p: &[u8], words: &[&[u8]], failing: Failing) -> Opti
     came_to(alloc, files, words, failing)
 }
 
-/// Asserts what a run came to.
+/// Asserts what a run came to that reads no decision.
 fn expect_came(
     rt: &impl Abort,
     came: Option<Came>,
     status: u8,
+    out: &[u8],
+    report: &[u8],
+    number: usize,
+) {
+    expect_counted(rt, came, (status, 0), out, report, number);
+}
+
+/// Asserts what a run came to, and by how much the meter rose.
+fn expect_counted(
+    rt: &impl Abort,
+    came: Option<Came>,
+    (status, ticks): (u8, u64),
     out: &[u8],
     report: &[u8],
     number: usize,
@@ -115,7 +130,22 @@ fn expect_came(
     assert_eq!(rt; came.status, status, "case {number}: the status");
     assert_eq!(rt; came.out.as_slice(), out, "case {number}: the output");
     assert_eq!(rt; came.report.as_slice(), report, "case {number}: the report");
-    assert_eq!(rt; came.ticks, 0, "case {number}: the meter");
+    assert_eq!(rt; came.ticks, ticks, "case {number}: the meter");
+}
+
+/// Runs what each case says, and asserts what it wants.
+fn expect_cases(rt: &impl Abort, alloc: Global, cases: &[Case]) {
+    for (number, case) in cases.iter().enumerate() {
+        let came = came_over(alloc, case.page, case.words, SOUND);
+        expect_counted(
+            rt,
+            came,
+            (case.status, case.ticks),
+            case.out,
+            case.report,
+            number,
+        );
+    }
 }
 
 #[test]
@@ -132,9 +162,33 @@ fn drawn_and_refused_pages(rt: HostRuntime) {
 
 #[test]
 fn commands(rt: HostRuntime) {
-    for (number, case) in COMMANDS.iter().enumerate() {
-        let came = came_over(rt.alloc(), case.page, case.words, SOUND);
-        expect_came(&rt, came, case.status, case.out, case.report, number);
+    expect_cases(&rt, rt.alloc(), &COMMANDS);
+}
+
+#[test]
+fn masks_of_pages(rt: HostRuntime) {
+    expect_cases(&rt, rt.alloc(), &MASKS);
+}
+
+/// Where a sink fails at a page, that page was read, and the next one isn't.
+#[test]
+fn failing_sinks_of_a_mask(rt: HostRuntime) {
+    let lines: &[u8] = b"p: chunk 1 sum 765\np: chunk 2 sum 0\n";
+    let cases: [(Option<u64>, Option<u64>, &[u8], &[u8]); 4] = [
+        (None, Some(0), NONE, NONE),
+        (Some(0), None, NONE, lines),
+        (Some(1), None, b"P6\n1 1\n255\n", lines),
+        (None, Some(1), b"P6\n1 1\n255\n\0\0\0", lines),
+    ];
+    for (number, (out_call, report_call, out, report)) in cases.into_iter().enumerate() {
+        let failing = Failing {
+            folder: None,
+            out: out_call,
+            report: report_call,
+        };
+        let words: &[&[u8]] = &[b"draw", b"--table", b"flat", b"p", b"q"];
+        let came = came_over(rt.alloc(), MASKED, words, failing);
+        expect_counted(&rt, came, (4, 29), out, report, number);
     }
 }
 

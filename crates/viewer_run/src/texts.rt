@@ -1,16 +1,14 @@
 //! What is written for one page.
-ghost use Rattle.std.specs.Prelude.{◌≡◌, ◌<◌, IfOk};
-ghost use Rattle.viewer_run.specs.Texts.{Texts, lines_of, texts_at, page_fault};
-ghost use Rattle.viewer_run.specs.Outcome.{SinkStops, Gives, SinksEnd, NeverFolder};
-ghost use Rattle.viewer_run.specs.Progress.{announced, ending, IsDrawable};
+ghost use Rattle.std.specs.Prelude.{◌≡◌, IfOk};
+ghost use Rattle.page_decoder.specs.Found.{CanDrawLast};
+ghost use Rattle.viewer_run.specs.Texts.{lines_told, texts_found, page_fault};
+ghost use Rattle.viewer_run.specs.Outcome.{Gives, SinksEnd, NeverFolder};
 
-use crate::lines::white_sum;
-use crate::page::Size;
 use crate::put::{put_raster, put_text};
-use crate::reading::{PageEnd, PageReading};
 use crate::stop::Stop;
 use djvu_base::{Fault, FaultKind, Name, Place};
 use djvu_outside::Sink;
+use page_decoder::{Drawn, PageEnd, PageReading};
 use std::alloc::{AllocError, Global};
 use std::slice::from_ref;
 use viewer_words::{fault_line, notice_line};
@@ -19,22 +17,22 @@ use viewer_words::{fault_line, notice_line};
 pub fn put_page<S: Sink, E: Sink>(
     alloc: Global,
     page: &Name,
-    read: PageReading,
+    read: &PageReading,
     out: &mut S,
     report: &mut E,
 ) -> Result<bool, Stop>
-    requires { IsDrawable read }
-    ensures out_text { Gives result (S.given out.old) (S.given out.new) (texts_at page.now (announced read.size) (ending read.end)).out }
-    ensures report_text { Gives result (E.given report.old) (E.given report.new) (texts_at page.now (announced read.size) (ending read.end)).report }
-    ensures refused { IfOk result (λ refused. refused ≡ (texts_at page.now (announced read.size) (ending read.end)).refused) }
+    requires { CanDrawLast read.now.layers }
+    ensures out_text { Gives result (S.given out.old) (S.given out.new) (texts_found page.now read.now).out }
+    ensures report_text { Gives result (E.given report.old) (E.given report.new) (texts_found page.now read.now).report }
+    ensures refused { IfOk result (λ refused. refused ≡ (texts_found page.now read.now).refused) }
     ensures sinks_end { SinksEnd result (S.faults out.old) (S.faults out.new) (E.faults report.old) (E.faults report.new) }
     ensures no_folder { NeverFolder result }
 {
     let lines = lines_of(alloc, page, read)?;
     put_text(report, lines.as_slice())?;
-    match (read.end, read.size) {
-        (PageEnd::Finished, Some(size)) => {
-            put_raster(alloc, out, size)?;
+    match (read.end, &read.layers) {
+        (PageEnd::Finished, Some(layers)) => {
+            put_raster(alloc, out, layers)?;
             Ok(false)
         }
         (PageEnd::Finished, None) => Ok(false),
@@ -43,10 +41,10 @@ pub fn put_page<S: Sink, E: Sink>(
 }
 
 /// The lines of a page: its drawings, and its fault.
-fn lines_of(alloc: Global, page: &Name, read: PageReading) -> Result<Vec<u8>, AllocError>
-    ensures { IfOk result (λ lines. lines.items ≡ (texts_at page.now (announced read.size) (ending read.end)).report) }
+fn lines_of(alloc: Global, page: &Name, read: &PageReading) -> Result<Vec<u8>, AllocError>
+    ensures { IfOk result (λ lines. lines.items ≡ (texts_found page.now read.now).report) }
 {
-    let mut lines = drawn_lines(alloc, page, read.size)?;
+    let mut lines = drawn_lines(alloc, page, read.notices.slice())?;
     if let PageEnd::Refused { kind, offset } = read.end {
         let line = own_fault(alloc, page, kind, offset)?;
         lines.extend_from_slice(line.as_slice())?;
@@ -68,11 +66,13 @@ pub fn own_fault(
 }
 
 /// The lines of a page's drawings.
-fn drawn_lines(alloc: Global, page: &Name, size: Option<Size>) -> Result<Vec<u8>, AllocError>
-    ensures { IfOk result (λ lines. lines.items ≡ lines_of page.now (announced size)) }
+fn drawn_lines(alloc: Global, page: &Name, notices: &[Drawn]) -> Result<Vec<u8>, AllocError>
+    ensures { IfOk result (λ lines. lines.items ≡ lines_told page.now notices.now) }
 {
-    match size {
-        Some(size) => notice_line(alloc, page, 1, white_sum(size)),
-        None => Ok(Vec::new(alloc)),
+    let mut lines = Vec::new(alloc);
+    for drawn in notices {
+        let line = notice_line(alloc, page, drawn.chunks, drawn.sum)?;
+        lines.extend_from_slice(line.as_slice())?;
     }
+    Ok(lines)
 }

@@ -1,10 +1,11 @@
 //! A whole run.
-ghost use Rattle.std.specs.Prelude.{◌≡◌, ◌≢◌, ℕ, ◌<◌, ◌≤◌, ◌++◌, List, Some, Err, IfOk, true};
+ghost use Rattle.std.specs.Prelude.{◌≡◌, ◌≢◌, ℕ, ◌-◌, ◌^◌, ◌<◌, ◌≤◌, ◌++◌, List, Some, Err, IfOk, true, false};
 ghost use Rattle.djvu_base.specs.Library.{Files};
 ghost use Rattle.djvu_outside.specs.Faults.{Failure, Rises};
 ghost use Rattle.viewer_words.specs.Words.{words_of};
 ghost use Rattle.viewer_run.specs.Cut.{front_failed};
-ghost use Rattle.viewer_run.specs.Outcome.{Gives, OneRises, SinkStops, SinksEnd};
+ghost use Rattle.viewer_run.specs.Front.{draws};
+ghost use Rattle.viewer_run.specs.Outcome.{Gives, OneRises, OnlyTicks, SinkStops, SinksEnd};
 ghost use Rattle.viewer_run.specs.Runs.{Run, Runs, RunCounts};
 
 use crate::front::{Front, find_front};
@@ -18,13 +19,14 @@ use std::alloc::Global;
 /// The run was refused.
 const RUN_REFUSED: Status = Status(2);
 
-/// Does what the words say, each word the list of its bytes. Rasters go to `out`, and lines to `report`.
+/// Does what the words say, each word the list of its bytes. Rasters go to `out`, lines to `report`, and each decision that a
+/// page's reading takes ticks the meter.
 ///
-/// Where nothing outside fails, both grow by what the definition `offline` says of the folder's files, and the status is the
-/// definition's: 0 where every page was drawn or listed, 1 where one was refused, 2 where the run was. Where the folder
-/// failed, the status is 3: nothing is written where it was the listing or the table that failed, and else the pages are
-/// those of the files as far as they came. The status is 4 where a sink failed, and 5 where there was no memory; then both
-/// grow by fronts of what would have been written.
+/// Where nothing outside fails, both sinks grow by what the definition `offline` says of the folder's files, the status is the
+/// definition's, and the meter rises by its work. The status is 0 where every page was drawn or listed, 1 where one was
+/// refused, 2 where the run was. Where the folder failed, it is 3: nothing is written where it was the listing or the table
+/// that failed, and else the pages are those of the files as far as they came. It is 4 where a sink failed, and 5 where there
+/// was no memory; then both sinks grow by fronts of what would have been written, and the meter by at most the work.
 pub fn run<F: Folder, S: Sink, E: Sink, M: Meter>(
     alloc: Global,
     words: &[Items<u8>],
@@ -33,9 +35,10 @@ pub fn run<F: Folder, S: Sink, E: Sink, M: Meter>(
     report: &mut E,
     meter: &mut M,
 ) -> Status
-    // What is written, and the status below 4, by the failures that the folder met; with 4 and 5 a front of it.
+    // What is written, the status below 4 and the work that the meter counts, by the failures that the folder met; with 4 and
+    // 5 a front of it, and at most as much work.
     ensures told { (told : Files) → F.files folder.old ≡ Some told →
-        Run told words.now result.0 (F.failures folder.old) (F.failures folder.new) (S.given out.old) (S.given out.new) (E.given report.old) (E.given report.new) }
+        Run told words.now result.0 (F.failures folder.old) (F.failures folder.new) (S.given out.old) (S.given out.new) (E.given report.old) (E.given report.new) (M.count meter.old) (M.count meter.new) }
     ensures untouched { (told : Files) (added : List Failure) → F.files folder.old ≡ Some told → F.failures folder.new ≡ F.failures folder.old ++ added → front_failed words.now added ≡ true →
         result.0 < 4 → (out.new ≡ out.old) × (report.new ≡ report.old) }
 
@@ -52,26 +55,32 @@ pub fn run<F: Folder, S: Sink, E: Sink, M: Meter>(
     ensures words_first { (number : ℕ) → words_of words.now ≡ Err number → folder.new ≡ folder.old }
     ensures refused { (number : ℕ) → words_of words.now ≡ Err number → result.0 < 4 → result.0 ≡ 2 }
 
-    ensures meter { meter.new ≡ meter.old }
+    // The meter is only ticked; not at all where nothing is to be drawn, or the run is refused.
+    ensures only_ticks { OnlyTicks (M.count meter.old) (M.count meter.new) }
+    ensures never_falls { M.count meter.old ≤ 2 ^ 64 - 1 → M.count meter.old ≤ M.count meter.new }
+    ensures still { draws (words_of words.now) ≡ false → meter.new ≡ meter.old }
+    ensures refused_still { result.0 ≡ 2 → meter.new ≡ meter.old }
+
     ensures statuses { result.0 ≤ 5 }
     ensures same_files { F.files folder.new ≡ F.files folder.old }
 {
-    match carry_out(alloc, words, folder, out, report) {
+    match carry_out(alloc, words, folder, out, report, meter) {
         Ok(status) => status,
         Err(stop) => stop.status(),
     }
 }
 
 /// Does what the words say, up to where the run stops.
-fn carry_out<F: Folder, S: Sink, E: Sink>(
+fn carry_out<F: Folder, S: Sink, E: Sink, M: Meter>(
     alloc: Global,
     words: &[Items<u8>],
     folder: &mut F,
     out: &mut S,
     report: &mut E,
+    meter: &mut M,
 ) -> Result<Status, Stop>
     ensures told { (told : Files) → F.files folder.old ≡ Some told →
-        Runs told words.now result (F.failures folder.old) (F.failures folder.new) (S.given out.old) (S.given out.new) (E.given report.old) (E.given report.new) }
+        Runs told words.now result (F.failures folder.old) (F.failures folder.new) (S.given out.old) (S.given out.new) (E.given report.old) (E.given report.new) (M.count meter.old) (M.count meter.new) }
     ensures early { IfOk result (λ status. status.0 < 4) }
     ensures counts { RunCounts result (F.faults folder.old) (F.faults folder.new) }
     ensures sinks_end { SinksEnd result (S.faults out.old) (S.faults out.new) (E.faults report.old) (E.faults report.new) }
@@ -79,12 +88,15 @@ fn carry_out<F: Folder, S: Sink, E: Sink>(
     ensures words_first { (number : ℕ) → words_of words.now ≡ Err number → folder.new ≡ folder.old }
     ensures refused { (number : ℕ) → words_of words.now ≡ Err number → IfOk result (λ status. status.0 ≡ 2) }
     ensures unlisted { (number : ℕ) → words_of words.now ≡ Err number → result ≢ Err Stop.Folder }
+    ensures only_ticks { OnlyTicks (M.count meter.old) (M.count meter.new) }
+    ensures still { draws (words_of words.now) ≡ false → meter.new ≡ meter.old }
+    ensures refused_still { IfOk result (λ status. status.0 ≡ 2 → meter.new ≡ meter.old) }
     ensures same_files { F.files folder.new ≡ F.files folder.old }
 {
     match find_front(alloc, words, folder)? {
         Front::Refused(line) => refuse(line.slice(), report),
         Front::Accepted { mode, pages } => {
-            let shown = show_pages(alloc, mode, pages.slice(), folder, out, report)?;
+            let shown = show_pages(alloc, &mode, pages.slice(), folder, out, report, meter)?;
             Ok(shown.status())
         }
     }

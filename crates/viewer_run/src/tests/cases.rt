@@ -3,7 +3,7 @@
 /// The file of a blank page of one pixel.
 pub const BLANK: &[u8] = b"AT&TFORM\0\0\0\x16DJVUINFO\0\0\0\x0A\0\x01\0\x01\x18\0\x2C\x01\x16\x01";
 
-/// A page that has a mask, too.
+/// A page that has a mask, too: one black pixel.
 pub const MASKED: &[u8] =
     b"AT&TFORM\0\0\0\x22DJVUINFO\0\0\0\x0A\0\x01\0\x01\x18\0\x2C\x01\x16\x01Sjbz\0\0\0\x04\xB7\x6D\x86\x87";
 
@@ -17,13 +17,14 @@ pub const BOTH_RASTERS: &[u8] = b"P6\n1 1\n255\n\xFF\xFF\xFFP6\n1 1\n255\n\xFF\x
 
 pub const BOTH_LINES: &[u8] = b"p: chunk 1 sum 765\nq: chunk 1 sum 765\n";
 
-/// What is wanted of words over a file `p`.
+/// What is wanted of words over a file `p`, and by how much the meter rises.
 pub struct Case {
     pub words: &'static [&'static [u8]],
     pub page: &'static [u8],
     pub status: u8,
     pub out: &'static [u8],
     pub report: &'static [u8],
+    pub ticks: u64,
 }
 
 pub const DRAW_P: &[&[u8]] = &[b"draw", b"p"];
@@ -42,7 +43,10 @@ pub const DRAWN: [&[u8]; 4] = [
 /// Pages that are refused, and what is reported of them.
 pub const REFUSED: [(&[u8], &[u8]); 9] = [
     (NONE, b"p: truncated p 0\n"),
-    (MASKED, b"p: chunk 1 sum 765\np: unsupported p 34\n"),
+    (
+        b"AT&TFORM\0\0\0\x1EDJVUINFO\0\0\0\x0A\0\x01\0\x01\x18\0\x2C\x01\x16\x01Djbz\0\0\0\0",
+        b"p: chunk 1 sum 765\np: unsupported p 34\n",
+    ),
     // A chunk that is too long, and one that is never read.
     (
         b"AT&TFORM\0\0\0\x1EDJVUINFO\0\0\0\x0A\0\x01\0\x01\x18\0\x2C\x01\x16\x01BG44\0\0\0\x64",
@@ -84,6 +88,7 @@ pub const COMMANDS: [Case; 17] = [
         status: 0,
         out: NONE,
         report: b"p: form DJVU 34\np: chunk INFO 16 10\np: chunk Sjbz 34 4\n",
+        ticks: 0,
     },
     Case {
         words: INFO_P,
@@ -91,6 +96,7 @@ pub const COMMANDS: [Case; 17] = [
         status: 1,
         out: NONE,
         report: b"p: form DJVI 21\np: chunk Djbz 12 2\np: short-header p 22\n",
+        ticks: 0,
     },
     // Both pages, of which the first is refused, and their chunks the other way round.
     Case {
@@ -99,6 +105,7 @@ pub const COMMANDS: [Case; 17] = [
         status: 1,
         out: RASTER,
         report: b"p: truncated p 0\nq: chunk 1 sum 765\n",
+        ticks: 0,
     },
     Case {
         words: &[b"info", b"q", b"p"],
@@ -106,6 +113,7 @@ pub const COMMANDS: [Case; 17] = [
         status: 1,
         out: NONE,
         report: b"q: form DJVU 22\nq: chunk INFO 16 10\np: truncated p 0\n",
+        ticks: 0,
     },
     Case {
         words: &[b"draw", b"p", b"p"],
@@ -113,6 +121,7 @@ pub const COMMANDS: [Case; 17] = [
         status: 2,
         out: NONE,
         report: b"words 2\n",
+        ticks: 0,
     },
     Case {
         words: &[b"draw"],
@@ -120,6 +129,7 @@ pub const COMMANDS: [Case; 17] = [
         status: 2,
         out: NONE,
         report: b"words 1\n",
+        ticks: 0,
     },
     Case {
         words: &[b"draw", b"--", b"p"],
@@ -127,6 +137,7 @@ pub const COMMANDS: [Case; 17] = [
         status: 2,
         out: NONE,
         report: b"words 1\n",
+        ticks: 0,
     },
     // The second page isn't there, and nothing is drawn.
     Case {
@@ -135,6 +146,7 @@ pub const COMMANDS: [Case; 17] = [
         status: 2,
         out: NONE,
         report: b"words 2\n",
+        ticks: 0,
     },
     Case {
         words: &[b"draw", b"--table", b"flat", b"p"],
@@ -142,6 +154,7 @@ pub const COMMANDS: [Case; 17] = [
         status: 0,
         out: RASTER,
         report: LINE,
+        ticks: 0,
     },
     // A file that is a table, and then files that are none: the first is no page either, and the second is one.
     Case {
@@ -150,6 +163,7 @@ pub const COMMANDS: [Case; 17] = [
         status: 0,
         out: RASTER,
         report: b"q: chunk 1 sum 765\n",
+        ticks: 0,
     },
     Case {
         words: &[b"draw", b"--table", b"p", b"q"],
@@ -157,6 +171,7 @@ pub const COMMANDS: [Case; 17] = [
         status: 2,
         out: NONE,
         report: b"table 0 short\n",
+        ticks: 0,
     },
     Case {
         words: &[b"draw", b"--table", b"p", b"q"],
@@ -164,6 +179,7 @@ pub const COMMANDS: [Case; 17] = [
         status: 2,
         out: NONE,
         report: b"table 0 empty\n",
+        ticks: 0,
     },
     Case {
         words: &[b"draw", b"--table", b"p", b"q"],
@@ -171,6 +187,7 @@ pub const COMMANDS: [Case; 17] = [
         status: 2,
         out: NONE,
         report: b"table 1 up\n",
+        ticks: 0,
     },
     Case {
         words: &[b"draw", b"--table", b"q", b"q"],
@@ -178,6 +195,7 @@ pub const COMMANDS: [Case; 17] = [
         status: 2,
         out: NONE,
         report: b"table 5 short\n",
+        ticks: 0,
     },
     // Neither the table nor a page is there.
     Case {
@@ -186,6 +204,7 @@ pub const COMMANDS: [Case; 17] = [
         status: 2,
         out: NONE,
         report: b"words 2\n",
+        ticks: 0,
     },
     Case {
         words: &[b"draw", b"--table", b"djvu", b"p", b"r"],
@@ -193,6 +212,7 @@ pub const COMMANDS: [Case; 17] = [
         status: 2,
         out: NONE,
         report: b"words 4\n",
+        ticks: 0,
     },
     Case {
         words: &[b"show", b"p"],
@@ -200,5 +220,6 @@ pub const COMMANDS: [Case; 17] = [
         status: 2,
         out: NONE,
         report: b"words 0\n",
+        ticks: 0,
     },
 ];

@@ -1,10 +1,11 @@
 use Rattle.std.proofs.Common.{Ok, List, ℕ}
 use Rattle.viewer_run.specs.declared.pages.Shown.{Shown}
-use Rattle.viewer_run.proofs.Showing.{read_with, shows_seen, shows_nothing, gives_err, gives_ok, done_err}
+use Rattle.viewer_run.proofs.Showing.{read_with, shows_page, shows_nothing, gives_err, gives_ok, ticks_err, ticks_ok, done_err}
+use Rattle.viewer_run.proofs.Ticking.{only_ticks}
 use Rattle.viewer_run.proofs.pages.show_page.Goals as goal
 
 pub returns-in_err-file-clause-told : goal.returns-in_err-file-clause-told
-returns-in_err-file-clause-told g c told files = shows_nothing c.args.mode told c.args.page.now c.from_residual.result (g.F.Folder.failures c.args.folder.now) (g.F.Folder.failures c.read_file.new.folder) (g.S.Sink.given c.args.out.now) (g.E.Sink.given c.args.report.now) c.from_residual.ensures.0 (c.in_err-file.ensures.told told files)
+returns-in_err-file-clause-told g c told files = shows_nothing c.args.mode.now told c.args.page.now c.from_residual.result (g.F.Folder.failures c.args.folder.now) (g.F.Folder.failures c.read_file.new.folder) (g.S.Sink.given c.args.out.now) (g.E.Sink.given c.args.report.now) (g.M.Meter.count c.args.meter.now) c.from_residual.ensures.0 (c.in_err-file.ensures.told told files)
 
 pub returns-in_err-refused-clause-told : goal.returns-in_err-refused-clause-told
 returns-in_err-refused-clause-told g c told files =
@@ -12,11 +13,13 @@ returns-in_err-refused-clause-told g c told files =
     let bytes : List ℕ = c.in_ok-file.file.bytes.items in
     let end = c.in_ok-file.file.end in
     let read = read_with told name bytes end (g.F.Folder.failures c.args.folder.now) (g.F.Folder.failures c.read_file.new.folder) (c.in_ok-file.ensures.told told files) in
+    let put = c.put_file.result in
+    let fault = c.in_err-refused.field-0.0 in
     let result = c.from_residual-in_err-refused.result in
     let is_err = c.from_residual-in_err-refused.ensures.0 in
-    shows_seen c.args.mode told name c.as_slice.result.now bytes end _ _ c.put_file.result result _ _ _ _ c.as_slice.ensures.value read
-    (λ text. gives_err c.put_file.result c.in_err-refused.field-0.0 result c.in_err-refused.was is_err _ _ text) (λ text. gives_err c.put_file.result c.in_err-refused.field-0.0 result c.in_err-refused.was is_err _ _ text)
-    c.put_file.ensures.out_text c.put_file.ensures.report_text (done_err result _ _ is_err)
+    shows_page c.args.mode.now told name bytes end _ _ put result _ _ _ _ _ _ read
+    (λ text. gives_err put fault result c.in_err-refused.was is_err _ _ text) (λ text. gives_err put fault result c.in_err-refused.was is_err _ _ text)
+    c.put_file.ensures.out_text c.put_file.ensures.report_text (ticks_err put fault result c.in_err-refused.was is_err _ _ _ c.put_file.ensures.ticks) (done_err result _ _ is_err)
 
 pub returns-clause-told : goal.returns-clause-told
 returns-clause-told g c told files =
@@ -24,7 +27,15 @@ returns-clause-told g c told files =
     let bytes : List ℕ = c.in_ok-file.file.bytes.items in
     let end = c.in_ok-file.file.end in
     let read = read_with told name bytes end (g.F.Folder.failures c.args.folder.now) (g.F.Folder.failures c.read_file.new.folder) (c.in_ok-file.ensures.told told files) in
-    let shown : Shown = record { refused = c.in_ok-refused.refused; broken = c.is_broken.result } in
-    shows_seen c.args.mode told name c.as_slice.result.now bytes end _ _ c.put_file.result (Ok shown) _ _ _ _ c.as_slice.ensures.value read
-    (λ text. gives_ok c.put_file.result c.in_ok-refused.refused shown c.in_ok-refused.was _ _ text) (λ text. gives_ok c.put_file.result c.in_ok-refused.refused shown c.in_ok-refused.was _ _ text)
-    c.put_file.ensures.out_text c.put_file.ensures.report_text (c.in_ok-refused.ensures.refused, c.is_broken.ensures)
+    let put = c.put_file.result in
+    let refused = c.in_ok-refused.refused in
+    let shown : Shown = record { refused = refused; broken = c.is_broken.result } in
+    shows_page c.args.mode.now told name bytes end _ _ put (Ok shown) _ _ _ _ _ _ read
+    (λ text. gives_ok put refused shown c.in_ok-refused.was _ _ text) (λ text. gives_ok put refused shown c.in_ok-refused.was _ _ text)
+    c.put_file.ensures.out_text c.put_file.ensures.report_text (ticks_ok put refused shown c.in_ok-refused.was _ _ _ c.put_file.ensures.ticks) (c.in_ok-refused.ensures.refused, c.is_broken.ensures)
+
+pub returns-in_err-refused-clause-only_ticks : goal.returns-in_err-refused-clause-only_ticks
+returns-in_err-refused-clause-only_ticks g c = only_ticks c.put_file.result _ _ _ c.put_file.ensures.ticks
+
+pub returns-clause-only_ticks : goal.returns-clause-only_ticks
+returns-clause-only_ticks g c = only_ticks c.put_file.result _ _ _ c.put_file.ensures.ticks

@@ -1,11 +1,18 @@
 use Rattle.viewer_run.proofs.Running.{run_ended, run_stopped, front_stops}
+use Rattle.viewer_run.proofs.Ticking.{never_fell}
 use Rattle.viewer_run.proofs.whole.run.Goals as goal
 
 pub returns-in-Ok-clause-told : goal.returns-in-Ok-clause-told
-returns-in-Ok-clause-told g c told files = run_ended told c.args.words.now c.in-Ok.status _ _ _ _ _ _ (c.in-Ok.ensures.told told files)
+returns-in-Ok-clause-told g c told files = run_ended told c.args.words.now c.in-Ok.status _ _ _ _ _ _ _ _ (c.in-Ok.ensures.told told files)
 
 pub returns-in-Ok-clause-untouched : goal.returns-in-Ok-clause-untouched
-returns-in-Ok-clause-untouched g c told added files grown failed below = absurd (front_stops told c.args.words.now c.in-Ok.status _ _ _ _ _ _ added (c.in-Ok.ensures.told told files) grown failed)
+returns-in-Ok-clause-untouched g c told added files grown failed below = absurd (front_stops told c.args.words.now c.in-Ok.status _ _ _ _ _ _ _ _ added (c.in-Ok.ensures.told told files) grown failed)
 
 pub returns-in-Err-clause-told : goal.returns-in-Err-clause-told
-returns-in-Err-clause-told g c told files = run_stopped told c.args.words.now c.in-Err.stop c.status.result.0 _ _ _ _ _ _ c.status.ensures (c.in-Err.ensures.told told files)
+returns-in-Err-clause-told g c told files = run_stopped told c.args.words.now c.in-Err.stop c.status.result.0 _ _ _ _ _ _ _ _ c.status.ensures (c.in-Err.ensures.told told files)
+
+pub returns-in-Ok-clause-never_falls : goal.returns-in-Ok-clause-never_falls
+returns-in-Ok-clause-never_falls g c below = never_fell _ _ c.carry_out.ensures.only_ticks below
+
+pub returns-in-Err-clause-never_falls : goal.returns-in-Err-clause-never_falls
+returns-in-Err-clause-never_falls g c below = never_fell _ _ c.carry_out.ensures.only_ticks below

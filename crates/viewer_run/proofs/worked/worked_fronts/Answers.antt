@@ -22,6 +22,14 @@ pub returns-clause-listed : goal.returns-clause-listed
 unfolding digits is_utf8 chars encode file_limit page_limit
 returns-clause-listed c = refl
 
+pub returns-clause-usual : goal.returns-clause-usual
+unfolding digits is_utf8 chars encode file_limit page_limit
+returns-clause-usual c = refl
+
+pub returns-clause-flat : goal.returns-clause-flat
+unfolding digits is_utf8 chars encode file_limit page_limit
+returns-clause-flat c = refl
+
 pub returns-clause-table : goal.returns-clause-table
 unfolding digits is_utf8 chars encode file_limit page_limit
 returns-clause-table c = refl

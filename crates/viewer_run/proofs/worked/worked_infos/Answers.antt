@@ -6,6 +6,10 @@ use Rattle.djvu_base.specs.Library.{file_limit}
 use Rattle.viewer_words.specs.Words.{page_limit}
 use Rattle.viewer_run.proofs.worked.worked_infos.Goals as goal
 
+pub returns-clause-head : goal.returns-clause-head
+unfolding digits is_utf8 chars encode file_limit page_limit
+returns-clause-head c = refl
+
 pub returns-clause-page : goal.returns-clause-page
 unfolding digits is_utf8 chars encode file_limit page_limit
 returns-clause-page c = refl

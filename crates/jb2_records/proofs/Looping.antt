@@ -1,0 +1,141 @@
+-- Records that are read one after the other are those of the chunk.
+use Rattle.std.proofs.Common.{◌≡◌, ◌≢◌, ◌≤◌, ◌<◌, ◌+◌, ℕ, zero, suc, min, Bool, true, false, List, [], ◌∷◌, length, refl, sym, ap, subst, ◌∙◌, arith}
+use Rattle.std.specs.Prelude.{Option, Some, None, Result, Ok, Err}
+use Rattle.zp_decoder.specs.Decision.{Interval}
+use Rattle.zp_decoder.specs.Decoder.{Decoder, Fed, room_left}
+use Rattle.zp_decoder.specs.Runs.{room}
+use Rattle.djvu_base.specs.declared.faults.FaultKind.{FaultKind}
+use Rattle.bit_plane.specs.Pixels.{Pixels}
+use Rattle.jb2_records.specs.declared.types.RecordType.{RecordType}
+use Rattle.jb2_records.specs.declared.reader.Jb2Step.{Jb2Step}
+use Rattle.jb2_records.specs.declared.reader.Jb2Step.TheVariants as answer
+use Rattle.jb2_records.specs.Records.{Record, is_end, placed_shapes}
+use Rattle.jb2_records.specs.Coding.{Coder, chunk_start, Why, Need, Wrong, Read, Got, Stops}
+use Rattle.jb2_records.specs.Reading.{Input, Outcome, outcome, answer_of, after_record, after_end, read_record, records_from, records_of, most_records}
+use Rattle.jb2_records.specs.Mask.{mask_of, mask_drawn}
+use Rattle.jb2_records.specs.Reader.{counted}
+use Rattle.jb2_records.specs.Growth.{IsSound}
+use Rattle.jb2_records.specs.Telling.{Parts, Stands, IsStopped}
+use Rattle.jb2_records.specs.Drawing.{Task, input_for, Scene, drawn, Shows, Adds, DrawsAll, IsBegun, is_end_type}
+use Rattle.jb2_records.proofs.Leaving.{record_leaves, start_is_sound}
+
+-- so many records were read, and those that follow are the rest
+pub record GoesAll (task : Task) (parts : Parts) (scene : Scene) (units : ℕ) : Type 0 where
+  pub before : List Record
+  pub at : Coder
+  pub fuel : ℕ
+  pub stands : Stands task.chunk at parts
+  pub shows : Shows (drawn task before) scene
+  pub sound : IsSound task.chunk at
+  pub count : units ≡ counted (length before)
+  pub enough : room task.chunk.payload at.place < fuel
+  pub goes : records_from fuel (input_for task) before at ≡ records_of (input_for task)
+
+pub goes_first : (task : Task) (parts : Parts) (scene : Scene) → IsBegun task parts scene → GoesAll task parts scene 0
+unfolding most_records
+goes_first task parts scene begun = record {
+  before = [];
+  at = chunk_start;
+  fuel = most_records task.chunk.payload;
+  stands = begun.stands;
+  shows = begun.shows;
+  sound = start_is_sound task.chunk begun.table;
+  count = refl;
+  enough = omega arith;
+  goes = refl;
+}
+
+-- a reading that has a record more
+from_record : (fuel : ℕ) (input : Input) (before : List Record) (at next : Coder) (entry : Record) → read_record input before at ≡ Got entry next →
+    records_from (suc fuel) input before at ≡ after_end (is_end entry) (entry ∷ before) next (λ records at. records_from fuel input records at)
+from_record fuel input before at next entry got = ap (λ (r : Read Record). after_record r before (λ records at. records_from fuel input records at)) got
+
+from_stop : (fuel : ℕ) (input : Input) (before : List Record) (at : Coder) (why : Why) (decisions : ℕ) → read_record input before at ≡ Stops why decisions →
+    records_from (suc fuel) input before at ≡ outcome (answer_of why) before decisions
+from_stop fuel input before at why decisions stops = ap (λ (r : Read Record). after_record r before (λ records at. records_from fuel input records at)) stops
+
+count_more : (units more n : ℕ) → units ≡ counted n → more ≡ min (units + 1) 0xffff_ffff_ffff_ffff → more ≡ counted (suc n)
+count_more units more n is next = omega arith
+
+goes_on : (task : Task) (parts new : Parts) (scene next_scene : Scene) (units more fuel : ℕ) (before : List Record) (at : Coder) → Stands task.chunk at parts → IsSound task.chunk at → units ≡ counted (length before) →
+    room task.chunk.payload at.place < fuel → records_from fuel (input_for task) before at ≡ records_of (input_for task) →
+    Adds task before (read_record (input_for task) before at) false new next_scene → more ≡ min (units + 1) 0xffff_ffff_ffff_ffff → GoesAll task new next_scene more
+goes_on task parts new scene next_scene units more zero before at stands sound count enough goes adds next = absurd (omega arith)
+goes_on task parts new scene next_scene units more (suc fuel) before at stands sound count enough goes adds next =
+    let left = record_leaves (input_for task) before at adds.next adds.entry sound adds.got in
+    let less : room task.chunk.payload adds.next.place < room task.chunk.payload at.place = left.1 in
+    record {
+      before = adds.entry ∷ before;
+      at = adds.next;
+      fuel = fuel;
+      stands = adds.stands;
+      shows = adds.shows;
+      sound = left.0;
+      count = count_more units more (length before) count next;
+      enough = omega arith;
+      goes = ap (λ (b : Bool). after_end b (adds.entry ∷ before) adds.next (λ records at. records_from fuel (input_for task) records at)) (sym adds.last)
+          ∙ sym (from_record fuel (input_for task) before at adds.next adds.entry adds.got) ∙ goes;
+    }
+
+pub goes_next : (task : Task) (parts new : Parts) (scene next_scene : Scene) (units more : ℕ) (all : GoesAll task parts scene units) (is_last : Bool) →
+    Adds task all.before (read_record (input_for task) all.before all.at) is_last new next_scene → is_last ≡ false → more ≡ min (units + 1) 0xffff_ffff_ffff_ffff → GoesAll task new next_scene more
+goes_next task parts new scene next_scene units more all is_last adds is next =
+    goes_on task parts new scene next_scene units more all.fuel all.before all.at all.stands all.sound all.count all.enough all.goes
+    (subst (λ (b : Bool). Adds task all.before (read_record (input_for task) all.before all.at) b new next_scene) is adds) next
+
+-- the records end
+pub ends_with : (task : Task) (told : Jb2Step) (records : List Record) (decisions units : ℕ) (parts : Parts) (scene : Scene) → records_of (input_for task) ≡ outcome told records decisions → told ≢ answer.OutOfMemory →
+    units ≡ counted (length records) → parts.count ≡ counted decisions → Shows (drawn task records) scene → DrawsAll task told units parts scene
+ends_with task told records decisions units parts scene is some count decided shows = record {
+  same = sym (ap (λ (o : Outcome). o.answer) is);
+  some = some;
+  entries = count ∙ sym (ap (λ (o : Outcome). counted (length o.records)) is);
+  decisions = decided ∙ sym (ap (λ (o : Outcome). counted o.decisions) is);
+  picture = shows.picture ∙ sym (ap (λ (o : Outcome). mask_of task.width task.height (placed_shapes task.inherited o.records)) is);
+}
+
+end_on : (task : Task) (new : Parts) (next_scene : Scene) (units more fuel : ℕ) (before : List Record) (at : Coder) → units ≡ counted (length before) → room task.chunk.payload at.place < fuel →
+    records_from fuel (input_for task) before at ≡ records_of (input_for task) → Adds task before (read_record (input_for task) before at) true new next_scene → more ≡ min (units + 1) 0xffff_ffff_ffff_ffff →
+    DrawsAll task answer.Finished more new next_scene
+end_on task new next_scene units more zero before at count enough goes adds next = absurd (omega arith)
+end_on task new next_scene units more (suc fuel) before at count enough goes adds next =
+    ends_with task answer.Finished (adds.entry ∷ before) adds.next.decisions more new next_scene
+    (sym goes ∙ from_record fuel (input_for task) before at adds.next adds.entry adds.got
+    ∙ ap (λ (b : Bool). after_end b (adds.entry ∷ before) adds.next (λ records at. records_from fuel (input_for task) records at)) adds.last)
+    (λ same. cc) (count_more units more (length before) count next) adds.stands.count adds.shows
+
+pub end_all : (task : Task) (parts new : Parts) (scene next_scene : Scene) (units more : ℕ) (all : GoesAll task parts scene units) →
+    Adds task all.before (read_record (input_for task) all.before all.at) true new next_scene → more ≡ min (units + 1) 0xffff_ffff_ffff_ffff → DrawsAll task answer.Finished more new next_scene
+end_all task parts new scene next_scene units more all adds next = end_on task new next_scene units more all.fuel all.before all.at all.count all.enough all.goes adds next
+
+stop_on : (task : Task) (new : Parts) (next_scene : Scene) (units fuel : ℕ) (before : List Record) (at : Coder) (why : Why) → units ≡ counted (length before) → room task.chunk.payload at.place < fuel →
+    records_from fuel (input_for task) before at ≡ records_of (input_for task) → IsStopped (read_record (input_for task) before at) why new → Shows (drawn task before) next_scene → answer_of why ≢ answer.OutOfMemory →
+    DrawsAll task (answer_of why) units new next_scene
+stop_on task new next_scene units zero before at why count enough goes stopped shows some = absurd (omega arith)
+stop_on task new next_scene units (suc fuel) before at why count enough goes stopped shows some =
+    ends_with task (answer_of why) before stopped.decisions units new next_scene
+    (sym goes ∙ from_stop fuel (input_for task) before at why stopped.decisions stopped.stops) some count stopped.count shows
+
+pub need_all : (task : Task) (parts new : Parts) (scene next_scene : Scene) (units : ℕ) (all : GoesAll task parts scene units) →
+    IsStopped (read_record (input_for task) all.before all.at) Need new → Shows (drawn task all.before) next_scene → DrawsAll task answer.NeedBytes units new next_scene
+need_all task parts new scene next_scene units all stopped shows =
+    stop_on task new next_scene units all.fuel all.before all.at Need all.count all.enough all.goes stopped shows (λ same. cc)
+
+pub fault_all : (task : Task) (parts new : Parts) (scene next_scene : Scene) (units : ℕ) (kind : FaultKind) (all : GoesAll task parts scene units) →
+    IsStopped (read_record (input_for task) all.before all.at) (Wrong kind) new → Shows (drawn task all.before) next_scene → DrawsAll task (answer.Refused kind) units new next_scene
+fault_all task parts new scene next_scene units kind all stopped shows =
+    stop_on task new next_scene units all.fuel all.before all.at (Wrong kind) all.count all.enough all.goes stopped shows (λ same. cc)
+
+-- each record leaves less room
+room_of : (payload : List ℕ) (place : Option Interval) (zp : Decoder) → Fed payload place zp → room_left zp ≡ room payload place
+unfolding Fed room_left
+room_of payload place zp fed = ap (λ (b : List ℕ). room b zp.kept.place) fed.0 ∙ ap (λ (p : Option Interval). room payload p) fed.1
+
+pub less_room : (task : Task) (parts new : Parts) (scene next_scene : Scene) (units : ℕ) (is_last : Bool) (all : GoesAll task parts scene units) →
+    Adds task all.before (read_record (input_for task) all.before all.at) is_last new next_scene → room_left new.zp < room_left parts.zp
+less_room task parts new scene next_scene units is_last all adds =
+    let left = record_leaves (input_for task) all.before all.at adds.next adds.entry all.sound adds.got in
+    let less : room task.chunk.payload adds.next.place < room task.chunk.payload all.at.place = left.1 in
+    let first : room_left parts.zp ≡ room task.chunk.payload all.at.place = room_of task.chunk.payload all.at.place parts.zp all.stands.fed in
+    let second : room_left new.zp ≡ room task.chunk.payload adds.next.place = room_of task.chunk.payload adds.next.place new.zp adds.stands.fed in
+    omega arith

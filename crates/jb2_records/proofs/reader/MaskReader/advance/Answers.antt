@@ -1,0 +1,40 @@
+use Rattle.std.proofs.Common.{◌≡◌, ℕ, List, length, sym, ap, subst, ◌∙◌}
+use Rattle.jb2_records.specs.Reading.{records_of}
+use Rattle.jb2_records.specs.Reader.{Masking, Fed, input_of, counted}
+use Rattle.jb2_records.specs.Holding.{IsDecoded, IsHeld, with_decoded}
+use Rattle.jb2_records.proofs.Feeding.{settled_answer, settled_units, settled_decisions, fed_bytes, fed_held, held_decoded}
+use Rattle.jb2_records.proofs.reader.MaskReader.advance.Goals as goal
+
+pub returns-in-Some-clause-answer : goal.returns-in-Some-clause-answer
+returns-in-Some-clause-answer g c payload fed some =
+    settled_answer c.args.self.now payload c.in-Some.step fed (sym (ap (λ (r : Masking). r.answered) c.self.view_is) ∙ c.in-Some.is)
+
+pub returns-in-Some-clause-units : goal.returns-in-Some-clause-units
+returns-in-Some-clause-units g c payload fed some =
+    settled_units c.args.self.now payload c.in-Some.step fed (sym (ap (λ (r : Masking). r.answered) c.self.view_is) ∙ c.in-Some.is)
+
+pub returns-in-Some-clause-decisions : goal.returns-in-Some-clause-decisions
+returns-in-Some-clause-decisions g c payload fed some =
+    settled_decisions c.args.self.now payload c.in-Some.step fed (sym (ap (λ (r : Masking). r.answered) c.self.view_is) ∙ c.in-Some.is)
+
+pub returns-clause-answer : goal.returns-clause-answer
+returns-clause-answer g c payload fed some =
+    let here : IsDecoded c.args.self.now c.in-Ok.decoded.answer c.in-Ok.decoded.units c.in-Ok.decoded.decisions c.in-Ok.decoded.mask = c.in-Ok.ensures.decoded in
+    here.same ∙ ap (λ (l : List ℕ). (records_of (input_of c.args.self.now l)).answer) (fed_bytes payload c.args.self.now fed)
+
+pub returns-clause-units : goal.returns-clause-units
+returns-clause-units g c payload fed some =
+    let here : IsDecoded c.args.self.now c.in-Ok.decoded.answer c.in-Ok.decoded.units c.in-Ok.decoded.decisions c.in-Ok.decoded.mask = c.in-Ok.ensures.decoded in
+    ap (λ (r : Masking). r.units) c.store.ensures ∙ here.entries ∙ ap (λ (l : List ℕ). counted (length (records_of (input_of c.args.self.now l)).records)) (fed_bytes payload c.args.self.now fed)
+
+pub returns-clause-decisions : goal.returns-clause-decisions
+returns-clause-decisions g c payload fed some =
+    let here : IsDecoded c.args.self.now c.in-Ok.decoded.answer c.in-Ok.decoded.units c.in-Ok.decoded.decisions c.in-Ok.decoded.mask = c.in-Ok.ensures.decoded in
+    ap (λ (r : Masking). r.decisions) c.store.ensures ∙ here.decided ∙ ap (λ (l : List ℕ). counted (records_of (input_of c.args.self.now l)).decisions) (fed_bytes payload c.args.self.now fed)
+
+pub returns-clause-fed : goal.returns-clause-fed
+returns-clause-fed g c payload fed =
+    let here : IsDecoded c.args.self.now c.in-Ok.decoded.answer c.in-Ok.decoded.units c.in-Ok.decoded.decisions c.in-Ok.decoded.mask = c.in-Ok.ensures.decoded in
+    subst (λ (r : Masking). Fed payload r) (sym c.store.ensures)
+    (fed_held payload (with_decoded c.args.self.now c.in-Ok.decoded.answer c.in-Ok.decoded.units c.in-Ok.decoded.decisions c.in-Ok.decoded.mask)
+    (held_decoded c.args.self.now c.in-Ok.decoded.answer c.in-Ok.decoded.units c.in-Ok.decoded.decisions c.in-Ok.decoded.mask (subst (λ (r : Masking). IsHeld r) c.self.view_is c.self.invariant) here) (fed_bytes payload c.args.self.now fed))

@@ -1,0 +1,11 @@
+pub mod Records
+pub mod Coding
+pub mod Reading
+pub mod Mask
+pub mod Reader
+pub mod Growth
+pub mod Sides
+pub mod Telling
+pub mod Drawing
+pub mod Holding
+pub mod Worked

@@ -1,0 +1,192 @@
+ghost use Rattle.std.specs.Prelude.{◌≡◌, ◌≤◌, ◌*◌, false, IfSome};
+
+use super::*;
+use bit_plane::Plane;
+use djvu_base::{CountMeter, FaultKind};
+use std::alloc::{AllocError, Global};
+use std::process::Abort;
+use std::sync::Arc;
+use std::test::Fail;
+use zp_table::Table;
+
+/// A chunk with the table of one row, and what is read of it: the answer, the records, the decisions, and the mask's rows
+/// from the top.
+struct Chunk {
+    bytes: &'static [u8],
+    answer: Jb2Step,
+    units: u64,
+    decisions: u64,
+    rows: &'static [&'static str],
+}
+
+/// A mark of one pixel; the same in a wider image; a shape of the library and its refinement; then faults: no start, a
+/// second start, a dictionary that isn't there, and a shape whose pixels lie past the end. The first and the last two were
+/// worked out by hand.
+const SMALL: [Chunk; 7] = [
+    Chunk {
+        bytes: &[0xB7, 0x6D, 0x86, 0x87],
+        answer: Jb2Step::Finished,
+        units: 3,
+        decisions: 29,
+        rows: &["#"],
+    },
+    Chunk {
+        bytes: &[0xA7, 0x6D, 0x86, 0x87],
+        answer: Jb2Step::Finished,
+        units: 3,
+        decisions: 29,
+        rows: &["#."],
+    },
+    Chunk {
+        bytes: &[0xB7, 0x4D, 0x88, 0xA1, 0xA1],
+        answer: Jb2Step::Finished,
+        units: 4,
+        decisions: 39,
+        rows: &["#"],
+    },
+    Chunk {
+        bytes: &[0x0F],
+        answer: Jb2Step::Refused(FaultKind::Jb2NoStart),
+        units: 0,
+        decisions: 4,
+        rows: &["."],
+    },
+    Chunk {
+        bytes: &[0xB7, 0xFF, 0xFF, 0xFF, 0xFF],
+        answer: Jb2Step::Refused(FaultKind::Jb2SecondStart),
+        units: 1,
+        decisions: 9,
+        rows: &["."],
+    },
+    Chunk {
+        bytes: &[0x15, 0x7F],
+        answer: Jb2Step::Refused(FaultKind::Jb2Dictionary),
+        units: 0,
+        decisions: 9,
+        rows: &["."],
+    },
+    Chunk {
+        bytes: &[0xB7, 0x60, 0xFC, 0x1F],
+        answer: Jb2Step::Refused(FaultKind::ZpExhausted),
+        units: 1,
+        decisions: 208,
+        rows: &["."],
+    },
+];
+
+/// All twelve types of records: a comment, an inherited count of 0, the start, shapes of their own and refined ones, for the
+/// library, as marks and both, copies of two of them by their ink, a shape at an absolute place, a reset, an empty comment
+/// and the end. Written, and the mask worked out, by another program after the rules in `docs/jb2.md`.
+const ALL_TYPES: Chunk = Chunk {
+    bytes: &[
+        0x11, 0x01, 0x58, 0x0A, 0xA2, 0xE3, 0x4A, 0x47, 0x3E, 0x9D, 0xA4, 0x23, 0x4E, 0xDA, 0x59,
+        0xAA, 0x93, 0x32, 0xA7, 0xD2, 0x74, 0x38, 0xF8, 0xE8, 0xE4, 0xB1, 0x46, 0x4C, 0x2C, 0x48,
+        0x7F,
+    ],
+    answer: Jb2Step::Finished,
+    units: 15,
+    decisions: 241,
+    rows: &[
+        "##..##...",
+        "#........",
+        "#..##....",
+        "#..##....",
+        "......###",
+    ],
+};
+
+/// Whether a mask has these rows, from the top row down.
+fn has_rows(mask: &Plane, rows: &[&str]) -> bool {
+    let mut y = 0i64;
+    for row in rows.iter().rev() {
+        let mut x = 0i64;
+        for digit in row.bytes() {
+            if mask.get(x, y) != (digit == b'#') {
+                return false;
+            }
+            x = x.saturating_add(1);
+        }
+        y = y.saturating_add(1);
+    }
+    true
+}
+
+/// A reader of a mask as large as these rows.
+fn begin(alloc: Global, rows: &[&str]) -> Option<MaskReader>
+    ensures { IfSome result (λ reader. reader.ended ≡ false) }
+{
+    let height = rows.len();
+    let width = rows.first()?.len();
+    if width < 1 || width > 100 || height < 1 || height > 100 {
+        return None;
+    }
+    let table = Table::flat(alloc).ok()?;
+    let table = Arc::new(alloc, table).ok()?;
+    MaskReader::new(alloc, table, None, width as u32, height as u32).ok()
+}
+
+/// Asserts that a reader comes to what a chunk has, and that the meter counted its decisions.
+fn assert_read(
+    rt: &impl Abort,
+    mut reader: MaskReader,
+    mut meter: CountMeter,
+    chunk: &Chunk,
+) {
+    assert_eq!(rt; reader.advance(&mut meter), chunk.answer);
+    assert_eq!(rt; reader.units(), chunk.units);
+    assert_eq!(rt; reader.decisions(), chunk.decisions);
+    assert_eq!(rt; meter.count(), chunk.decisions);
+    if reader.advance(&mut meter) == Jb2Step::Finished {
+        assert!(rt; has_rows(&reader.mask(), chunk.rows));
+    }
+}
+
+/// Reads a chunk that comes in one piece, and then one that comes byte by byte.
+fn read_both(rt: &impl Abort, alloc: Global, chunk: &Chunk) -> Result<(), Fail> {
+    let (Some(mut whole), Some(mut reader)) = (begin(alloc, chunk.rows), begin(alloc, chunk.rows))
+    else {
+        panic!(rt; "memory is ample");
+    };
+    whole.push(chunk.bytes)?;
+    whole.end();
+    assert_read(rt, whole, CountMeter::new(), chunk);
+    let mut meter = CountMeter::new();
+    for byte in chunk.bytes {
+        let before = reader.decisions();
+        reader.push(&[*byte])?;
+        let answer = reader.advance(&mut meter);
+        assert!(rt; answer == Jb2Step::NeedBytes || answer == chunk.answer);
+        assert!(rt; before <= reader.decisions());
+        assert_eq!(rt; meter.count(), reader.decisions());
+    }
+    reader.end();
+    assert_read(rt, reader, meter, chunk);
+    Ok(())
+}
+
+#[test]
+fn chunks_are_read(rt: HostRuntime) -> Result<(), Fail> {
+    for chunk in &SMALL {
+        read_both(&rt, rt.alloc(), chunk)?;
+    }
+    read_both(&rt, rt.alloc(), &ALL_TYPES)
+}
+
+/// An answer stays, and with it the counts and the mask, while more bytes come.
+#[test]
+fn answers_are_kept(rt: HostRuntime) -> Result<(), Fail> {
+    for chunk in &SMALL[..5] {
+        let Some(mut reader) = begin(rt.alloc(), chunk.rows) else {
+            panic!(rt; "memory is ample");
+        };
+        let mut meter = CountMeter::new();
+        reader.push(chunk.bytes)?;
+        reader.push(&[0xFF, 0xFF, 0xFF, 0xFF])?;
+        assert_eq!(rt; reader.advance(&mut meter), chunk.answer);
+        reader.push(&[0x00, 0xFF])?;
+        assert_eq!(rt; reader.advance(&mut meter), chunk.answer);
+        reader.end();
+        assert_read(&rt, reader, meter, chunk);
+    }
+    Ok(())
+}

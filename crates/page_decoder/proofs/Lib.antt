@@ -1,0 +1,11 @@
+pub mod ByEvents
+pub mod Extending
+pub mod Walks
+pub mod Counting
+pub mod Bringing
+pub mod Lasting
+pub mod Stepping
+pub mod Concluding
+pub mod Fitting
+pub mod Growing
+pub mod Staying

@@ -1,0 +1,105 @@
+//! What is wrong with a page, by its FORM's kind, by a chunk's header, and by its size.
+ghost use Rattle.std.specs.Prelude.{◌≡◌, ◌*◌, ◌<◌, ◌≤◌, None, length};
+ghost use Rattle.page_decoder.specs.Reading.{area_limit, kind_fault, header_fault, size_fault, size_in, is_info, is_mask, is_one_of};
+
+use byteorder::{BigEndian, ByteOrder};
+use djvu_base::FaultKind;
+
+/// The largest page, in pixels.
+const AREA_LIMIT: u32 = 67_108_864;
+
+/// Kinds of a FORM that are no pages, but of which it is known what they are.
+const OTHER_KINDS: [[u8; 4]; 4] = [*b"DJVM", *b"PM44", *b"BM44", *b"THUM"];
+
+/// Chunks that aren't read.
+const UNREAD_IDS: [[u8; 4]; 9] = [
+    *b"DIRM", *b"FGbz", *b"Smmr", *b"BGjp", *b"FGjp", *b"INCL", *b"Djbz", *b"FG44", *b"BG44",
+];
+
+/// Width and height, in pixels.
+#[derive(Clone, Copy, Debug, PartialEq, Eq)]
+pub struct Size {
+    pub width: u16,
+    pub height: u16,
+}
+
+/// Why a FORM of this kind is no page.
+pub fn kind_fault(kind: [u8; 4]) -> Option<FaultKind>
+    ensures { result ≡ kind_fault kind }
+{
+    if kind.as_slice() == b"DJVU".as_slice() {
+        None
+    } else if is_one_of(&OTHER_KINDS, kind) {
+        Some(FaultKind::Unsupported)
+    } else {
+        Some(FaultKind::WrongForm)
+    }
+}
+
+/// Why a page can't have a chunk with this identifier and length, first or later, where it has a mask or not.
+pub fn header_fault(is_first: bool, has_mask: bool, id: [u8; 4], length: u32) -> Option<FaultKind>
+    ensures { result ≡ header_fault is_first has_mask id length }
+{
+    if is_first && !is_info(id) {
+        Some(FaultKind::NoInfo)
+    } else if !is_first && is_info(id) {
+        Some(FaultKind::SecondInfo)
+    } else if is_one_of(&UNREAD_IDS, id) {
+        Some(FaultKind::Unsupported)
+    } else if is_mask(id) && has_mask {
+        Some(FaultKind::SecondMask)
+    } else if is_info(id) && length < 5 {
+        Some(FaultKind::BadInfo)
+    } else {
+        None
+    }
+}
+
+/// Whether a chunk is an `INFO`.
+pub fn is_info(id: [u8; 4]) -> bool
+    ensures { result ≡ is_info id }
+{
+    id.as_slice() == b"INFO".as_slice()
+}
+
+/// Whether a chunk is an `Sjbz`, a mask in JB2.
+pub fn is_mask(id: [u8; 4]) -> bool
+    ensures { result ≡ is_mask id }
+{
+    id.as_slice() == b"Sjbz".as_slice()
+}
+
+fn is_one_of(names: &[[u8; 4]], name: [u8; 4]) -> bool
+    ensures { result ≡ is_one_of names.now name }
+{
+    names
+        .iter()
+        .any(|listed| name.as_slice() == listed.as_slice())
+}
+
+/// Why a page can't have this size.
+pub fn size_fault(size: Size) -> Option<FaultKind>
+    ensures fault { result ≡ size_fault size }
+    ensures some_columns { result ≡ None → 0 < size.width }
+    ensures some_rows { result ≡ None → 0 < size.height }
+    ensures area { result ≡ None → size.width * size.height ≤ area_limit }
+{
+    if size.width == 0 || size.height == 0 {
+        Some(FaultKind::BadInfo)
+    } else if AREA_LIMIT < u32::from(size.width) * u32::from(size.height) {
+        Some(FaultKind::TooLarge)
+    } else {
+        None
+    }
+}
+
+/// The size that the data of an `INFO` begin with.
+pub fn size_in(info: &[u8]) -> Size
+    requires { 4 ≤ length info.now }
+    ensures { result ≡ size_in info.now }
+{
+    Size {
+        width: BigEndian::read_u16(info),
+        height: BigEndian::read_u16(&info[2..]),
+    }
+}

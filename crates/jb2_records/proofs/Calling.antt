@@ -1,5 +1,5 @@
 -- What a coder's calls answer, by what its decoder and its readers answer.
-use Rattle.std.proofs.Common.{◌≡◌, ◌≢◌, ◌≤◌, ◌+◌, ◌-◌, ◌*◌, ℕ, zero, suc, min, ℤ, ◌≤ℤ◌, Bool, List, [], ◌∷◌, refl, sym, ap, subst, ◌∙◌, arith}
+use Rattle.std.proofs.Common.{◌≡◌, ◌≢◌, ◌+◌, ◌-◌, ℕ, zero, suc, ℤ, ◌≤ℤ◌, Bool, List, [], refl, sym, ap, subst, ◌∙◌, arith}
 use Rattle.std.specs.Prelude.{Option, Result, Ok, Err, IfOk, int_le, IsTrue}
 use Rattle.zp_table.specs.declared.rows.Row.{Row}
 use Rattle.zp_decoder.specs.declared.decoder.Decision.{Decision}
@@ -27,9 +27,9 @@ use Rattle.jb2_shapes.specs.Shape.{Sketch, progress, empty_sketch}
 use Rattle.jb2_shapes.specs.Steps as pixels
 use Rattle.jb2_records.specs.declared.stops.Stop.{Stop}
 use Rattle.jb2_records.specs.declared.stops.Stop.TheVariants as stop
-use Rattle.jb2_records.specs.Coding.{Coder, Need, Wrong, Read, Got, Stops, after_number, number_by, read_number, after_flag, flag_of, read_flag, after_row, row_of, read_row, bit_by, after_shape, shape_by, shape_of}
+use Rattle.jb2_records.specs.Coding.{Coder, Need, Wrong, Got, after_number, number_by, read_number, after_flag, read_flag, after_row, read_row, bit_by, after_shape, shape_by, shape_of}
 use Rattle.jb2_records.specs.Reader.{counted}
-use Rattle.jb2_records.specs.Telling.{Parts, Stands, Comes, IsStopped, Halts, Told}
+use Rattle.jb2_records.specs.Telling.{Parts, Stands, Comes, IsStopped, Told}
 
 -- so many ticks more
 ticks_counted : (ticks decisions : ℕ) → numbers.ticked ticks (counted decisions) ≡ counted (decisions + ticks)
@@ -69,17 +69,17 @@ number_goes source root low high at (number.Number value) new is = record {
 number_goes source root low high at number.NeedBytes new is =
     let stands : Stands source (after_number at (read_on (wanted root low high) source (begun at.numbers at.place))) new = is.stands (λ memory. cc) in
     record {
-  decisions = at.decisions + (read_on (wanted root low high) source (begun at.numbers at.place)).coded;
-  stops = ap (λ (s : NumberStep). number_by s (read_on (wanted root low high) source (begun at.numbers at.place)) at) (sym (is.answer (λ memory. cc)));
-  count = stands.count;
-}
+      decisions = at.decisions + (read_on (wanted root low high) source (begun at.numbers at.place)).coded;
+      stops = ap (λ (s : NumberStep). number_by s (read_on (wanted root low high) source (begun at.numbers at.place)) at) (sym (is.answer (λ memory. cc)));
+      count = stands.count;
+    }
 number_goes source root low high at number.Exhausted new is =
     let stands : Stands source (after_number at (read_on (wanted root low high) source (begun at.numbers at.place))) new = is.stands (λ memory. cc) in
     record {
-  decisions = at.decisions + (read_on (wanted root low high) source (begun at.numbers at.place)).coded;
-  stops = ap (λ (s : NumberStep). number_by s (read_on (wanted root low high) source (begun at.numbers at.place)) at) (sym (is.answer (λ memory. cc)));
-  count = stands.count;
-}
+      decisions = at.decisions + (read_on (wanted root low high) source (begun at.numbers at.place)).coded;
+      stops = ap (λ (s : NumberStep). number_by s (read_on (wanted root low high) source (begun at.numbers at.place)) at) (sym (is.answer (λ memory. cc)));
+      count = stands.count;
+    }
 number_goes source root low high at number.OutOfMemory new is = tt
 
 -- a reader of a number that was begun, and went on
@@ -104,7 +104,7 @@ is_read source wanted at old new first last step on stands = record {
   answer = λ some. on.answer wanted source old.count (begun at.numbers at.place) some (start_of source wanted at old new first last step on stands);
   stands = λ some.
       let end : reading.Stands wanted source old.count (read_on wanted source (begun at.numbers at.place)) last new.numbers new.zp new.count =
-          on.stands wanted source old.count (begun at.numbers at.place) some (start_of source wanted at old new first last step on stands) in
+      on.stands wanted source old.count (begun at.numbers at.place) some (start_of source wanted at old new first last step on stands) in
       record {
         numbers = end.states;
         pixels = ap cells.states_of on.pixels ∙ stands.pixels;
@@ -137,9 +137,9 @@ within_of : (root : Root) (low high : ℤ) (old new : Parts) (first last : Reade
 within_of root low high old new first last (number.Number value) bounds on =
     let source : Chunk = chunk old.zp.table old.zp.kept.bytes old.zp.ended in
     let first_stands : reading.Stands (wanted root low high) source old.count (begun (states_of old.numbers) old.zp.kept.place) first old.numbers old.zp old.count =
-        record { reads = on.reads; states = refl; fed = fed_now old.zp; table = refl; ended = refl; ticks = refl } in
+    record { reads = on.reads; states = refl; fed = fed_now old.zp; table = refl; ended = refl; ticks = refl } in
     let both = answer_within (wanted root low high) source (states_of old.numbers) old.zp.kept.place value bounds
-        (sym (on.answer (wanted root low high) source old.count (begun (states_of old.numbers) old.zp.kept.place) (λ memory. cc) first_stands)) in
+    (sym (on.answer (wanted root low high) source old.count (begun (states_of old.numbers) old.zp.kept.place) (λ memory. cc) first_stands)) in
     (le_of low value both.0, le_of value high both.1)
 within_of root low high old new first last number.NeedBytes bounds on = tt
 within_of root low high old new first last number.Exhausted bounds on = tt
@@ -308,9 +308,9 @@ pub shape_read : (reading : List Row → List ℕ → Bool → shapes.Progress �
     HasReading source at (reading source.table source.payload source.ended (progress (empty_sketch width height) at.pixels at.place)) told last new
 shape_read reading old new first last told width height reads is source at stands =
     let there : reading old.zp.table source.payload old.zp.ended (progress first (cells.states_of old.pixels) at.place) ≡ reading source.table source.payload source.ended (progress (empty_sketch width height) at.pixels at.place) =
-        same_reading reading old.zp.table source.table source.payload old.zp.ended source.ended first (empty_sketch width height) (cells.states_of old.pixels) at.pixels at.place stands.table stands.ended is stands.pixels in
+    same_reading reading old.zp.table source.table source.payload old.zp.ended source.ended first (empty_sketch width height) (cells.states_of old.pixels) at.pixels at.place stands.table stands.ended is stands.pixels in
     let last_is : last ≡ (reading source.table source.payload source.ended (progress (empty_sketch width height) at.pixels at.place)).at.sketch =
-        reads.sketch source.payload at.place stands.fed ∙ ap (λ (r : shapes.Reading). r.at.sketch) there in
+    reads.sketch source.payload at.place stands.fed ∙ ap (λ (r : shapes.Reading). r.at.sketch) there in
     record {
       answer = reads.answer source.payload at.place stands.fed ∙ ap (λ (r : shapes.Reading). r.answer) there;
       sketch_is = last_is;

@@ -1,22 +1,21 @@
 -- A reader of a mask while bytes are pushed, once they end, and once they are decoded.
-use Rattle.std.proofs.Common.{◌≡◌, ◌≢◌, ◌≤◌, ◌+◌, ◌*◌, ℕ, suc, min, add-one, Bool, true, false, List, [], ◌++◌, length, refl, sym, ap, subst, ◌∙◌, arith}
+use Rattle.std.proofs.Common.{◌≡◌, ◌≤◌, ◌+◌, ℕ, min, add-one, Bool, true, false, List, [], ◌++◌, length, refl, sym, ap, subst, ◌∙◌, arith}
 use Rattle.std.specs.Prelude.{Option, Some, None, Result, Ok, Err, OnOk, is_ok, if◌then◌else◌}
 use Rattle.zp_table.specs.declared.rows.Row.{Row}
 use Rattle.std.proofs.lemmas.List.{length-append, append-nil}
-use Rattle.zp_table.specs.Rows.{IsTable}
 use Rattle.bit_plane.specs.Pixels.{Pixels}
 use Rattle.jb2_records.specs.declared.reader.Jb2Step.{Jb2Step}
 use Rattle.jb2_records.specs.declared.reader.Jb2Step.TheVariants as answer
-use Rattle.jb2_records.specs.Records.{Record, placed_shapes}
+use Rattle.jb2_records.specs.Records.{placed_shapes}
 use Rattle.jb2_records.specs.Reading.{Input, Outcome, records_of}
 use Rattle.jb2_records.specs.Mask.{mask_of, mask_drawn}
-use Rattle.jb2_records.specs.Reader.{Kept, Masking, IsMaskSize, Fed, Settles, input_of, counted, standing}
+use Rattle.jb2_records.specs.Reader.{Masking, Fed, Settles, input_of, counted, standing}
 use Rattle.jb2_records.specs.Holding.{IsFinal, IsHeld, IsDecoded, with_decoded}
 use Rattle.jb2_numbers.specs.Number.{Chunk, chunk, ticked}
 use Rattle.jb2_records.specs.Coding.{chunk_start}
 use Rattle.jb2_records.specs.Telling.{Parts, Stands}
 use Rattle.jb2_records.specs.Drawing.{Task, Scene, drawn, Shows, IsBegun, DrawsAll}
-use Rattle.jb2_records.specs.Growth.{GoesOn, with_more}
+use Rattle.jb2_records.specs.Growth.{GoesOn}
 use Rattle.jb2_records.proofs.Growing.{records_go_on}
 
 -- a reader with more bytes
@@ -35,11 +34,12 @@ settles_on : (width height : ℕ) (shorter longer : Input) (answered : Option Jb
     GoesOn (records_of shorter) (records_of longer) → IsFinal answered → Settles shorter width height answered units decisions mask → Settles longer width height answered units decisions mask
 settles_on width height shorter longer None units decisions mask dictionary goes final settles = tt
 settles_on width height shorter longer (Some step) units decisions mask dictionary goes final settles =
-    let same : records_of longer ≡ records_of shorter = goes.settled (λ needs. final (settles.0 ∙ needs)) in
-    (settles.0 ∙ ap (λ (o : Outcome). o.answer) (sym same),
-    settles.1 ∙ ap (λ (o : Outcome). counted (length o.records)) (sym same),
-    settles.2 ∙ ap (λ (o : Outcome). counted o.decisions) (sym same),
-    λ finished. settles.3 finished ∙ mask_same width height shorter longer dictionary same)
+    let same : records_of longer ≡ records_of shorter = goes.settled (λ needs. final (settles.0 ∙ needs)) in (
+      settles.0 ∙ ap (λ (o : Outcome). o.answer) (sym same),
+      settles.1 ∙ ap (λ (o : Outcome). counted (length o.records)) (sym same),
+      settles.2 ∙ ap (λ (o : Outcome). counted o.decisions) (sym same),
+      λ finished. settles.3 finished ∙ mask_same width height shorter longer dictionary same,
+    )
 
 fed_grown : (reader : Masking) (more : List ℕ) (ended : Bool) → IsHeld reader → reader.ended ≡ false → Fed (reader.kept.bytes ++ more) (grown reader more ended)
 unfolding Fed
@@ -50,11 +50,12 @@ fed_grown reader more ended held goes =
     let longer : length (records_of all).records ≡ length on.later + length (records_of some).records = ap length on.entries ∙ length-append on.later (records_of some).records in
     let units : reader.units ≤ counted (length (records_of some).records) = held.fed.1 in
     let decisions : reader.decisions ≤ counted (records_of some).decisions = held.fed.2 in
-    let fewer : (records_of some).decisions ≤ (records_of all).decisions = on.decisions in
-    (refl,
-    omega arith,
-    omega arith,
-    settles_on reader.width reader.height some all reader.answered reader.units reader.decisions reader.kept.mask refl on held.final held.fed.3)
+    let fewer : (records_of some).decisions ≤ (records_of all).decisions = on.decisions in (
+      refl,
+      omega arith,
+      omega arith,
+      settles_on reader.width reader.height some all reader.answered reader.units reader.decisions reader.kept.mask refl on held.final held.fed.3,
+    )
 
 -- more bytes come
 pub held_grown : (reader : Masking) (more : List ℕ) (ended : Bool) → IsHeld reader → reader.ended ≡ false → IsHeld (grown reader more ended)
@@ -81,9 +82,12 @@ fed_held payload reader held same = subst (λ (bytes : List ℕ). Fed bytes read
 -- a new reader
 pub fed_new : (reader : Masking) → reader.kept.bytes ≡ [] → reader.answered ≡ None → reader.units ≡ 0 → reader.decisions ≡ 0 → Fed [] reader
 unfolding Fed
-fed_new reader bytes answered units decisions =
-    (bytes, omega arith, omega arith,
-    subst (λ (a : Option Jb2Step). Settles (input_of reader []) reader.width reader.height a reader.units reader.decisions reader.kept.mask) (sym answered) tt)
+fed_new reader bytes answered units decisions = (
+  bytes,
+  omega arith,
+  omega arith,
+  subst (λ (a : Option Jb2Step). Settles (input_of reader []) reader.width reader.height a reader.units reader.decisions reader.kept.mask) (sym answered) tt,
+)
 
 -- what was decoded is kept
 
@@ -104,9 +108,12 @@ pub fed_decoded : (reader : Masking) (told : Jb2Step) (records made : ℕ) (pict
 unfolding Fed
 fed_decoded reader told records made picture is =
     let entries : records ≡ counted (length (records_of (input_of reader reader.kept.bytes)).records) = is.entries in
-    let decided : made ≡ counted (records_of (input_of reader reader.kept.bytes)).decisions = is.decided in
-    (refl, omega arith, omega arith,
-    settles_standing (input_of reader reader.kept.bytes) reader.width reader.height told records made picture is.same entries decided is.drawn)
+    let decided : made ≡ counted (records_of (input_of reader reader.kept.bytes)).decisions = is.decided in (
+      refl,
+      omega arith,
+      omega arith,
+      settles_standing (input_of reader reader.kept.bytes) reader.width reader.height told records made picture is.same entries decided is.drawn,
+    )
 
 pub held_decoded : (reader : Masking) (told : Jb2Step) (records made : ℕ) (picture : Pixels) → IsHeld reader → IsDecoded reader told records made picture → IsHeld (with_decoded reader told records made picture)
 held_decoded reader told records made picture held is = record {

@@ -1,15 +1,13 @@
 -- Steps of a reading, joined: what is answered by a call that calls others.
-use Rattle.std.proofs.Common.{◌≡◌, ℕ, Bool, true, false, Result, Ok, Err, Option, Some, None, List, [], ◌∷◌, refl, sym, ap, subst, ◌∙◌, arith}
+use Rattle.std.proofs.Common.{◌≡◌, Bool, Result, Err, Option, None, List, sym, ap, subst}
 use Rattle.djvu_base.specs.declared.faults.FaultKind.{FaultKind}
-use Rattle.djvu_base.specs.declared.faults.FaultKind.TheVariants as fault
 use Rattle.jb2_numbers.specs.Number.{Chunk}
 use Rattle.jb2_records.specs.declared.stops.Stop.{Stop}
 use Rattle.jb2_records.specs.declared.stops.Stop.TheVariants as stop
-use Rattle.jb2_records.specs.Records.{Record, is_end}
-use Rattle.jb2_records.specs.Coding.{Coder, Why, Need, Wrong, Read, Got, Stops, then_read, checked}
-use Rattle.jb2_records.specs.Reader.{counted}
+use Rattle.jb2_records.specs.Records.{Record}
+use Rattle.jb2_records.specs.Coding.{Coder, Why, Need, Wrong, Read, then_read, checked}
 use Rattle.jb2_records.specs.Telling.{Parts, Stands, Comes, IsStopped, Halts, Told, IsFault}
-use Rattle.jb2_records.specs.Drawing.{Task, Scene, Drawn, drawn, Shows, StillShows, Adds, Draws}
+use Rattle.jb2_records.specs.Drawing.{Task, Scene, Drawn, drawn, Shows, StillShows, Draws}
 
 -- what stops the first part stops the whole
 stopped_then : {A B : Type 0} (first : Read A) (rest : A → Coder → Read B) (why : Why) (parts : Parts) → IsStopped first why parts → IsStopped (then_read first rest) why parts

@@ -1,22 +1,20 @@
 -- Records that are read one after the other are those of the chunk.
-use Rattle.std.proofs.Common.{◌≡◌, ◌≢◌, ◌≤◌, ◌<◌, ◌+◌, ℕ, zero, suc, min, Bool, true, false, List, [], ◌∷◌, length, refl, sym, ap, subst, ◌∙◌, arith}
-use Rattle.std.specs.Prelude.{Option, Some, None, Result, Ok, Err}
+use Rattle.std.proofs.Common.{◌≡◌, ◌≢◌, ◌<◌, ◌+◌, ℕ, zero, suc, min, Bool, true, false, List, [], ◌∷◌, length, refl, sym, ap, subst, ◌∙◌, arith}
+use Rattle.std.specs.Prelude.{Option}
 use Rattle.zp_decoder.specs.Decision.{Interval}
 use Rattle.zp_decoder.specs.Decoder.{Decoder, Fed, room_left}
 use Rattle.zp_decoder.specs.Runs.{room}
 use Rattle.djvu_base.specs.declared.faults.FaultKind.{FaultKind}
-use Rattle.bit_plane.specs.Pixels.{Pixels}
-use Rattle.jb2_records.specs.declared.types.RecordType.{RecordType}
 use Rattle.jb2_records.specs.declared.reader.Jb2Step.{Jb2Step}
 use Rattle.jb2_records.specs.declared.reader.Jb2Step.TheVariants as answer
 use Rattle.jb2_records.specs.Records.{Record, is_end, placed_shapes}
 use Rattle.jb2_records.specs.Coding.{Coder, chunk_start, Why, Need, Wrong, Read, Got, Stops}
 use Rattle.jb2_records.specs.Reading.{Input, Outcome, outcome, answer_of, after_record, after_end, read_record, records_from, records_of, most_records}
-use Rattle.jb2_records.specs.Mask.{mask_of, mask_drawn}
+use Rattle.jb2_records.specs.Mask.{mask_of}
 use Rattle.jb2_records.specs.Reader.{counted}
 use Rattle.jb2_records.specs.Growth.{IsSound}
 use Rattle.jb2_records.specs.Telling.{Parts, Stands, IsStopped}
-use Rattle.jb2_records.specs.Drawing.{Task, input_for, Scene, drawn, Shows, Adds, DrawsAll, IsBegun, is_end_type}
+use Rattle.jb2_records.specs.Drawing.{Task, input_for, Scene, drawn, Shows, Adds, DrawsAll, IsBegun}
 use Rattle.jb2_records.proofs.Leaving.{record_leaves, start_is_sound}
 
 -- so many records were read, and those that follow are the rest

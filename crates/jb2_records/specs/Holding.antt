@@ -1,5 +1,5 @@
 -- What a reader of a mask keeps to, and what decoding its bytes comes to.
-use Rattle.std.specs.Prelude.{◌≡◌, ◌≢◌, ℕ, Option, Some, None, List, length}
+use Rattle.std.specs.Prelude.{◌≡◌, ◌≢◌, ℕ, Option, Some, None, length}
 use Rattle.zp_table.specs.Rows.{IsTable}
 use Rattle.bit_plane.specs.Pixels.{Pixels}
 use Rattle.jb2_records.specs.declared.reader.Jb2Step.{Jb2Step}

@@ -7,7 +7,7 @@ use Rattle.bit_plane.specs.Pixels.{Pixels}
 use Rattle.jb2_numbers.specs.Number.{chunk}
 use Rattle.jb2_records.specs.declared.reader.Jb2Step.{Jb2Step}
 use Rattle.jb2_records.specs.declared.reader.Jb2Step.TheVariants as answer
-use Rattle.jb2_records.specs.Reading.{Input, Mask, Outcome, records_of}
+use Rattle.jb2_records.specs.Reading.{Input, Mask, records_of}
 use Rattle.jb2_records.specs.Mask.{mask_drawn}
 
 -- what only the reader itself reads

@@ -1,10 +1,10 @@
 -- Small chunks with the table of one row, with which each decision is a bit of the input inverted.
-use Rattle.std.specs.Prelude.{ℕ, Bool, true, false, List, [], ◌∷◌, length}
+use Rattle.std.specs.Prelude.{ℕ, Bool, true, List, [], ◌∷◌, length}
 use Rattle.zp_table.specs.Listing.{flat_rows}
 use Rattle.bit_plane.specs.Pixels.{Pixels}
 use Rattle.jb2_numbers.specs.Number.{chunk}
 use Rattle.jb2_records.specs.declared.reader.Jb2Step.{Jb2Step}
-use Rattle.jb2_records.specs.Reading.{Input, Purpose, Dictionary, Mask, Outcome, records_of}
+use Rattle.jb2_records.specs.Reading.{Input, Purpose, Dictionary, Mask, records_of}
 
 -- one black pixel
 abbrev pub dot : Pixels

@@ -1,4 +1,12 @@
 //! Records of JB2: masks, out of shapes and their places (DjVu 3 reference, JB2).
+//!
+//! A coder reads numbers, bits and shapes, a scene keeps what the records draw, and the reader of a mask decodes the bytes so
+//! far from their start. A function that reads has the name of the definition that it follows.
+//!
+//! `specs/` has the definitions: `Records` (records, and what a list of them comes to), `Coding` and `Reading` (how they are
+//! read), `Mask` (what they draw), `Reader` (how a reader stands to its bytes), `Growth` (what more bytes do), and `Worked`
+//! (small chunks). What only the code needs: `Telling` (how a coder stands to the reading), `Sides` and `Drawing` (how a
+//! scene stands to the records) and `Holding` (what a reader keeps to).
 #![tactic(auto)]
 
 mod checks;

@@ -9,8 +9,8 @@ ghost use Rattle.zp_table.specs.Rows.{IsTable};
 ghost use Rattle.jb2_records.specs.Holding.{IsDecoded, with_decoded};
 ghost use Rattle.jb2_records.specs.Reader.{Fed, input_of, counted, standing, inherited_of};
 
-use crate::dictionary::Dictionary;
 use crate::coder::Coder;
+use crate::dictionary::Dictionary;
 use crate::records::read_records;
 use crate::scene::Scene;
 use bit_plane::Plane;
@@ -55,27 +55,27 @@ impl Model for MaskReader {
     ghost Value = { Masking };
 
     ghost view = { λ a. record {
-        table = arc_value a.table;
-        inherited = inherited_of a.inherited;
-        width = a.mask.width;
-        height = a.mask.height;
-        ended = a.is_whole;
-        answered = a.answered;
-        units = a.units;
-        decisions = a.decisions;
-        kept = record { bytes = a.bytes.items; mask = a.mask };
+      table = arc_value a.table;
+      inherited = inherited_of a.inherited;
+      width = a.mask.width;
+      height = a.mask.height;
+      ended = a.is_whole;
+      answered = a.answered;
+      units = a.units;
+      decisions = a.decisions;
+      kept = record { bytes = a.bytes.items; mask = a.mask };
     } };
 
     ghost invariant = { λ a. IsHeld (record {
-        table = arc_value a.table;
-        inherited = inherited_of a.inherited;
-        width = a.mask.width;
-        height = a.mask.height;
-        ended = a.is_whole;
-        answered = a.answered;
-        units = a.units;
-        decisions = a.decisions;
-        kept = record { bytes = a.bytes.items; mask = a.mask };
+      table = arc_value a.table;
+      inherited = inherited_of a.inherited;
+      width = a.mask.width;
+      height = a.mask.height;
+      ended = a.is_whole;
+      answered = a.answered;
+      units = a.units;
+      decisions = a.decisions;
+      kept = record { bytes = a.bytes.items; mask = a.mask };
     }) };
 }
 

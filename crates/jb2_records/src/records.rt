@@ -14,10 +14,10 @@ use crate::checks::{is_end_type, is_nothing, type_fault, type_of, unsigned};
 use crate::coder::Coder;
 use crate::frames::Frame;
 use crate::marks::read_place;
+use crate::reader::Jb2Step;
 use crate::scene::Scene;
 use crate::shapes::{MOST, read_match, read_own, read_refinement};
 use crate::stops::{Stop, check};
-use crate::reader::Jb2Step;
 use crate::types::RecordType;
 use bit_plane::Plane;
 use djvu_base::FaultKind;
@@ -55,11 +55,7 @@ pub(crate) fn read_record(coder: &mut Coder, scene: &mut Scene) -> Result<Record
         Draws is_end_type task before (read_record (input_for task) before at) result coder.new scene.new }
 {
     let kind = type_of(coder.read_number(Root::RecordType, 0, 11)?);
-    check(type_fault(
-        scene.is_started(),
-        scene.shape_count() > 0,
-        kind,
-    ))?;
+    check(type_fault(scene.is_started(), scene.shape_count() > 0, kind))?;
     read_body(coder, scene, kind)?;
     Ok(kind)
 }

@@ -19,6 +19,7 @@ use std::sync::Arc;
 
 /// The greatest number without a sign, and the bounds of differences and steps.
 pub(crate) const MOST: i32 = 262_142;
+
 pub(crate) const LEAST: i32 = -262_143;
 
 /// The sides of one shape more, where the checks allow them.

@@ -126,12 +126,7 @@ fn begin(alloc: Global, rows: &[&str]) -> Option<MaskReader>
 }
 
 /// Asserts that a reader comes to what a chunk has, and that the meter counted its decisions.
-fn assert_read(
-    rt: &impl Abort,
-    mut reader: MaskReader,
-    mut meter: CountMeter,
-    chunk: &Chunk,
-) {
+fn assert_read(rt: &impl Abort, mut reader: MaskReader, mut meter: CountMeter, chunk: &Chunk) {
     assert_eq!(rt; reader.advance(&mut meter), chunk.answer);
     assert_eq!(rt; reader.units(), chunk.units);
     assert_eq!(rt; reader.decisions(), chunk.decisions);

@@ -1,4 +1,4 @@
-use Rattle.std.proofs.Common.{◌≡◌, sym, subst, ◌∙◌}
+use Rattle.std.proofs.Common.{sym, subst, ◌∙◌}
 use Rattle.jb2_records.specs.declared.stops.Stop.{Stop}
 use Rattle.jb2_records.specs.Reading.{read_record}
 use Rattle.jb2_records.specs.Telling.{Halts}
@@ -33,12 +33,12 @@ pub returns-in-Err-NeedBytes : goal.returns-in-Err-NeedBytes
 returns-in-Err-NeedBytes c task begun =
     let all = c.records.invariant task begun in
     let both = subst (λ (s : Stop). Halts (read_record (input_for task) all.before all.at) s c.read_record.new.coder × StillShows s (drawn task all.before) c.read_record.new.scene) c.in-Err-NeedBytes.field-0-is
-        (c.in-Err-NeedBytes.ensures task all.before all.at all.stands all.shows) in
+    (c.in-Err-NeedBytes.ensures task all.before all.at all.stands all.shows) in
     need_all task c.records.coder c.read_record.new.coder c.records.scene c.read_record.new.scene c.records.units all both.0 both.1
 
 pub returns-in-Err-Refused : goal.returns-in-Err-Refused
 returns-in-Err-Refused c task begun =
     let all = c.records.invariant task begun in
     let both = subst (λ (s : Stop). Halts (read_record (input_for task) all.before all.at) s c.read_record.new.coder × StillShows s (drawn task all.before) c.read_record.new.scene) c.in-Err-Refused.field-0-is
-        (c.in-Err-Refused.ensures task all.before all.at all.stands all.shows) in
+    (c.in-Err-Refused.ensures task all.before all.at all.stands all.shows) in
     fault_all task c.records.coder c.read_record.new.coder c.records.scene c.read_record.new.scene c.records.units c.in-Err-Refused.kind all both.0 both.1

@@ -1,8 +1,8 @@
-use Rattle.std.proofs.Common.{◌≡◌, refl, sym, ap, ◌∙◌, subst}
+use Rattle.std.proofs.Common.{refl, sym, ◌∙◌, subst}
 use Rattle.std.specs.Arc.{arc_value}
-use Rattle.jb2_shapes.specs.Shape.{Sketch, empty_sketch, progress, direct_reading}
+use Rattle.jb2_shapes.specs.Shape.{empty_sketch, progress, direct_reading}
 use Rattle.jb2_records.specs.Telling.{Parts, Stands}
-use Rattle.jb2_records.proofs.Calling.{ReadsShape, HasReading, shape_read, shape_told_done, shape_told_needs, shape_told_exhausted}
+use Rattle.jb2_records.proofs.Calling.{ReadsShape, shape_read, shape_told_done, shape_told_needs, shape_told_exhausted}
 use Rattle.jb2_records.proofs.coder.Coder.read_direct.Goals as goal
 use Rattle.jb2_records.proofs.coder.Coder.read_direct.Goals.{in-Done+in_ok-new-in-Done, in-NeedBytes, in-Exhausted}
 
@@ -25,7 +25,8 @@ returns-clause-told c source at stands =
     } in
     let has = shape_read direct_reading old new c.in_ok-reader.reader c.advance.new.self c.advance.result c.args.width c.args.height reads c.in_ok-reader.ensures source at there in
     elim c.match-advance.branch [
-      in-Done+in_ok-new-in-Done w ↦ shape_told_done arc_value source at (direct_reading source.table source.payload source.ended (progress (empty_sketch c.args.width c.args.height) at.pixels at.place)) c.advance.result c.advance.new.self new c.match-advance.result w.in_ok-new-in-Done.field-0
+      | in-Done+in_ok-new-in-Done w ↦ shape_told_done arc_value source at (direct_reading source.table source.payload source.ended (progress (empty_sketch c.args.width c.args.height) at.pixels at.place)) c.advance.result c.advance.new.self new c.match-advance.result w.in_ok-new-in-Done.field-0
           has w.in-Done.is (w.in_ok-new-in-Done.ensures.ok ∙ w.take.ensures) w.result-is
       | in-NeedBytes w ↦ shape_told_needs arc_value source at (direct_reading source.table source.payload source.ended (progress (empty_sketch c.args.width c.args.height) at.pixels at.place)) c.advance.result c.advance.new.self new c.match-advance.result has w.in-NeedBytes.is w.result-is
-      | in-Exhausted w ↦ shape_told_exhausted arc_value source at (direct_reading source.table source.payload source.ended (progress (empty_sketch c.args.width c.args.height) at.pixels at.place)) c.advance.result c.advance.new.self new c.match-advance.result has w.in-Exhausted.is w.result-is ]
+      | in-Exhausted w ↦ shape_told_exhausted arc_value source at (direct_reading source.table source.payload source.ended (progress (empty_sketch c.args.width c.args.height) at.pixels at.place)) c.advance.result c.advance.new.self new c.match-advance.result has w.in-Exhausted.is w.result-is
+    ]

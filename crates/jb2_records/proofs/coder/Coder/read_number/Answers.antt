@@ -16,12 +16,13 @@ new c = record { zp = c.advance.new.zp; numbers = c.advance.new.contexts; pixels
 
 same : (c : goal.Joined-advance) → c.match-advance.result ≡ result_of c.advance.result
 same c = elim c.match-advance.branch [
-  in-Number w ↦
+  | in-Number w ↦
       let fits : to_z w32 (of_z w32 w.in-Number.number) ≡ w.in-Number.number = search rules in
       w.result-is ∙ ap (λ (n : ℤ). let r : Result ℤ Stop = Ok n in r) fits ∙ sym (ap result_of w.in-Number.is)
   | in-NeedBytes w ↦ w.result-is ∙ sym (ap result_of w.in-NeedBytes.is)
   | in-Exhausted w ↦ w.result-is ∙ sym (ap result_of w.in-Exhausted.is)
-  | in-OutOfMemory w ↦ w.result-is ∙ sym (ap result_of w.in-OutOfMemory.is) ]
+  | in-OutOfMemory w ↦ w.result-is ∙ sym (ap result_of w.in-OutOfMemory.is)
+]
 
 on : (c : goal.Joined-advance) → Reads_on (wanted c.args.root c.args.low c.args.high) (old c) (new c) c.begin-reader.result c.advance.new.self c.advance.result
 on c =

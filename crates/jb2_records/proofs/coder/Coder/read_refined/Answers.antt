@@ -1,11 +1,11 @@
-use Rattle.std.proofs.Common.{◌≡◌, refl, sym, ap, ◌∙◌, subst}
+use Rattle.std.proofs.Common.{refl, sym, ap, ◌∙◌, subst}
 use Rattle.std.specs.Arc.{arc_value}
 use Rattle.bit_plane.specs.Pixels.{Pixels}
 use Rattle.jb2_shapes.specs.Shape.{empty_sketch, progress}
 use Rattle.jb2_shapes.specs.Refined.{Refinement, refined_reading}
 use Rattle.jb2_records.specs.Coding.{read_refined}
 use Rattle.jb2_records.specs.Telling.{Parts, Stands, Told}
-use Rattle.jb2_records.proofs.Calling.{ReadsShape, HasReading, shape_read, shape_told_done, shape_told_needs, shape_told_exhausted}
+use Rattle.jb2_records.proofs.Calling.{ReadsShape, shape_read, shape_told_done, shape_told_needs, shape_told_exhausted}
 use Rattle.jb2_records.proofs.coder.Coder.read_refined.Goals as goal
 use Rattle.jb2_records.proofs.coder.Coder.read_refined.Goals.{in-Done+in_ok-new-in-Done, in-NeedBytes, in-Exhausted}
 
@@ -29,7 +29,8 @@ returns-clause-told c source at stands =
     let has = shape_read (refined_reading c.in_ok-reader.reader.matched) old new c.in_ok-reader.reader.sketch c.advance.new.self.sketch c.advance.result c.args.width c.args.height reads (ap (λ (r : Refinement). r.sketch) c.in_ok-reader.ensures) source at there in
     subst (λ (matched : Pixels). Told arc_value source (read_refined source matched c.args.width c.args.height at) c.match-advance.result new) (ap (λ (r : Refinement). r.matched) c.in_ok-reader.ensures)
     (elim c.match-advance.branch [
-      in-Done+in_ok-new-in-Done w ↦ shape_told_done arc_value source at (refined_reading c.in_ok-reader.reader.matched source.table source.payload source.ended (progress (empty_sketch c.args.width c.args.height) at.pixels at.place)) c.advance.result c.advance.new.self.sketch new c.match-advance.result w.in_ok-new-in-Done.field-0
+      | in-Done+in_ok-new-in-Done w ↦ shape_told_done arc_value source at (refined_reading c.in_ok-reader.reader.matched source.table source.payload source.ended (progress (empty_sketch c.args.width c.args.height) at.pixels at.place)) c.advance.result c.advance.new.self.sketch new c.match-advance.result w.in_ok-new-in-Done.field-0
           has w.in-Done.is (w.in_ok-new-in-Done.ensures.ok ∙ w.take.ensures) w.result-is
       | in-NeedBytes w ↦ shape_told_needs arc_value source at (refined_reading c.in_ok-reader.reader.matched source.table source.payload source.ended (progress (empty_sketch c.args.width c.args.height) at.pixels at.place)) c.advance.result c.advance.new.self.sketch new c.match-advance.result has w.in-NeedBytes.is w.result-is
-      | in-Exhausted w ↦ shape_told_exhausted arc_value source at (refined_reading c.in_ok-reader.reader.matched source.table source.payload source.ended (progress (empty_sketch c.args.width c.args.height) at.pixels at.place)) c.advance.result c.advance.new.self.sketch new c.match-advance.result has w.in-Exhausted.is w.result-is ])
+      | in-Exhausted w ↦ shape_told_exhausted arc_value source at (refined_reading c.in_ok-reader.reader.matched source.table source.payload source.ended (progress (empty_sketch c.args.width c.args.height) at.pixels at.place)) c.advance.result c.advance.new.self.sketch new c.match-advance.result has w.in-Exhausted.is w.result-is
+    ])

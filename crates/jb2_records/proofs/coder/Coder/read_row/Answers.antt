@@ -9,10 +9,11 @@ returns c =
     let old : Parts = record { zp = c.self.inside.zp; numbers = c.self.inside.numbers; pixels = c.self.inside.pixels; flag = c.self.inside.flag; row = c.self.inside.row; count = c.self.inside.meter } in
     let new : Parts = record { zp = c.decode.new.self; numbers = c.self.inside.numbers; pixels = c.self.inside.pixels; flag = c.self.inside.flag; row = c.decode.new.ctx; count = c.decode.new.meter } in
     let same : c.match-decode.result ≡ bit_result c.decode.result =
-        elim c.match-decode.branch [
-          in-Bit w ↦ w.result-is ∙ sym (ap bit_result w.in-Bit.is)
-          | in-NeedBytes w ↦ w.result-is ∙ sym (ap bit_result w.in-NeedBytes.is)
-          | in-Exhausted w ↦ w.result-is ∙ sym (ap bit_result w.in-Exhausted.is) ] in
+    elim c.match-decode.branch [
+      | in-Bit w ↦ w.result-is ∙ sym (ap bit_result w.in-Bit.is)
+      | in-NeedBytes w ↦ w.result-is ∙ sym (ap bit_result w.in-NeedBytes.is)
+      | in-Exhausted w ↦ w.result-is ∙ sym (ap bit_result w.in-Exhausted.is)
+    ] in
     λ source at stands.
     row_told old new c.decode.result c.match-decode.result
     (record {

@@ -1,4 +1,4 @@
-use Rattle.std.proofs.Common.{◌≡◌, ℕ, List, length, sym, ap, subst, ◌∙◌}
+use Rattle.std.proofs.Common.{ℕ, List, length, sym, ap, subst, ◌∙◌}
 use Rattle.jb2_records.specs.Reading.{records_of}
 use Rattle.jb2_records.specs.Reader.{Masking, Fed, input_of, counted}
 use Rattle.jb2_records.specs.Holding.{IsDecoded, IsHeld, with_decoded}

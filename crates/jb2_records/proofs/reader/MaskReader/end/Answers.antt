@@ -1,7 +1,6 @@
-use Rattle.std.proofs.Common.{◌≡◌, ◌≤◌, ℕ, List, [], false, refl, sym, ap, subst, ◌∙◌}
+use Rattle.std.proofs.Common.{sym, subst}
 use Rattle.std.specs.Arc.{arc_value}
 use Rattle.jb2_records.specs.Reader.{Masking, Fed, inherited_of}
-use Rattle.jb2_records.specs.Holding.{IsHeld, IsDecoded}
 use Rattle.jb2_records.proofs.Feeding.{held_end, fed_end}
 use Rattle.jb2_records.proofs.reader.MaskReader.end.Goals as goal
 

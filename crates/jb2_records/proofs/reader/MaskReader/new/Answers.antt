@@ -1,7 +1,6 @@
-use Rattle.std.proofs.Common.{◌≡◌, ◌≤◌, ℕ, List, [], false, refl, sym, ap, subst, ◌∙◌}
+use Rattle.std.proofs.Common.{ℕ, List, false, refl, sym, subst}
 use Rattle.std.specs.Arc.{arc_value}
-use Rattle.jb2_records.specs.Reader.{Masking, Fed, inherited_of}
-use Rattle.jb2_records.specs.Holding.{IsHeld, IsDecoded}
+use Rattle.jb2_records.specs.Reader.{Fed, inherited_of}
 use Rattle.jb2_records.specs.Reader.{IsMaskSize}
 use Rattle.jb2_records.proofs.Feeding.{fed_new}
 use Rattle.jb2_records.proofs.reader.MaskReader.new.Goals as goal
@@ -41,13 +40,13 @@ invariant_of-result c = record {
 pub returns-clause-fed : goal.returns-clause-fed
 returns-clause-fed c =
     fed_new (record {
-        table = arc_value c.args.table;
-        inherited = inherited_of c.args.inherited;
-        width = c.in_ok-new.field-0.width;
-        height = c.in_ok-new.field-0.height;
-        ended = false;
-        answered = None;
-        units = 0;
-        decisions = 0;
-        kept = record { bytes = c.new.result.items; mask = c.in_ok-new.field-0 };
-      }) c.new.ensures.items refl refl refl
+      table = arc_value c.args.table;
+      inherited = inherited_of c.args.inherited;
+      width = c.in_ok-new.field-0.width;
+      height = c.in_ok-new.field-0.height;
+      ended = false;
+      answered = None;
+      units = 0;
+      decisions = 0;
+      kept = record { bytes = c.new.result.items; mask = c.in_ok-new.field-0 };
+    }) c.new.ensures.items refl refl refl

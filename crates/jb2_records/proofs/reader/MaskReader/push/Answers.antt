@@ -1,7 +1,6 @@
-use Rattle.std.proofs.Common.{◌≡◌, ◌≤◌, ◌++◌, ℕ, List, [], false, refl, sym, ap, subst, ◌∙◌}
+use Rattle.std.proofs.Common.{◌++◌, ℕ, List, ap, subst, ◌∙◌}
 use Rattle.std.specs.Arc.{arc_value}
 use Rattle.jb2_records.specs.Reader.{Masking, Fed, inherited_of}
-use Rattle.jb2_records.specs.Holding.{IsHeld, IsDecoded}
 use Rattle.std.specs.Prelude.{OnOk, is_ok}
 use Rattle.jb2_records.proofs.Feeding.{held_pushed, fed_pushed}
 use Rattle.jb2_records.proofs.reader.MaskReader.push.Goals as goal

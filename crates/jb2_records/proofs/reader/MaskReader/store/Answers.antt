@@ -1,7 +1,7 @@
-use Rattle.std.proofs.Common.{◌≡◌, ◌≤◌, ℕ, List, [], false, refl, sym, ap, subst, ◌∙◌}
+use Rattle.std.proofs.Common.{sym, subst}
 use Rattle.std.specs.Arc.{arc_value}
-use Rattle.jb2_records.specs.Reader.{Masking, Fed, inherited_of}
-use Rattle.jb2_records.specs.Holding.{IsHeld, IsDecoded}
+use Rattle.jb2_records.specs.Reader.{Masking, inherited_of}
+use Rattle.jb2_records.specs.Holding.{IsDecoded}
 use Rattle.jb2_records.proofs.Feeding.{held_stored}
 use Rattle.jb2_records.proofs.reader.MaskReader.store.Goals as goal
 

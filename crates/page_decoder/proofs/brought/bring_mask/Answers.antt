@@ -39,3 +39,29 @@ returns-in-Finished-clause-ticks g c =
     let some : c.advance.new.self.decisions ≡ counted (records_of input).decisions = c.in-Finished.ensures.decisions bytes f.fed (λ h. cc) ∙ ap (λ i. counted (records_of i).decisions) same in
     reader_ticks c.advance.new.self.decisions reader.decisions (records_of input).decisions (g.M.Meter.count c.advance.new.meter) (g.M.Meter.count c.args.meter.now) f.decisions some c.advance.ensures.ticks
     ∙ ap (λ n. ticked n (g.M.Meter.count c.args.meter.now)) (sym (mask_counts input layers))
+
+pub returns-in-NeedBytes-clause-ticks : goal.returns-in-NeedBytes-clause-ticks
+returns-in-NeedBytes-clause-ticks g c =
+    let rows = arc_value c.args.table.now in
+    let bytes : List ℕ = c.args.bytes.now in
+    let layers : Layers = c.args.layers.now in
+    let reader = c.in_ok-reader.reader in
+    let f = c.in_ok-reader.ensures in
+    let input = mask_input rows bytes c.args.is_whole layers in
+    let same : input_of reader bytes ≡ input = input_same rows bytes c.args.is_whole layers reader f.table f.inherited f.width f.height f.end in
+    let some : c.advance.new.self.decisions ≡ counted (records_of input).decisions = c.in-NeedBytes.ensures.decisions bytes f.fed (λ h. cc) ∙ ap (λ i. counted (records_of i).decisions) same in
+    reader_ticks c.advance.new.self.decisions reader.decisions (records_of input).decisions (g.M.Meter.count c.advance.new.meter) (g.M.Meter.count c.args.meter.now) f.decisions some c.advance.ensures.ticks
+    ∙ ap (λ n. ticked n (g.M.Meter.count c.args.meter.now)) (sym (mask_counts input layers))
+
+pub returns-in-Refused-clause-ticks : goal.returns-in-Refused-clause-ticks
+returns-in-Refused-clause-ticks g c =
+    let rows = arc_value c.args.table.now in
+    let bytes : List ℕ = c.args.bytes.now in
+    let layers : Layers = c.args.layers.now in
+    let reader = c.in_ok-reader.reader in
+    let f = c.in_ok-reader.ensures in
+    let input = mask_input rows bytes c.args.is_whole layers in
+    let same : input_of reader bytes ≡ input = input_same rows bytes c.args.is_whole layers reader f.table f.inherited f.width f.height f.end in
+    let some : c.advance.new.self.decisions ≡ counted (records_of input).decisions = c.in-Refused.ensures.decisions bytes f.fed (λ h. cc) ∙ ap (λ i. counted (records_of i).decisions) same in
+    reader_ticks c.advance.new.self.decisions reader.decisions (records_of input).decisions (g.M.Meter.count c.advance.new.meter) (g.M.Meter.count c.args.meter.now) f.decisions some c.advance.ensures.ticks
+    ∙ ap (λ n. ticked n (g.M.Meter.count c.args.meter.now)) (sym (mask_counts input layers))

@@ -20,9 +20,9 @@ struct Chunk {
 }
 
 /// A mark of one pixel; the same in a wider image; a shape of the library and its refinement; then faults: no start, a
-/// second start, a dictionary that isn't there, and a shape whose pixels lie past the end. The first and the last two were
-/// worked out by hand.
-const SMALL: [Chunk; 7] = [
+/// second start, a dictionary that isn't there, a shape whose pixels lie past the end, one of 65,535 by 1,025, which are too
+/// many pixels, and one that is 65,536 wide. The first and the last four were worked out by hand.
+const SMALL: [Chunk; 9] = [
     Chunk {
         bytes: &[0xB7, 0x6D, 0x86, 0x87],
         answer: Jb2Step::Finished,
@@ -70,6 +70,20 @@ const SMALL: [Chunk; 7] = [
         answer: Jb2Step::Refused(FaultKind::ZpExhausted),
         units: 1,
         decisions: 208,
+        rows: &["."],
+    },
+    Chunk {
+        bytes: &[0xB7, 0x60, 0x00, 0x1F, 0xFF, 0xF0, 0x03, 0xFE, 0xFF, 0xFF],
+        answer: Jb2Step::Refused(FaultKind::Jb2Limit),
+        units: 1,
+        decisions: 65,
+        rows: &["."],
+    },
+    Chunk {
+        bytes: &[0xB7, 0x40, 0x00, 0x1F, 0xFF, 0xEF, 0xFF],
+        answer: Jb2Step::Refused(FaultKind::Jb2ShapeSize),
+        units: 1,
+        decisions: 45,
         rows: &["."],
     },
 ];

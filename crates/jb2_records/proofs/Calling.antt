@@ -7,6 +7,7 @@ use Rattle.zp_decoder.specs.declared.decoder.Decision.TheVariants as decision
 use Rattle.zp_decoder.specs.Decision.{Interval, Adaptive, Outcome, outcome_of}
 use Rattle.zp_decoder.specs.Decision as coding
 use Rattle.zp_decoder.specs.Decoder.{Decoder, Fed}
+use Rattle.zp_decoder.proofs.Standing.{is_fed}
 use Rattle.bit_plane.specs.Pixels.{Pixels}
 use Rattle.djvu_base.specs.declared.faults.FaultKind.TheVariants as fault
 use Rattle.jb2_numbers.specs.declared.roots.Root.{Root}
@@ -124,23 +125,24 @@ number_told root low high old new first last step result on is source at stands 
     subst (λ (r : Result ℤ Stop). Told (λ (n : ℤ). n) source (read_number source root low high at) r new) (sym is)
     (number_goes source root low high at step new (is_read source (wanted root low high) at old new first last step on stands))
 
--- what a decoder was fed
-fed_now : (zp : Decoder) → Fed zp.kept.bytes zp.kept.place zp
-unfolding Fed
-fed_now zp = (refl, refl)
-
 le_of : (a b : ℤ) → IsTrue (int_le a b) → a ≤ℤ b
 le_of a b h = search (arith, h)
+
+number_there : (root : Root) (low high : ℤ) (old new : Parts) (first last : Reader) (value : ℤ) → AreBounds low high → Reads_on (wanted root low high) old new first last (number.Number value) →
+    (payload : List ℕ) (place : Option Interval) → Fed payload place old.zp → (low ≤ℤ value) × (value ≤ℤ high)
+number_there root low high old new first last value bounds on payload place fed =
+    let source : Chunk = chunk old.zp.table payload old.zp.ended in
+    let first_stands : reading.Stands (wanted root low high) source old.count (begun (states_of old.numbers) place) first old.numbers old.zp old.count =
+    record { reads = on.reads; states = refl; fed = fed; table = refl; ended = refl; ticks = refl } in
+    let both = answer_within (wanted root low high) source (states_of old.numbers) place value bounds
+    (sym (on.answer (wanted root low high) source old.count (begun (states_of old.numbers) place) (λ memory. cc) first_stands)) in
+    (le_of low value both.0, le_of value high both.1)
 
 within_of : (root : Root) (low high : ℤ) (old new : Parts) (first last : Reader) (step : NumberStep) → AreBounds low high → Reads_on (wanted root low high) old new first last step →
     IfOk (result_of step) (λ (n : ℤ). (low ≤ℤ n) × (n ≤ℤ high))
 within_of root low high old new first last (number.Number value) bounds on =
-    let source : Chunk = chunk old.zp.table old.zp.kept.bytes old.zp.ended in
-    let first_stands : reading.Stands (wanted root low high) source old.count (begun (states_of old.numbers) old.zp.kept.place) first old.numbers old.zp old.count =
-    record { reads = on.reads; states = refl; fed = fed_now old.zp; table = refl; ended = refl; ticks = refl } in
-    let both = answer_within (wanted root low high) source (states_of old.numbers) old.zp.kept.place value bounds
-    (sym (on.answer (wanted root low high) source old.count (begun (states_of old.numbers) old.zp.kept.place) (λ memory. cc) first_stands)) in
-    (le_of low value both.0, le_of value high both.1)
+    let (payload, place, fed) = is_fed old.zp in
+    number_there root low high old new first last value bounds on payload place fed
 within_of root low high old new first last number.NeedBytes bounds on = tt
 within_of root low high old new first last number.Exhausted bounds on = tt
 within_of root low high old new first last number.OutOfMemory bounds on = tt

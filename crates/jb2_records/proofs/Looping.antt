@@ -3,6 +3,7 @@ use Rattle.std.proofs.Common.{◌≡◌, ◌≢◌, ◌<◌, ◌+◌, ℕ, zero,
 use Rattle.std.specs.Prelude.{Option}
 use Rattle.zp_decoder.specs.Decision.{Interval}
 use Rattle.zp_decoder.specs.Decoder.{Decoder, Fed, room_left}
+use Rattle.zp_decoder.proofs.Standing.{room_is}
 use Rattle.zp_decoder.specs.Runs.{room}
 use Rattle.djvu_base.specs.declared.faults.FaultKind.{FaultKind}
 use Rattle.jb2_records.specs.declared.reader.Jb2Step.{Jb2Step}
@@ -125,15 +126,11 @@ fault_all task parts new scene next_scene units kind all stopped shows =
     stop_on task new next_scene units all.fuel all.before all.at (Wrong kind) all.count all.enough all.goes stopped shows (λ same. cc)
 
 -- each record leaves less room
-room_of : (payload : List ℕ) (place : Option Interval) (zp : Decoder) → Fed payload place zp → room_left zp ≡ room payload place
-unfolding Fed room_left
-room_of payload place zp fed = ap (λ (b : List ℕ). room b zp.kept.place) fed.0 ∙ ap (λ (p : Option Interval). room payload p) fed.1
-
 pub less_room : (task : Task) (parts new : Parts) (scene next_scene : Scene) (units : ℕ) (is_last : Bool) (all : GoesAll task parts scene units) →
     Adds task all.before (read_record (input_for task) all.before all.at) is_last new next_scene → room_left new.zp < room_left parts.zp
 less_room task parts new scene next_scene units is_last all adds =
     let left = record_leaves (input_for task) all.before all.at adds.next adds.entry all.sound adds.got in
     let less : room task.chunk.payload adds.next.place < room task.chunk.payload all.at.place = left.1 in
-    let first : room_left parts.zp ≡ room task.chunk.payload all.at.place = room_of task.chunk.payload all.at.place parts.zp all.stands.fed in
-    let second : room_left new.zp ≡ room task.chunk.payload adds.next.place = room_of task.chunk.payload adds.next.place new.zp adds.stands.fed in
+    let first : room_left parts.zp ≡ room task.chunk.payload all.at.place = room_is task.chunk.payload all.at.place parts.zp all.stands.fed in
+    let second : room_left new.zp ≡ room task.chunk.payload adds.next.place = room_is task.chunk.payload adds.next.place new.zp adds.stands.fed in
     omega arith

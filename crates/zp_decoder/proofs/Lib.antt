@@ -3,3 +3,4 @@ pub mod Within
 pub mod Growing
 pub mod FlatLemmas
 pub mod Deciding
+pub mod Standing

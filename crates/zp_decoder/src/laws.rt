@@ -6,7 +6,7 @@ ghost use Rattle.zp_table.specs.Listing.{djvu_rows, flat_rows};
 ghost use Rattle.zp_decoder.specs.declared.decoder.Decision.TheVariants as decision;
 ghost use Rattle.zp_decoder.specs.Bits.{bit_at};
 ghost use Rattle.zp_decoder.specs.Decision.{Form, Adaptive, Pass, Iw, Interval, interval, start, interval_at, split_of, is_determined, outcome_of};
-ghost use Rattle.zp_decoder.specs.Decoder.{is_between, IsStanding};
+ghost use Rattle.zp_decoder.specs.Decoder.{Decoder, Fed, room_left, is_between, IsStanding};
 ghost use Rattle.zp_decoder.specs.Runs.{IsFormOf, AreFormsOf, outcomes, answers, bits_made, room, IsAligned};
 
 /// With the table `flat`, with `djvu`, and past the end, worked out from the definition.
@@ -83,4 +83,11 @@ pub fn decisions_end()
     ensures at_most { (rows : List Row) (payload : List ℕ) (ended : Bool) (place : Option Interval) (forms : List Form) → IsTable rows → AreFormsOf rows forms →
         IsStanding (length payload) place → bits_made rows payload ended place forms ≤ room payload place }
     ensures room { (payload : List ℕ) → room payload None ≡ 0x8000 * (8 * length payload + 177) }
+{}
+
+/// Each decoder was fed some payload, and what was decided led to some place. For each such payload and place, the room
+/// that is left for decisions is what they leave.
+pub fn decoders_are_fed()
+    ensures some { (decoder : Decoder) → (payload : List ℕ) × (place : Option Interval) × Fed payload place decoder }
+    ensures room { (payload : List ℕ) (place : Option Interval) (decoder : Decoder) → Fed payload place decoder → room_left decoder ≡ room payload place }
 {}

@@ -15,6 +15,6 @@ mod tests;
 
 pub use decoder::{Decision, ZpDecoder};
 pub use laws::{
-    decisions_end, decisions_stay_within, flat_inverts_bits, more_bytes_change_nothing,
-    worked_decisions,
+    decisions_end, decisions_stay_within, decoders_are_fed, flat_inverts_bits,
+    more_bytes_change_nothing, worked_decisions,
 };

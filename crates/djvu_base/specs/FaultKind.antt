@@ -1,4 +1,4 @@
--- The words of faults, in the order in which faults at one place are tried.
+-- The words of faults.
 use Rattle.std.specs.Prelude.{ℕ, List, codes}
 use Rattle.djvu_base.specs.declared.faults.FaultKind.{FaultKind}
 use Rattle.djvu_base.specs.declared.faults.FaultKind.TheVariants.{NotForm, TooLarge, Unsupported, WrongForm, NotIncludedForm, ShortHeader, BadId, Overrun, NoInfo, SecondInfo, Misplaced, SecondDictionary, SecondMask, SecondFront, BadInfo, BadIncludeName, MissingInclude, CyclicInclude, ZpExhausted, Jb2NoStart, Jb2SecondStart, Jb2Record, Jb2NoMatch, Jb2Dictionary, Jb2ShapeSize, Jb2Limit, MaskSize, IwHeader, IwSerial, IwVersion, LayerSize, Truncated, Read}

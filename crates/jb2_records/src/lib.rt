@@ -5,8 +5,9 @@
 //!
 //! `specs/` has the definitions: `Records` (records, and what a list of them comes to), `Coding` and `Reading` (how they are
 //! read), `Mask` (what they draw), `Reader` (how a reader stands to its bytes), `Growth` (what more bytes do), and `Worked`
-//! (small chunks). What only the code needs: `Telling` (how a coder stands to the reading), `Sides` and `Drawing` (how a
-//! scene stands to the records) and `Holding` (what a reader keeps to).
+//! (small chunks). What only the code needs: `Telling` (how a coder stands to the reading), `Sides` (shapes that can be placed,
+//! which the contract of `Dictionary` speaks of, too), `Drawing` (how a scene stands to the records) and `Holding` (what a
+//! reader keeps to).
 #![tactic(auto)]
 
 mod checks;

@@ -20,7 +20,7 @@ pub record IsSound {T : Type 0} (fits : ℕ → T → Type 0) (h : Hold T) : Typ
   pub once : IsOnce h
   pub claims_all : ClaimsAll h
 
--- a word that was read is not below what was known of the place
+-- a word that was read is at least 1 where the place was known as claimed, and at least 2 where it was known as open
 pub record Follows {T : Type 0} (word : ℕ) (k : Known T) : Type 0 where
   pub still_claimed : 1 ≤ k.word → 1 ≤ word
   pub still_open : 2 ≤ k.word → 2 ≤ word

@@ -4,7 +4,7 @@ use std::collections::LinkedList;
 
 /// What a seat knows of a place.
 pub struct Known<T> {
-    /// The word that it last saw or was told of: 0 free, 1 claimed, 2 open, 3 open while a seat has its turn.
+    /// The word that it last saw, or a greater one that it was told of: 0 free, 1 claimed, 2 open, 3 open while a seat has its turn.
     pub word: u64,
     /// The value that it put, read or was told of.
     pub value: Option<T>,

@@ -6,8 +6,9 @@
 //!
 //! Words and slots are a table of `atomic_table`. `rule` names the rule that every step keeps (`specs/Rule`), `steps`,
 //! `moves` and `looks` have the steps, and `board` and `joining` the calls. `specs/Holds` says what each call makes of a
-//! seat, `specs/Boards` what it answers, and `specs/Stated` the rule in plain words. `specs/Rows` and `specs/Gathered` are
-//! for the layers above.
+//! seat, `specs/Boards` what it answers, and `specs/Stated` the rule in plain words. `specs/Numbers` and `specs/Places` are
+//! how rights, claims and records are kept, `specs/Told` is what each step tells its seat, and `specs/Worked` has seats that are
+//! worked out. `specs/Rows` and `specs/Gathered` are for the layers above.
 #![tactic(auto)]
 
 mod answers;

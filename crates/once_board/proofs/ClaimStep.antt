@@ -161,6 +161,7 @@ module _ {T : Type 0} (fits : ℕ → T → Type 0) (owners : List Owner) where
           no_word = zero_unless (record_of v.hold.places p).word (λ h. absurd (let w = word h in omega arith));
           no_value = none_of (record_of v.hold.places p).value (λ x h. let t = k.true_value x h in cc);
           no_claim = omega arith;
+          no_put = (let o = k.put_claimed in omega arith);
         }
     won_new awaited ok none_yet = absurd (omega arith)
     won_new filling ok none_yet = absurd (omega arith)

@@ -1,5 +1,5 @@
 -- A step at one place keeps all that concerns the others, and what the rule says of a seat by itself.
-use Rattle.std.proofs.Common.{◌≡◌, ◌≢◌, ℕ, suc, ◌+◌, ◌<◌, ◌≤◌, ◌==◌, ⊎_elim, eq-eqb, ne_eqb, if◌then◌else◌, List, length, set, sym, refl, ap, subst, ◌∙◌, arith, Option, Some}
+use Rattle.std.proofs.Common.{◌≡◌, ◌≢◌, ℕ, zero, suc, ◌+◌, ◌<◌, ◌≤◌, ◌==◌, ⊎_elim, eq-eqb, ne_eqb, if◌then◌else◌, List, length, set, sym, refl, ap, subst, ◌∙◌, arith, Option, Some}
 use Rattle.std.proofs.lemmas.List.{get_or-set_same, get_or-set_other}
 use lib.ListN.{get_elem?, length-set}
 use mathlib.Core.Option.{some}
@@ -11,8 +11,11 @@ use Rattle.atomic_table.proofs.Lists.{at_set}
 use Rattle.once_board.specs.declared.holds.Seen.{Seen}
 use Rattle.once_board.specs.declared.owners.Owner.{Owner}
 use Rattle.once_board.specs.Numbers.{times}
+use Rattle.once_board.specs.Places.{record_of}
+use Rattle.once_board.specs.Holds.{AwaitsPuts}
 use Rattle.once_board.specs.Rule.{Content, vacant, awaited, filling, ready, lent, total, word_of, value_of, claim_count, put_count, fill_count, turn_count, one_if_some, IsHome, at, Knows, PlaceOk, SeatOk, Rule}
 use Rattle.once_board.specs.Told.{IsSound}
+use Rattle.once_board.proofs.Changes.{none_of}
 use Rattle.once_board.proofs.Sums.{total_set, total_same, total_one, total_two, total_alone}
 
 abbrev pub Table : Type 0 → Type 0
@@ -31,6 +34,18 @@ one_claim awaited = omega arith
 one_claim filling = omega arith
 one_claim (ready x) = omega arith
 one_claim (lent x) = omega arith
+
+-- a place that has a value was put and claimed once
+put_known : {T : Type 0} (c : Content T) (x : T) → value_of c ≡ Some x → (put_count c ≡ 1) × (claim_count c ≡ 1)
+put_known vacant x is = absurd (cc)
+put_known awaited x is = absurd (cc)
+put_known filling x is = absurd (cc)
+put_known (ready y) x is = (refl, refl)
+put_known (lent y) x is = (refl, refl)
+
+pub part_of : (parts claims : ℕ) → (parts ≡ 0 → claims ≡ 0) → 1 ≤ claims → 1 ≤ parts
+part_of zero claims none h = absurd (let z = none refl in omega arith)
+part_of (suc n) claims none h = omega arith
 
 home_same : {T : Type 0} (hs gs : List (maybe.Option (Option T))) (q : ℕ) (c : Content T) → get_elem? hs q ≡ get_elem? gs q → IsHome gs q c → IsHome hs q c
 home_same hs gs q vacant e h = e ∙ h
@@ -52,6 +67,22 @@ module _ {T : Type 0} (fits : ℕ → T → Type 0) (owners : List Owner) where
     pub place_of : (q : ℕ) → PlaceOk fits owners s q (r.contents q)
     place_of q = r.place_each q
 
+    -- the one claimer of a place that is open has its put
+    unput_unknown : (id : ℕ) (v : Seen T) → get_elem? s.views id ≡ some v → AwaitsPuts v.hold
+    unput_unknown id v e p claim unput = none_of (record_of v.hold.places p).value (λ x known.
+        let ok = r.place_each p in
+        let one = put_known (r.contents p) x ((ok.knowers id v e).true_value x known) in
+        let puts = ok.put_by in
+        let claims = ok.claimed_by in
+        let alone : total (λ (u : Seen T). (at p u).puts) s.views ≡ times p v.hold.puts =
+        total_alone (λ (u : Seen T). (at p u).puts) s.views id v e (λ j w n d.
+        let two : times p v.hold.claims + times p w.hold.claims ≤ total (λ (u : Seen T). (at p u).claims) s.views = total_two (λ (u : Seen T). (at p u).claims) s.views id j v w n e d in
+        let few : times p w.hold.puts ≤ times p w.hold.claims = (ok.knowers j w d).put_claimed in
+        let single = one.1 in
+        omega arith) in
+        let there = one.0 in
+        omega arith)
+
     pub sound_of : (id : ℕ) (v : Seen T) → get_elem? s.views id ≡ some v → IsSound fits v.hold
     sound_of id v e = record {
       lawful = λ p x k. ((r.place_each p).knowers id v e).open_value x k;
@@ -60,6 +91,11 @@ module _ {T : Type 0} (fits : ℕ → T → Type 0) (owners : List Owner) where
       once = λ p. (
         (let one = total_one (λ (u : Seen T). (at p u).claims) s.views id v e in let is = (r.place_each p).claimed_by in let few = one_claim (r.contents p) in omega arith),
         ((r.place_each p).knowers id v e).put_claimed,
+      );
+      awaits_puts = λ p claim unput. unput_unknown id v e p claim unput;
+      shows_claims = λ p claim. (
+        ((r.place_each p).knowers id v e).shown claim,
+        part_of v.hold.parts (times p v.hold.claims) (λ none. (r.seat_each id v e).claims_need_a_part none p) claim,
       );
       claims_all = λ all p h.
           let c : Content T = r.contents p in

@@ -1,5 +1,5 @@
 -- A seat is split off: with a right or none, or with all rights and what is known.
-use Rattle.std.proofs.Common.{◌≡◌, ℕ, ◌+◌, ◌-◌, ◌≤◌, nat_le, List, [], ◌∷◌, ◌++◌, set, map, sym, refl, ap, subst, ◌∙◌, arith, Bool, true, false, Option, Some, None}
+use Rattle.std.proofs.Common.{◌≡◌, ℕ, zero, suc, ◌+◌, ◌-◌, ◌≤◌, nat_le, List, [], ◌∷◌, ◌++◌, set, map, sym, refl, ap, subst, ◌∙◌, arith, Bool, true, false, Option, Some, None}
 use lib.ListN.{get_elem?}
 use mathlib.Core.Option.{some}
 use native.Mathlib.Decide.{ℕ_discrete}
@@ -34,6 +34,10 @@ part_cases n false e = grind (arith, nat_tests)
 
 pub part_facts : (n : ℕ) → (part_given n ≤ n) × (n - part_given n ≡ 0 → n ≡ 0) × (part_given n ≤ 1)
 part_facts n = part_cases n (nat_le 2 n) refl
+
+nonzero : (n : ℕ) → (n ≡ 0 → ⊥) → 1 ≤ n
+nonzero zero h = absurd (h refl)
+nonzero (suc n) h = omega arith
 
 module _ {T : Type 0} (fits : ℕ → T → Type 0) (owners : List Owner) where
   -- any cut that leaves the claims where they are: these rights and parts stay, and those go
@@ -110,6 +114,8 @@ module _ {T : Type 0} (fits : ℕ → T → Type 0) (owners : List Owner) where
     may_stand = sound.may_stand;
     has_parts = let most = sound.has_parts in omega arith;
     once = sound.once;
+    awaits_puts = sound.awaits_puts;
+    shows_claims = λ p claim. let old = sound.shows_claims p claim in let parts = part_facts h.parts in (old.0, nonzero (h.parts - part_given h.parts) (λ none. let z = parts.1 none in let o = old.1 in omega arith));
     claims_all = λ all. sound.claims_all (let most = sound.has_parts in let parts = part_facts h.parts in omega arith);
   }
 
@@ -119,5 +125,7 @@ module _ {T : Type 0} (fits : ℕ → T → Type 0) (owners : List Owner) where
     may_stand = λ p x is. let k = record_of-unread h.places p in sound.may_stand p x (ap (λ z. z.value) (sym k) ∙ is);
     has_parts = let parts = part_facts h.parts in let n = parts_are in omega arith;
     once = λ p. (omega arith, omega arith);
+    awaits_puts = λ p claim unput. absurd (omega arith);
+    shows_claims = λ p claim. absurd (omega arith);
     claims_all = λ all. absurd (let parts = part_facts h.parts in let n = parts_are in omega arith);
   }

@@ -75,6 +75,8 @@ module _ {T : Type 0} (fits : ℕ → T → Type 0) (owners : List Owner) where
     may_stand = λ p x h. absurd (cc);
     has_parts = omega arith;
     once = λ p. (omega arith, omega arith);
+    awaits_puts = λ p claim unput. refl;
+    shows_claims = λ p claim. absurd (omega arith);
     claims_all = λ all p h. absurd (omega arith);
   }
 

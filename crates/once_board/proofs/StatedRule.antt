@@ -1,5 +1,5 @@
 -- The rule that each step keeps gives the rule in plain words.
-use Rattle.std.proofs.Common.{◌≡◌, ◌≢◌, ℕ, zero, suc, ◌<◌, ◌≤◌, List, length, sym, refl, ◌∙◌, arith, Some}
+use Rattle.std.proofs.Common.{◌≡◌, ◌≢◌, ℕ, suc, ◌<◌, ◌≤◌, List, length, sym, refl, ◌∙◌, arith, Some}
 use mathlib.Core.Option.{some}
 use lib.ListN.{get_elem?}
 use Rattle.once_board.specs.declared.owners.Owner.{Owner}
@@ -10,7 +10,7 @@ use Rattle.once_board.specs.Stated.{place_word, claims_of, turns_of, NoneKnows, 
 use Rattle.once_board.proofs.Sums.{parts_are}
 use Rattle.once_board.proofs.Changes.{none_of}
 use Rattle.once_board.proofs.ClaimStep.{small_word}
-use Rattle.once_board.proofs.Keeps.{Table, claim_known}
+use Rattle.once_board.proofs.Keeps.{Table, claim_known, part_of}
 
 module _ {T : Type 0} (fits : ℕ → T → Type 0) (owners : List Owner) (s : Table T) (r : Rule fits owners s) where
   none_with : (p : ℕ) (c : Content T) → PlaceOk fits owners s p c → ((x : T) → Rattle.once_board.specs.Rule.value_of c ≡ Some x → ⊥) → NoneKnows s p
@@ -53,10 +53,6 @@ module _ {T : Type 0} (fits : ℕ → T → Type 0) (owners : List Owner) (s : T
 
   word_at : (p : ℕ) → place_word s p ≡ word_of (r.contents p)
   word_at p = (r.place_each p).word
-
-  part_of : (parts claims : ℕ) → (parts ≡ 0 → claims ≡ 0) → 1 ≤ claims → 1 ≤ parts
-  part_of zero claims none h = absurd (let z = none refl in omega arith)
-  part_of (suc n) claims none h = omega arith
 
   one_claim_of : (p : ℕ) → place_word s p ≢ 0 → claims_of s p ≡ 1
   one_claim_of p busy =

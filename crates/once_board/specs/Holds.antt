@@ -1,5 +1,5 @@
 -- What a seat holds and knows, and what each call makes of it.
-use Rattle.std.specs.Prelude.{◌≡◌, ℕ, ◌+◌, ◌-◌, ◌≤◌, ◌⊎◌, List, [], ◌∷◌, ◌++◌, map, Option, Some}
+use Rattle.std.specs.Prelude.{◌≡◌, ℕ, ◌+◌, ◌-◌, ◌≤◌, ◌⊎◌, List, [], ◌∷◌, ◌++◌, map, Option, Some, None}
 use Rattle.once_board.specs.declared.holds.Hold.{Hold}
 use Rattle.once_board.specs.declared.owners.Owner.{Owner}
 use Rattle.once_board.specs.Numbers.{times, given, kept, every_right, all_parts, part_given}
@@ -88,6 +88,14 @@ module _ {T : Type 0} where
   -- no place is claimed twice, and none is put twice
   abbrev pub IsOnce : Hold T → Type 0
   IsOnce h = (place : ℕ) → (times place h.claims ≤ 1) × (times place h.puts ≤ times place h.claims)
+
+  -- no value is known of a place that is among the claims and not among the puts
+  abbrev pub AwaitsPuts : Hold T → Type 0
+  AwaitsPuts h = (place : ℕ) → 1 ≤ times place h.claims → times place h.puts ≡ 0 → (record_of h.places place).value ≡ None
+
+  -- who claimed a place knows it as claimed or open, and has a part
+  abbrev pub ShowsClaims : Hold T → Type 0
+  ShowsClaims h = (place : ℕ) → 1 ≤ times place h.claims → (1 ≤ (record_of h.places place).word) × (1 ≤ h.parts)
 
   -- with all parts, a place that is known as claimed or open is among the claims
   abbrev pub ClaimsAll : Hold T → Type 0

@@ -10,7 +10,7 @@ use Rattle.once_board.specs.declared.owners.Owner.{Owner}
 use Rattle.once_board.specs.Numbers.{times}
 use Rattle.once_board.specs.Places.{IsFree, record_of}
 use Rattle.once_board.specs.Rule.{IsMet}
-use Rattle.once_board.specs.Holds.{ClaimsAll, Extends, FitsAll, HasParts, IsLawful, IsOnce, OwnsAll, joined, learned, nothing, put_at, regained, saw, silent, split_kept, split_off, voice, won}
+use Rattle.once_board.specs.Holds.{AwaitsPuts, ClaimsAll, Extends, FitsAll, HasParts, IsLawful, IsOnce, OwnsAll, ShowsClaims, joined, learned, nothing, put_at, regained, saw, silent, split_kept, split_off, voice, won}
 
 -- what holds of each seat at every moment
 pub record IsSound {T : Type 0} (fits : ℕ → T → Type 0) (h : Hold T) : Type 0 where
@@ -18,6 +18,8 @@ pub record IsSound {T : Type 0} (fits : ℕ → T → Type 0) (h : Hold T) : Typ
   pub may_stand : FitsAll fits h
   pub has_parts : HasParts h
   pub once : IsOnce h
+  pub awaits_puts : AwaitsPuts h
+  pub shows_claims : ShowsClaims h
   pub claims_all : ClaimsAll h
 
 -- a word that was read is at least 1 where the place was known as claimed, and at least 2 where it was known as open
@@ -26,11 +28,12 @@ pub record Follows {T : Type 0} (word : ℕ) (k : Known T) : Type 0 where
   pub still_open : 2 ≤ k.word → 2 ≤ word
   pub open_value : (x : T) → k.value ≡ Some x → 2 ≤ word
 
--- nothing was known of a place, and it wasn't claimed
+-- nothing was known of a place, and it was neither claimed nor put
 pub record WasNew {T : Type 0} (place : ℕ) (h : Hold T) : Type 0 where
   pub no_word : (record_of h.places place).word ≡ 0
   pub no_value : (record_of h.places place).value ≡ None
   pub no_claim : times place h.claims ≡ 0
+  pub no_put : times place h.puts ≡ 0
 
 -- a seat of the table: what it has seen, and the slots that it has taken
 abbrev pub Seated : Type 0 → Type 0

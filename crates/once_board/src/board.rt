@@ -1,5 +1,5 @@
 //! The board: how it is made, claimed, filled and ended.
-ghost use Rattle.std.specs.Prelude.{◌≡◌, ℕ, ◌^◌, ◌≤◌, ◌<◌, length, replicate, None, IfOk};
+ghost use Rattle.std.specs.Prelude.{◌≡◌, ℕ, ◌^◌, ◌≤◌, ◌<◌, length, replicate, IfOk};
 ghost use Rattle.once_board.specs.declared.answers.Claiming.TheVariants.{Won};
 ghost use Rattle.once_board.specs.Numbers.{times};
 ghost use Rattle.once_board.specs.Places.{IsPrivate, record_of, opened};
@@ -85,7 +85,7 @@ impl<T: Share> Board<T> {
         requires board { seat.old.board ≡ self.now.board }
         requires place { place < length self.now.owners }
         requires won { 1 ≤ times place seat.old.hold.claims }
-        requires unfilled { (record_of seat.old.hold.places place).value ≡ None }
+        requires unfilled { times place seat.old.hold.puts ≡ 0 }
         requires fits { T.fits place value }
         ensures board { seat.new.board ≡ seat.old.board }
         ensures put { seat.new.hold ≡ put_at place value seat.old.hold }

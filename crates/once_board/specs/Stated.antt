@@ -33,15 +33,17 @@ module _ {T : Type 0} (s : State (Option T) (Seen T)) where
   turns_of place = total (λ v. one_if_some (turn_of place v.stage)) s.views
 
 pub record Stated {T : Type 0} (fits : ℕ → T → Type 0) (owners : List Owner) (s : State (Option T) (Seen T)) : Type 0 where
-  -- a place with the word 0 is in no seat's claims and has no value
+  -- a place with the word 0 is in no seat's claims and has no value: no record has one, and its slot is empty
   pub free : (place : ℕ) → place_word s place ≡ 0 → (claims_of s place ≡ 0) × NoneKnows s place
+  pub empty : (place : ℕ) → place < length s.homes → place_word s place ≡ 0 → get_elem? s.homes place ≡ some (some None)
   -- a place with the word 1 is in the claims of one seat, and no record has its value
   pub claimed : (place : ℕ) → place_word s place ≡ 1 → (claims_of s place ≡ 1) × NoneKnows s place
   -- a place with the word 2 or 3 has a value, which fits and is that of every record of it
   pub has_value : (place : ℕ) → 2 ≤ place_word s place → (x : T) × fits place x × AllAgree s place x
-  -- with the word 2 the value is at home; with 3 one seat has the turn
-  pub at_home : (place : ℕ) → place < length s.homes → place_word s place ≡ 2 → (x : T) × (get_elem? s.homes place ≡ some (some (Some x))) × AllAgree s place x
+  -- with the word 2 the value is at home; with 3 one seat has the turn, and the value is with it
+  pub at_home : (place : ℕ) → place < length s.homes → place_word s place ≡ 2 → (x : T) × (get_elem? s.homes place ≡ some (some (Some x))) × fits place x × AllAgree s place x
   pub one_turn : (place : ℕ) → place_word s place ≡ 3 → turns_of s place ≡ 1
+  pub in_hand : (place seat : ℕ) (v : Seen T) (x : T) → IsSeat s seat v → turn_of place v.stage ≡ Some x → (place_word s place ≡ 3) × fits place x × AllAgree s place x
   pub no_other_word : (place : ℕ) → place_word s place < 4
   -- each right is in one seat
   pub one_seat : (right : ℕ) → right < 4_294_967_296 → total (λ v. times right v.hold.rights) s.views ≡ 1

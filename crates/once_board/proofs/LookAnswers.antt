@@ -6,6 +6,7 @@ use Rattle.once_board.specs.declared.holds.Known.{Known}
 use Rattle.once_board.specs.declared.holds.Hold.{Hold}
 use Rattle.once_board.specs.declared.holds.Stage.TheVariants.{Turn}
 use Rattle.once_board.specs.declared.owners.Owner.{Owner}
+use Rattle.once_board.specs.declared.answers.Looking.{Looking}
 use Rattle.once_board.specs.declared.answers.Looking.TheVariants.{Value, NotYet, Busy, OutOfMemory}
 use Rattle.once_board.specs.Boards.{Looks}
 use Rattle.once_board.specs.Places.{record_of, noted, read, opened}
@@ -14,6 +15,17 @@ use Rattle.once_board.specs.Told.{Seated, Looked}
 use Rattle.once_board.proofs.Records.{noted_here, noted_else, noted_twice, extends_at}
 use Rattle.once_board.proofs.Changes.{none_of}
 use Rattle.once_board.proofs.LookStep.{same_turn}
+
+module _ {T : Type 0} where
+  -- no answer of a look moves what the seat holds
+  abbrev pub Held : Hold T → Hold T → Type 0
+  Held h after = (after.rights ≡ h.rights) × (after.parts ≡ h.parts) × (after.claims ≡ h.claims) × (after.puts ≡ h.puts)
+
+  pub same_held : (fits : ℕ → T → Type 0) (p : ℕ) (h after : Hold T) (answer : Looking T) → Looks fits p h after answer → Held h after
+  same_held fits p h after (Value x) told = (ap (λ (s : Hold T). s.rights) told.0, ap (λ (s : Hold T). s.parts) told.0, ap (λ (s : Hold T). s.claims) told.0, ap (λ (s : Hold T). s.puts) told.0)
+  same_held fits p h after (NotYet word) told = (ap (λ (s : Hold T). s.rights) told.0, ap (λ (s : Hold T). s.parts) told.0, ap (λ (s : Hold T). s.claims) told.0, ap (λ (s : Hold T). s.puts) told.0)
+  same_held fits p h after (Busy word) told = (ap (λ (s : Hold T). s.rights) told.0, ap (λ (s : Hold T). s.parts) told.0, ap (λ (s : Hold T). s.claims) told.0, ap (λ (s : Hold T). s.puts) told.0)
+  same_held fits p h after OutOfMemory told = (ap (λ (s : Hold T). s.rights) told.0, ap (λ (s : Hold T). s.parts) told.0, ap (λ (s : Hold T). s.claims) told.0, ap (λ (s : Hold T). s.puts) told.0)
 
 module _ {T : Type 0} (fits : ℕ → T → Type 0) (owners : List Owner) where
   -- what the board answers

@@ -10,7 +10,7 @@ pub enum Claiming {
 }
 
 /// What a look answers.
-#[derive(Debug)]
+#[derive(Debug, Drop)]
 pub enum Looking<T> {
     /// The place's value. The word that was read was 2.
     Value(T),

@@ -68,6 +68,7 @@ impl<T: Share> Board<T> {
         requires may { MayClaim self.now.owners place seat.old.hold }
         ensures board { seat.new.board ≡ seat.old.board }
         ensures answer { Claims self.now.owners place seat.old.hold seat.new.hold result }
+        ensures held { (seat.new.hold.rights ≡ seat.old.hold.rights) × (seat.new.hold.parts ≡ seat.old.hold.parts) × (seat.new.hold.puts ≡ seat.old.hold.puts) }
         ensures extends { Extends seat.old.hold seat.new.hold }
         ensures private { (right : ℕ) → IsPrivate self.now.owners place right → result ≡ Won }
         ensures sound { IsSound T.fits seat.new.hold }
@@ -102,6 +103,7 @@ impl<T: Share> Board<T> {
         requires place { place < length self.now.owners }
         ensures board { seat.new.board ≡ seat.old.board }
         ensures answer { Looks T.fits place seat.old.hold seat.new.hold result }
+        ensures held { (seat.new.hold.rights ≡ seat.old.hold.rights) × (seat.new.hold.parts ≡ seat.old.hold.parts) × (seat.new.hold.claims ≡ seat.old.hold.claims) × (seat.new.hold.puts ≡ seat.old.hold.puts) }
         ensures extends { Extends seat.old.hold seat.new.hold }
         ensures owns { OwnsAll self.now.owners seat.old.hold seat.new.hold }
         ensures sound { IsSound T.fits seat.new.hold }

@@ -37,6 +37,7 @@ impl<T: Share> Board<T> {
         ensures put_once { (place : ℕ) → times place seat.old.hold.puts + times place other.hold.puts ≤ 1 }
         ensures rights { (right : ℕ) → times right seat.new.hold.rights ≡ times right seat.old.hold.rights + times right other.hold.rights }
         ensures claims { (place : ℕ) → times place seat.new.hold.claims ≡ times place seat.old.hold.claims + times place other.hold.claims }
+        ensures puts { (place : ℕ) → times place seat.new.hold.puts ≡ times place seat.old.hold.puts + times place other.hold.puts }
         ensures extends { Extends seat.old.hold seat.new.hold × Extends other.hold seat.new.hold }
         ensures owns { OwnsAll self.now.owners seat.old.hold seat.new.hold × OwnsAll self.now.owners other.hold seat.new.hold }
         ensures sound { IsSound T.fits seat.new.hold }

@@ -23,21 +23,21 @@ returns-clause-claims g c = λ place.
     ∙ (times-append place c.seat.inside.seat.me.0.hold.claims c.other.inside.seat.me.0.hold.claims
     ∙ (λ i. times place (c.seat.view_is i).hold.claims + times place (c.other.view_is i).hold.claims))
 
+pub returns-clause-puts : goal.returns-clause-puts
+returns-clause-puts g c = λ place.
+    ap (λ m. times place m.0.hold.puts) c.join_seats.ensures.joined
+    ∙ (times-append place c.seat.inside.seat.me.0.hold.puts c.other.inside.seat.me.0.hold.puts
+    ∙ (λ i. times place (c.seat.view_is i).hold.puts + times place (c.other.view_is i).hold.puts))
+
 pub returns-clause-apart : goal.returns-clause-apart
 returns-clause-apart g c = λ place.
     let one : times place c.join_seats.new.seat.me.0.hold.claims ≤ 1 = (c.join_seats.ensures.sound.once place).0 in
-    let sum : times place c.join_seats.new.seat.me.0.hold.claims ≡ times place c.args.seat.now.hold.claims + times place c.args.other.hold.claims =
-    ap (λ m. times place m.0.hold.claims) c.join_seats.ensures.joined
-    ∙ (times-append place c.seat.inside.seat.me.0.hold.claims c.other.inside.seat.me.0.hold.claims
-    ∙ (λ i. times place (c.seat.view_is i).hold.claims + times place (c.other.view_is i).hold.claims)) in
+    let sum : times place c.join_seats.new.seat.me.0.hold.claims ≡ times place c.args.seat.now.hold.claims + times place c.args.other.hold.claims = returns-clause-claims g c place in
     omega arith
 
 pub returns-clause-put_once : goal.returns-clause-put_once
 returns-clause-put_once g c = λ place.
     let one : times place c.join_seats.new.seat.me.0.hold.claims ≤ 1 = (c.join_seats.ensures.sound.once place).0 in
     let few : times place c.join_seats.new.seat.me.0.hold.puts ≤ times place c.join_seats.new.seat.me.0.hold.claims = (c.join_seats.ensures.sound.once place).1 in
-    let sum : times place c.join_seats.new.seat.me.0.hold.puts ≡ times place c.args.seat.now.hold.puts + times place c.args.other.hold.puts =
-    ap (λ m. times place m.0.hold.puts) c.join_seats.ensures.joined
-    ∙ (times-append place c.seat.inside.seat.me.0.hold.puts c.other.inside.seat.me.0.hold.puts
-    ∙ (λ i. times place (c.seat.view_is i).hold.puts + times place (c.other.view_is i).hold.puts)) in
+    let sum : times place c.join_seats.new.seat.me.0.hold.puts ≡ times place c.args.seat.now.hold.puts + times place c.args.other.hold.puts = returns-clause-puts g c place in
     omega arith

@@ -1,6 +1,7 @@
 use Rattle.std.proofs.Common.{◌≡◌, ℕ, ◌<◌, ◌≤◌, ◌≢◌, arith, ap, subst, sym}
+use Rattle.once_board.specs.declared.answers.Looking.TheVariants.{NotYet, Busy}
 use Rattle.once_board.specs.Boards.{Looks}
-use Rattle.once_board.proofs.LookAnswers.{answers_not_yet, answers_busy, value_answer, value_grows, value_owned, refused_answer, refused_grows, refused_owned}
+use Rattle.once_board.proofs.LookAnswers.{answers_not_yet, answers_busy, value_answer, value_grows, value_owned, refused_answer, refused_grows, refused_owned, same_held}
 use Rattle.once_board.proofs.board.Board.look.Goals as goal
 use Rattle.once_board.proofs.board.Board.look.Goals.{in-Ok, in-Err}
 
@@ -48,3 +49,14 @@ returns-clause-owns g c =
       | in-Ok w ↦ value_owned _ _ _ _ _ _ _ _ _ owned same told two w.in-Ok.value w.in-Ok.ensures.copy.0 (ap (λ m. m.0.hold) w.in-Ok.ensures.copy.1)
       | in-Err w ↦ refused_owned _ _ _ _ _ _ _ _ _ owned same told two (ap (λ m. m.0.hold) w.in-Err.ensures.refused)
     ]
+
+pub returns-then-word-lt2-clause-held : goal.returns-then-word-lt2-clause-held
+returns-then-word-lt2-clause-held g c =
+    same_held g.T.Share.fits c.args.place c.args.seat.now.hold c.take_turn-word.new.seat.me.0.hold (NotYet c.take_turn-word.result) (returns-then-word-lt2-clause-answer g c)
+
+pub returns-then-word-eq3-clause-held : goal.returns-then-word-eq3-clause-held
+returns-then-word-eq3-clause-held g c =
+    same_held g.T.Share.fits c.args.place c.args.seat.now.hold c.take_turn-word.new.seat.me.0.hold (Busy c.take_turn-word.result) (returns-then-word-eq3-clause-answer g c)
+
+pub returns-clause-held : goal.returns-clause-held
+returns-clause-held g c = same_held g.T.Share.fits c.args.place c.args.seat.now.hold c.share_value.new.seat.me.0.hold _ (returns-clause-answer g c)

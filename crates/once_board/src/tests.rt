@@ -8,6 +8,7 @@ use std::alloc::{AllocError, Global};
 use std::marker::Brand;
 use std::test::Fail;
 
+mod claims;
 mod threads;
 
 /// A value whose share is always refused.
@@ -61,15 +62,17 @@ fn is_not_yet<T: Drop>(looking: Looking<T>, wanted: u64) -> bool {
 #[test]
 fn places_are_claimed_filled_and_read(rt: HostRuntime) -> Result<(), Fail> {
     let (board, mut first) = Board::<u64>::new(rt.alloc(), two_owners(rt.alloc())?)?;
-    let mut second = board.split(&mut first, None);
-    assert!(rt; is_not_yet(board.look(&mut second, 0), 0));
-    assert_eq!(rt; board.claim(&mut first, 0), Claiming::Won);
-    assert!(rt; is_not_yet(board.look(&mut second, 0), 1));
-    board.put(&mut first, 0, 50);
-    assert!(rt; has_value(board.look(&mut second, 0), 50));
-    assert_eq!(rt; board.claim(&mut first, 1), Claiming::Won);
-    assert_eq!(rt; board.claim(&mut second, 1), Claiming::Taken(1));
+    let mut second = board.split(&mut first, Some(0));
+    let mut third = board.split(&mut first, None);
+    assert!(rt; is_not_yet(board.look(&mut third, 0), 0));
+    assert_eq!(rt; board.claim(&mut second, 0), Claiming::Won);
+    assert!(rt; is_not_yet(board.look(&mut third, 0), 1));
+    board.put(&mut second, 0, 50);
+    assert!(rt; has_value(board.look(&mut third, 0), 50));
+    assert_eq!(rt; board.claim(&mut second, 1), Claiming::Won);
+    assert_eq!(rt; board.claim(&mut third, 1), Claiming::Taken(1));
     board.join(&mut first, second);
+    board.join(&mut first, third);
     board.close(first);
     Ok(())
 }

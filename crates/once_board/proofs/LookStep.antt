@@ -28,7 +28,7 @@ module _ {T : Type 0} (fits : ℕ → T → Type 0) (owners : List Owner) where
     knew : Knows owners p (word_of (r.contents p)) (value_of (r.contents p)) (at p v)
     knew = (r.place_each p).knowers id v e
 
-    -- of a place that is private to a right of the seat, the reading tells nothing new
+    -- that a place which is private to a right of the seat is claimed was known before the reading
     pub owns_read : OwnsAll owners v.hold (saw p (get_or s.words (suc p) 0) v.hold)
     owns_read q right private mine h =
         let n : ℕ = get_or s.words (suc p) 0 in

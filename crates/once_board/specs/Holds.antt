@@ -69,7 +69,7 @@ module _ {T : Type 0} where
   abbrev pub Extends : Hold T → Hold T → Type 0
   Extends before after = (place : ℕ) → Grows (record_of before.places place) (record_of after.places place)
 
-  -- a place that is private to a right of the first is known as claimed or open to the second only where the first knew it
+  -- a place that is private to a right of the first is known as claimed or open to the second only where it was to the first
   abbrev pub OwnsAll : List Owner → Hold T → Hold T → Type 0
   OwnsAll owners h after = (place right : ℕ) → IsPrivate owners place right → 1 ≤ times right h.rights → 1 ≤ (record_of after.places place).word → 1 ≤ (record_of h.places place).word
 

@@ -8,9 +8,9 @@ pub struct Known<T> {
     pub word: u64,
     /// The value that it put, read or was told of.
     pub value: Option<T>,
-    /// How many of its steps read the place's word.
+    /// How many exchanges of its looks, won or lost, and lost exchanges of its claims there were at the place.
     pub readings: u64,
-    /// The word that the last of these steps read.
+    /// The word that the last of these read.
     pub last: u64,
 }
 

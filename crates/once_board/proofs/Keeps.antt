@@ -88,6 +88,7 @@ module _ {T : Type 0} (fits : ℕ → T → Type 0) (owners : List Owner) where
       lawful = λ p x k. ((r.place_each p).knowers id v e).open_value x k;
       may_stand = λ p x k. (r.place_each p).may_stand x (((r.place_each p).knowers id v e).true_value x k);
       has_parts = let one = total_one (λ (u : Seen T). u.hold.parts) s.views id v e in let sum = r.all_the_parts in omega arith;
+      rights_once = λ right. let one = total_one (λ (u : Seen T). times right u.hold.rights) s.views id v e in let most = r.right_once right in omega arith;
       once = λ p. (
         (let one = total_one (λ (u : Seen T). (at p u).claims) s.views id v e in let is = (r.place_each p).claimed_by in let few = one_claim (r.contents p) in omega arith),
         ((r.place_each p).knowers id v e).put_claimed,

@@ -14,7 +14,7 @@ use Rattle.once_board.specs.Places.{record_of, unread}
 use Rattle.once_board.specs.Holds.{split_kept, split_off}
 use Rattle.once_board.specs.Rule.{fills, turn_of, one_if_some, at, Knows, Rule}
 use Rattle.once_board.specs.Told.{IsSound, idle, cut_kept, cut_off, silent_kept, voice_off}
-use Rattle.once_board.proofs.Sums.{times-without, times-without_other, times_else, times_here, parts_are}
+use Rattle.once_board.proofs.Sums.{times-without, times-without_other, times-without_few, times_single, times_else, times_here, parts_are}
 use Rattle.once_board.proofs.Records.{record_of-unread}
 use Rattle.once_board.proofs.Changes.{at_same}
 use Rattle.once_board.proofs.Keeps.{Table}
@@ -34,6 +34,14 @@ part_cases n false e = grind (arith, nat_tests)
 
 pub part_facts : (n : ℕ) → (part_given n ≤ n) × (n - part_given n ≡ 0 → n ≡ 0) × (part_given n ≤ 1)
 part_facts n = part_cases n (nat_le 2 n) refl
+
+kept_few : (right : Option ℕ) (rights : List ℕ) (x : ℕ) → times x (kept right rights) ≤ times x rights
+kept_few None rights x = omega arith
+kept_few (Some y) rights x = times-without_few y x rights
+
+given_once : (right : Option ℕ) (x : ℕ) → times x (given right) ≤ 1
+given_once None x = omega arith
+given_once (Some y) x = times_single x y
 
 nonzero : (n : ℕ) → (n ≡ 0 → ⊥) → 1 ≤ n
 nonzero zero h = absurd (h refl)
@@ -113,6 +121,7 @@ module _ {T : Type 0} (fits : ℕ → T → Type 0) (owners : List Owner) where
     lawful = sound.lawful;
     may_stand = sound.may_stand;
     has_parts = let most = sound.has_parts in omega arith;
+    rights_once = λ x. let few = kept_few right h.rights x in let most = sound.rights_once x in omega arith;
     once = sound.once;
     awaits_puts = sound.awaits_puts;
     shows_claims = λ p claim. let old = sound.shows_claims p claim in let parts = part_facts h.parts in (old.0, nonzero (h.parts - part_given h.parts) (λ none. let z = parts.1 none in let o = old.1 in omega arith));
@@ -124,6 +133,7 @@ module _ {T : Type 0} (fits : ℕ → T → Type 0) (owners : List Owner) where
     lawful = λ p x is. let k = record_of-unread h.places p in subst (λ (z : _). 2 ≤ z.word) (sym k) (sound.lawful p x (ap (λ z. z.value) (sym k) ∙ is));
     may_stand = λ p x is. let k = record_of-unread h.places p in sound.may_stand p x (ap (λ z. z.value) (sym k) ∙ is);
     has_parts = let parts = part_facts h.parts in let n = parts_are in omega arith;
+    rights_once = given_once right;
     once = λ p. (omega arith, omega arith);
     awaits_puts = λ p claim unput. absurd (omega arith);
     shows_claims = λ p claim. absurd (omega arith);

@@ -74,6 +74,7 @@ module _ {T : Type 0} (fits : ℕ → T → Type 0) (owners : List Owner) where
     lawful = λ p x h. absurd (cc);
     may_stand = λ p x h. absurd (cc);
     has_parts = omega arith;
+    rights_once = every_right_at_most_once;
     once = λ p. (omega arith, omega arith);
     awaits_puts = λ p claim unput. refl;
     shows_claims = λ p claim. absurd (omega arith);

@@ -94,6 +94,22 @@ pub times-without_other : (x z : ℕ) (xs : List ℕ) → z ≢ x → times z (w
 times-without_other x z [] n = refl
 times-without_other x z (y ∷ ys) n = others_from x z y ys n (ℕ_discrete y x) (times-without_other x z ys n)
 
+few_from : (x z y : ℕ) (ys : List ℕ) → Dec (y ≡ x) → times z (without x ys) ≤ times z ys → times z (without x (y ∷ ys)) ≤ times z (y ∷ ys)
+few_from x z y ys (yes e) rest = rw (eq-eqb y x e) (omega arith)
+few_from x z y ys (no d) rest = rw (ne_eqb y x d) (omega arith)
+
+-- what is left has no number more often
+pub times-without_few : (x z : ℕ) (xs : List ℕ) → times z (without x xs) ≤ times z xs
+times-without_few x z [] = omega arith
+times-without_few x z (y ∷ ys) = few_from x z y ys (ℕ_discrete y x) (times-without_few x z ys)
+
+one_from : (x y : ℕ) → Dec (y ≡ x) → times x (y ∷ []) ≤ 1
+one_from x y (yes e) = rw (eq-eqb y x e) (omega arith)
+one_from x y (no n) = rw (ne_eqb y x n) (omega arith)
+
+pub times_single : (x y : ℕ) → times x (y ∷ []) ≤ 1
+times_single x y = one_from x y (ℕ_discrete y x)
+
 none_below : (n x : ℕ) → n ≤ x → times x (below n) ≡ 0
 unfolding below
 none_below zero x h = refl

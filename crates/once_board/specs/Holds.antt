@@ -85,6 +85,10 @@ module _ {T : Type 0} where
   abbrev pub HasParts : Hold T → Type 0
   HasParts h = h.parts ≤ all_parts
 
+  -- no right is held twice
+  abbrev pub HasRightsOnce : Hold T → Type 0
+  HasRightsOnce h = (right : ℕ) → times right h.rights ≤ 1
+
   -- no place is claimed twice, and none is put twice
   abbrev pub IsOnce : Hold T → Type 0
   IsOnce h = (place : ℕ) → (times place h.claims ≤ 1) × (times place h.puts ≤ times place h.claims)

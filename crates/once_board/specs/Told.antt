@@ -10,13 +10,14 @@ use Rattle.once_board.specs.declared.owners.Owner.{Owner}
 use Rattle.once_board.specs.Numbers.{times}
 use Rattle.once_board.specs.Places.{IsFree, record_of}
 use Rattle.once_board.specs.Rule.{IsMet}
-use Rattle.once_board.specs.Holds.{AwaitsPuts, ClaimsAll, Extends, FitsAll, HasParts, IsLawful, IsOnce, OwnsAll, ShowsClaims, joined, learned, nothing, put_at, regained, saw, silent, split_kept, split_off, voice, won}
+use Rattle.once_board.specs.Holds.{AwaitsPuts, ClaimsAll, Extends, FitsAll, HasParts, HasRightsOnce, IsLawful, IsOnce, OwnsAll, ShowsClaims, joined, learned, nothing, put_at, regained, saw, silent, split_kept, split_off, voice, won}
 
 -- what holds of each seat at every moment
 pub record IsSound {T : Type 0} (fits : ℕ → T → Type 0) (h : Hold T) : Type 0 where
   pub lawful : IsLawful h
   pub may_stand : FitsAll fits h
   pub has_parts : HasParts h
+  pub rights_once : HasRightsOnce h
   pub once : IsOnce h
   pub awaits_puts : AwaitsPuts h
   pub shows_claims : ShowsClaims h

@@ -34,6 +34,7 @@ impl<T: Share> Board<T> {
         ensures places { (place : ℕ) → record_of seat.new.hold.places place ≡ met (record_of seat.old.hold.places place) (record_of other.hold.places place) }
         ensures agree { Agrees seat.old.hold other.hold }
         ensures apart { (place : ℕ) → times place seat.old.hold.claims + times place other.hold.claims ≤ 1 }
+        ensures one_holder { (right : ℕ) → times right seat.old.hold.rights + times right other.hold.rights ≤ 1 }
         ensures put_once { (place : ℕ) → times place seat.old.hold.puts + times place other.hold.puts ≤ 1 }
         ensures rights { (right : ℕ) → times right seat.new.hold.rights ≡ times right seat.old.hold.rights + times right other.hold.rights }
         ensures claims { (place : ℕ) → times place seat.new.hold.claims ≡ times place seat.old.hold.claims + times place other.hold.claims }

@@ -24,9 +24,9 @@ impl<T: Share> Model for BoardSeat<T> {
 
 impl<T: Share> BoardSeat<T> {
     /// What holds of every seat: a place whose value it knows is known as open, each value that it knows may stand at its
-    /// place, no place is among its claims twice or more often among its puts, it knows no value of a place among its
-    /// claims that isn't among its puts, it knows its claims as claimed or open and has a part where it has one, and with
-    /// all parts its claims have each place that it knows as claimed or open. The call does nothing.
+    /// place, and it has no right twice. No place is among its claims twice or more often among its puts, and it knows no
+    /// value of a place among its claims that isn't among its puts. It knows its claims as claimed or open, and has a part
+    /// where it has one. With all parts its claims have each place that it knows as claimed or open. The call does nothing.
     pub fn laws(&self)
         ensures { IsSound T.fits self.now.hold }
     {

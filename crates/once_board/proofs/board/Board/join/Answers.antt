@@ -29,6 +29,12 @@ returns-clause-puts g c = λ place.
     ∙ (times-append place c.seat.inside.seat.me.0.hold.puts c.other.inside.seat.me.0.hold.puts
     ∙ (λ i. times place (c.seat.view_is i).hold.puts + times place (c.other.view_is i).hold.puts))
 
+pub returns-clause-one_holder : goal.returns-clause-one_holder
+returns-clause-one_holder g c = λ right.
+    let one : times right c.join_seats.new.seat.me.0.hold.rights ≤ 1 = c.join_seats.ensures.sound.rights_once right in
+    let sum : times right c.join_seats.new.seat.me.0.hold.rights ≡ times right c.args.seat.now.hold.rights + times right c.args.other.hold.rights = returns-clause-rights g c right in
+    omega arith
+
 pub returns-clause-apart : goal.returns-clause-apart
 returns-clause-apart g c = λ place.
     let one : times place c.join_seats.new.seat.me.0.hold.claims ≤ 1 = (c.join_seats.ensures.sound.once place).0 in

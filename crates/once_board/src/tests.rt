@@ -44,18 +44,14 @@ fn two_owners(alloc: Global) -> Result<Vec<Owner>, AllocError>
 fn has_value(looking: Looking<u64>, wanted: u64) -> bool {
     match looking {
         Looking::Value(value) => value == wanted,
-        Looking::NotYet(_) => false,
-        Looking::Busy(_) => false,
-        Looking::OutOfMemory => false,
+        _ => false,
     }
 }
 
 fn is_not_yet<T: Drop>(looking: Looking<T>, wanted: u64) -> bool {
     match looking {
         Looking::NotYet(word) => word == wanted,
-        Looking::Value(_) => false,
-        Looking::Busy(_) => false,
-        Looking::OutOfMemory => false,
+        _ => false,
     }
 }
 
@@ -80,9 +76,7 @@ fn places_are_claimed_filled_and_read(rt: HostRuntime) -> Result<(), Fail> {
 fn is_refused(looking: Looking<Refusing>) -> bool {
     match looking {
         Looking::OutOfMemory => true,
-        Looking::Value(_) => false,
-        Looking::NotYet(_) => false,
-        Looking::Busy(_) => false,
+        _ => false,
     }
 }
 
@@ -108,9 +102,7 @@ fn number_at(board: &Board<Numbered>, seat: &mut BoardSeat<Numbered>, place: u32
 {
     match board.look(seat, place) {
         Looking::Value(value) => Some(value.0),
-        Looking::NotYet(_) => None,
-        Looking::Busy(_) => None,
-        Looking::OutOfMemory => None,
+        _ => None,
     }
 }
 
@@ -127,9 +119,7 @@ fn what_is_read_may_stand_at_its_place(rt: HostRuntime) -> Result<(), Fail> {
 fn is_busy(looking: Looking<u64>) -> bool {
     match looking {
         Looking::Busy(word) => word == 3,
-        Looking::Value(_) => false,
-        Looking::NotYet(_) => false,
-        Looking::OutOfMemory => false,
+        _ => false,
     }
 }
 

@@ -79,6 +79,12 @@ fed_bytes payload reader fed = fed.0
 pub fed_held : (payload : List ℕ) (reader : Masking) → IsHeld reader → reader.kept.bytes ≡ payload → Fed payload reader
 fed_held payload reader held same = subst (λ (bytes : List ℕ). Fed bytes reader) same held.fed
 
+-- counts of a reader that was fed a payload are at most the definition's
+pub fed_at_most : (payload : List ℕ) (reader : Masking) → Fed payload reader →
+    (reader.units ≤ counted (length (records_of (input_of reader payload)).records)) × (reader.decisions ≤ counted (records_of (input_of reader payload)).decisions)
+unfolding Fed
+fed_at_most payload reader fed = (fed.1, fed.2)
+
 -- a new reader
 pub fed_new : (reader : Masking) → reader.kept.bytes ≡ [] → reader.answered ≡ None → reader.units ≡ 0 → reader.decisions ≡ 0 → Fed [] reader
 unfolding Fed

@@ -160,6 +160,9 @@ impl MaskReader {
             self.new.units ≡ counted (length (records_of (input_of self.old payload)).records) }
         ensures decisions { (payload : List ℕ) → Fed payload self.old → result ≢ Jb2Step.OutOfMemory →
             self.new.decisions ≡ counted (records_of (input_of self.old payload)).decisions }
+        // Whatever is answered, counts are at most the definition's.
+        ensures at_most { (payload : List ℕ) → Fed payload self.old →
+            (self.new.units ≤ counted (length (records_of (input_of self.old payload)).records)) × (self.new.decisions ≤ counted (records_of (input_of self.old payload)).decisions) }
         ensures fed { (payload : List ℕ) → Fed payload self.old → Fed payload self.new }
 
         // What stands, and the meter.

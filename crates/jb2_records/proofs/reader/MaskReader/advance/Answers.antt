@@ -1,8 +1,8 @@
-use Rattle.std.proofs.Common.{ℕ, List, length, sym, ap, subst, ◌∙◌}
+use Rattle.std.proofs.Common.{◌≤◌, ℕ, List, length, sym, ap, subst, ◌∙◌}
 use Rattle.jb2_records.specs.Reading.{records_of}
 use Rattle.jb2_records.specs.Reader.{Masking, Fed, input_of, counted}
 use Rattle.jb2_records.specs.Holding.{IsDecoded, IsHeld, with_decoded}
-use Rattle.jb2_records.proofs.Feeding.{settled_answer, settled_units, settled_decisions, fed_bytes, fed_held, held_decoded}
+use Rattle.jb2_records.proofs.Feeding.{settled_answer, settled_units, settled_decisions, fed_bytes, fed_held, fed_at_most, held_decoded}
 use Rattle.jb2_records.proofs.reader.MaskReader.advance.Goals as goal
 
 pub returns-in-Some-clause-answer : goal.returns-in-Some-clause-answer
@@ -38,3 +38,17 @@ returns-clause-fed g c payload fed =
     subst (λ (r : Masking). Fed payload r) (sym c.store.ensures)
     (fed_held payload (with_decoded c.args.self.now c.in-Ok.decoded.answer c.in-Ok.decoded.units c.in-Ok.decoded.decisions c.in-Ok.decoded.mask)
     (held_decoded c.args.self.now c.in-Ok.decoded.answer c.in-Ok.decoded.units c.in-Ok.decoded.decisions c.in-Ok.decoded.mask (subst (λ (r : Masking). IsHeld r) c.self.view_is c.self.invariant) here) (fed_bytes payload c.args.self.now fed))
+
+pub returns-in-Some-clause-at_most : goal.returns-in-Some-clause-at_most
+returns-in-Some-clause-at_most g c payload fed = fed_at_most payload c.args.self.now fed
+
+pub returns-in_default-decode-clause-at_most : goal.returns-in_default-decode-clause-at_most
+returns-in_default-decode-clause-at_most g c payload fed = fed_at_most payload c.args.self.now fed
+
+pub returns-clause-at_most : goal.returns-clause-at_most
+returns-clause-at_most g c payload fed =
+    let here : IsDecoded c.args.self.now c.in-Ok.decoded.answer c.in-Ok.decoded.units c.in-Ok.decoded.decisions c.in-Ok.decoded.mask = c.in-Ok.ensures.decoded in
+    let next : Masking = with_decoded c.args.self.now c.in-Ok.decoded.answer c.in-Ok.decoded.units c.in-Ok.decoded.decisions c.in-Ok.decoded.mask in
+    let held : IsHeld next = held_decoded c.args.self.now c.in-Ok.decoded.answer c.in-Ok.decoded.units c.in-Ok.decoded.decisions c.in-Ok.decoded.mask (subst (λ (r : Masking). IsHeld r) c.self.view_is c.self.invariant) here in
+    subst (λ (r : Masking). (r.units ≤ counted (length (records_of (input_of c.args.self.now payload)).records)) × (r.decisions ≤ counted (records_of (input_of c.args.self.now payload)).decisions)) (sym c.store.ensures)
+    (fed_at_most payload next (fed_held payload next held (fed_bytes payload c.args.self.now fed)))

@@ -199,3 +199,116 @@ fn answers_are_kept(rt: HostRuntime) -> Result<(), Fail> {
     }
     Ok(())
 }
+
+/// A long chunk with the table of one row: its parts, each so many times, and what is read of it: the answer, the records and
+/// the decisions.
+struct Long {
+    parts: &'static [(&'static [u8], u32)],
+    answer: Jb2Step,
+    units: u64,
+    decisions: u64,
+}
+
+/// Eight shapes of 0 by 0 for the library.
+const SHAPES: &[u8] = &[0x5A, 0xD6, 0xB5, 0xAD, 0x6B];
+
+/// Eight copies on new rows with steps of 0, from the sixth bit of the byte before.
+const COPIES: &[u8] = &[
+    0xE5, 0x1C, 0xA3, 0x94, 0x72, 0x8E, 0x51, 0xCA, 0x39, 0x47, 0x28,
+];
+
+/// A start, and a white shape of 256 by 256 as far as its first pixels.
+const SQUARE: &[u8] = &[0xB7, 0x40, 0x1F, 0xE0, 0x0F, 0xF7];
+
+/// Counts above their limit, and at it: 65,537 shapes, and 65,536; 262,145 placed ones, and 262,144; a white shape of 65,536
+/// pixels, placed 16,385 times, and 16,384 times. Those at the limit go on to the end. Written, and read, by another program
+/// after the rules in `docs/jb2.md`.
+const LONG: [Long; 6] = [
+    Long {
+        parts: &[(&[0xB7], 1), (SHAPES, 8192), (&[0x5F], 1)],
+        answer: Jb2Step::Refused(FaultKind::Jb2Limit),
+        units: 65_537,
+        decisions: 327_693,
+    },
+    Long {
+        parts: &[(&[0xB7], 1), (SHAPES, 8192), (&[0x0F], 1)],
+        answer: Jb2Step::Finished,
+        units: 65_538,
+        decisions: 327_692,
+    },
+    Long {
+        parts: &[(&[0xB7, 0x58], 1), (COPIES, 32768), (&[0xE5], 1)],
+        answer: Jb2Step::Refused(FaultKind::Jb2Limit),
+        units: 262_146,
+        decisions: 2_883_608,
+    },
+    Long {
+        parts: &[(&[0xB7, 0x58], 1), (COPIES, 32768), (&[0x7F], 1)],
+        answer: Jb2Step::Finished,
+        units: 262_147,
+        decisions: 2_883_601,
+    },
+    Long {
+        parts: &[
+            (SQUARE, 1),
+            (&[0xFF], 8191),
+            (&[0xF8], 1),
+            (COPIES, 2048),
+            (&[0xE5], 1),
+        ],
+        answer: Jb2Step::Refused(FaultKind::Jb2Limit),
+        units: 16_386,
+        decisions: 245_816,
+    },
+    Long {
+        parts: &[
+            (SQUARE, 1),
+            (&[0xFF], 8191),
+            (&[0xF8], 1),
+            (COPIES, 2048),
+            (&[0x7F], 1),
+        ],
+        answer: Jb2Step::Finished,
+        units: 16_387,
+        decisions: 245_809,
+    },
+];
+
+/// Pushes bytes so many times.
+fn push_often(reader: &mut MaskReader, bytes: &[u8], times: u32) -> Option<()>
+    requires { reader.old.ended ≡ false }
+    ensures { reader.new.ended ≡ false }
+{
+    'pieces: for _ in 0..times {
+        reader.push(bytes).ok()?;
+    }
+    Some(())
+}
+
+/// A reader of a mask of one pixel, to which all parts of a chunk were pushed.
+fn pushed(alloc: Global, chunk: &Long) -> Option<MaskReader>
+    ensures { IfSome result (λ reader. reader.ended ≡ false) }
+{
+    let mut reader = begin(alloc, &["."])?;
+    'parts: for (bytes, times) in chunk.parts {
+        push_often(&mut reader, bytes, *times)?;
+    }
+    Some(reader)
+}
+
+/// Counts may reach their limits, and not pass them.
+#[test]
+fn limits_are_kept(rt: HostRuntime) -> Result<(), Fail> {
+    for chunk in &LONG {
+        let Some(mut reader) = pushed(rt.alloc(), chunk) else {
+            panic!(rt; "memory is ample");
+        };
+        let mut meter = CountMeter::new();
+        reader.end();
+        assert_eq!(rt; reader.advance(&mut meter), chunk.answer);
+        assert_eq!(rt; reader.units(), chunk.units);
+        assert_eq!(rt; reader.decisions(), chunk.decisions);
+        assert_eq!(rt; meter.count(), chunk.decisions);
+    }
+    Ok(())
+}

@@ -6,7 +6,7 @@ use Rattle.zp_decoder.specs.declared.decoder.Decision.{Decision}
 use Rattle.zp_decoder.specs.declared.decoder.Decision.TheVariants as decision
 use Rattle.zp_decoder.specs.Decision.{Interval, Adaptive, Outcome, outcome_of}
 use Rattle.zp_decoder.specs.Decision as coding
-use Rattle.zp_decoder.specs.Decoder.{Decoder, Fed}
+use Rattle.zp_decoder.specs.Decoder.{Fed}
 use Rattle.zp_decoder.proofs.Standing.{is_fed}
 use Rattle.bit_plane.specs.Pixels.{Pixels}
 use Rattle.djvu_base.specs.declared.faults.FaultKind.TheVariants as fault

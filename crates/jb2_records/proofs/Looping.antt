@@ -1,8 +1,6 @@
 -- Records that are read one after the other are those of the chunk.
 use Rattle.std.proofs.Common.{◌≡◌, ◌≢◌, ◌<◌, ◌+◌, ℕ, zero, suc, min, Bool, true, false, List, [], ◌∷◌, length, refl, sym, ap, subst, ◌∙◌, arith}
-use Rattle.std.specs.Prelude.{Option}
-use Rattle.zp_decoder.specs.Decision.{Interval}
-use Rattle.zp_decoder.specs.Decoder.{Decoder, Fed, room_left}
+use Rattle.zp_decoder.specs.Decoder.{room_left}
 use Rattle.zp_decoder.proofs.Standing.{room_is}
 use Rattle.zp_decoder.specs.Runs.{room}
 use Rattle.djvu_base.specs.declared.faults.FaultKind.{FaultKind}

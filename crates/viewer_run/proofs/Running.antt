@@ -24,7 +24,7 @@ use Rattle.viewer_run.specs.declared.stop.Stop.{Stop}
 use Rattle.viewer_run.specs.declared.stop.Stop.TheVariants as stop
 use Rattle.viewer_run.specs.Cut.{first_entry, cut_at, cut_file, cut, front_may_fail, front_failed, names_table, names_page, NamesRead}
 use Rattle.viewer_run.specs.Front.{front_of, is_listed, line_by_names, refused_or, table_of, front_by_table, front_of_draw, front_of_info, front_of_command, front_by_words, names_in}
-use Rattle.viewer_run.specs.Offline.{Written, texts_by, texts_of_found, texts_of_names, written, written_by, offline, with_failures, written_cut, nothing_written, IsOutcome}
+use Rattle.viewer_run.specs.Offline.{Written, texts_by, texts_of_found, texts_of_names, written, written_by, offline, with_failures, written_cut, nothing_written, IsOutcome, MayFailSo}
 use Rattle.viewer_run.specs.Outcome.{Gives, NeverFolder, SinkStops}
 use Rattle.viewer_run.specs.Runs.{EndsSo, GoesOnFrom, Runs, Run}
 use Rattle.viewer_run.specs.Shown.{HasFiles, HasBroken, NamesOnly, Shows, file_of, lists_first, texts_of_pages, status_shown}
@@ -186,7 +186,7 @@ runs_shown files words names mode result shown status f0 f1 f2 o0 o1 r0 r1 m0 m1
       only = only_named (library_of files) words names mode s.added front s.only;
       goes_on = late;
       written = with_failures s.added (written texts);
-      outcome = inr (late, sym (shown_written s.added files words names mode front has));
+      outcome = inr (late, subst (λ f. MayFailSo f s.added) front tt, sym (shown_written s.added files words names mode front has));
       out = λ before given. let put = s.out before given in (put.0, put.1, put.2 ∙ ap (λ t. before ++ t) (sym (out_with s.added (written texts))));
       report = λ before given. let put = s.report before given in (put.0, put.1, put.2 ∙ ap (λ t. before ++ t) (sym (report_with s.added (written texts))));
       status = is ∙ status_of_all shown s.added texts s.broken s.refused;
@@ -216,7 +216,7 @@ runs_stopped files words names mode pages result fault f0 f1 f2 o0 o1 r0 r1 m0 m
       only = only_named (library_of files) words names mode s.added front s.only;
       goes_on = (not_folder fault other words s.added 0).0;
       written = with_failures s.added (written texts);
-      outcome = inr (late, sym (shown_written s.added files words names mode front has));
+      outcome = inr (late, subst (λ f. MayFailSo f s.added) front tt, sym (shown_written s.added files words names mode front has));
       out = λ before given. let put = s.out before given in (put.0, put.1, subst (λ t. GrowsWithin before t put.0) (sym (out_with s.added (written texts))) put.2);
       report = λ before given. let put = s.report before given in (put.0, put.1, subst (λ t. GrowsWithin before t put.0) (sym (report_with s.added (written texts))) put.2);
       status = (not_folder fault other words s.added (with_failures s.added (written texts)).status).1;
@@ -234,7 +234,7 @@ runs_refused files words line result f0 f1 o r0 r1 m front same gives status oth
       only = λ name other. refl;
       goes_on = by_result result other;
       written = record { out = []; report = line; status = 2; work = 0 };
-      outcome = inr (refl, ap (λ f. written_by (cut [] (library_of files)) f) front);
+      outcome = inr (refl, subst (λ f. MayFailSo f []) front refl, ap (λ f. written_by (cut [] (library_of files)) f) front);
       out = λ before given. (before, given, nothing_put result before);
       report = gives;
       status = by_status result status other;
@@ -253,6 +253,10 @@ runs_refused files words line result f0 f1 o r0 r1 m front same gives status oth
     by_status (Err stop.Folder) is other = absurd (other refl)
     by_status (Err stop.Sink) is other = tt
     by_status (Err stop.Memory) is other = tt
+
+none_failed : (found : Front) → MayFailSo found []
+none_failed (front.Refused line) = refl
+none_failed (front.Accepted mode pages) = tt
 
 -- a run that stops before its pages
 pub runs_early : (files : Files) (words : List (List ℕ)) (front : Result Front Stop) (fault : Stop) (result : Result Status Stop) (f0 f1 : List Failure) (o r : Option (List ℕ)) (m : ℕ)
@@ -280,7 +284,7 @@ runs_early files words front fault result f0 f1 o r m e starts is = subst (λ x.
       only = λ name other. refl;
       goes_on = tt;
       written = written_cut [] (library_of files) words;
-      outcome = inr (refl, refl);
+      outcome = inr (refl, none_failed (front_of (library_of files) words), refl);
       out = λ before given. (before, given, ([], (written_cut [] (library_of files) words).out, refl, sym (append-nil before)));
       report = λ before given. (before, given, ([], (written_cut [] (library_of files) words).report, refl, sym (append-nil before)));
       status = tt;
@@ -360,7 +364,7 @@ nothing_cut (file ∷ library) = ap (λ l. file ∷ l) (nothing_cut library)
 -- where nothing failed
 pub sound_outcome : (library : Library) (words : List (List ℕ)) (texts : Written) → IsOutcome [] library words texts → texts ≡ offline library words
 sound_outcome library words texts (inl early) = absurd (true≢false (sym early.0))
-sound_outcome library words texts (inr late) = late.1 ∙ ap (λ l. written_by l (front_of library words)) (nothing_cut library)
+sound_outcome library words texts (inr late) = late.2 ∙ ap (λ l. written_by l (front_of library words)) (nothing_cut library)
 
 pub never_folder : {T : Type 0} (result : Result T Stop) (fault : Stop) → NeverFolder result → result ≡ Err fault → (fault ≡ stop.Folder → ⊥)
 never_folder {T = T} result fault h e f = subst (λ r. NeverFolder {T = T} r) (e ∙ ap Err f) h

@@ -1,5 +1,5 @@
 -- What a run writes, its status, and how many decisions it reads.
-use Rattle.std.specs.Prelude.{ℕ, Bool, true, false, ◌≡◌, ◌⊎◌, List, [], ◌∷◌, Option, Some, None}
+use Rattle.std.specs.Prelude.{ℕ, Bool, true, false, ◌≡◌, ◌⊎◌, ⊤, List, [], ◌∷◌, Option, Some, None}
 use Rattle.djvu_base.specs.Library.{File, Library, file_named}
 use Rattle.djvu_outside.specs.Faults.{Failure}
 use Rattle.zp_table.specs.declared.rows.Row.{Row}
@@ -68,9 +68,14 @@ written_cut failures library words = with_failures failures (written_by (cut fai
 abbrev pub nothing_written : Written
 nothing_written = record { out = []; report = []; status = 3; work = 0 }
 
+-- behind this front the folder may have failed so: a run that is refused reads no page
+abbrev pub MayFailSo : Front → List Failure → Type 0
+MayFailSo (front.Refused line) failures = failures ≡ []
+MayFailSo (front.Accepted mode pages) failures = ⊤
+
 -- what a run over a library comes to, where the folder failed so: nothing where the listing or the table failed, and else
 -- what is written for the files as far as they came
 abbrev pub IsOutcome : List Failure → Library → List (List ℕ) → Written → Type 0
 IsOutcome failures library words texts =
     ((front_may_fail words failures ≡ true) × (texts ≡ nothing_written))
-    ⊎ ((front_failed words failures ≡ false) × (texts ≡ written_cut failures library words))
+    ⊎ ((front_failed words failures ≡ false) × MayFailSo (front_of library words) failures × (texts ≡ written_cut failures library words))

@@ -26,7 +26,7 @@ use Rattle.viewer_run.specs.Cut.{first_entry, cut_at, cut_file, cut, front_may_f
 use Rattle.viewer_run.specs.Front.{front_of, is_listed, line_by_names, refused_or, table_of, front_by_table, front_of_draw, front_of_info, front_of_command, front_by_words, names_in}
 use Rattle.viewer_run.specs.Offline.{Written, texts_by, texts_of_found, texts_of_names, written, written_by, offline, with_failures, written_cut, nothing_written, IsOutcome, MayFailSo}
 use Rattle.viewer_run.specs.Outcome.{Gives, NeverFolder, SinkStops}
-use Rattle.viewer_run.specs.Runs.{EndsSo, GoesOnFrom, Runs, Run}
+use Rattle.viewer_run.specs.Runs.{EndsSo, Gets, GoesOnFrom, Runs, Run}
 use Rattle.viewer_run.specs.Shown.{HasFiles, HasBroken, NamesOnly, Shows, file_of, lists_first, texts_of_pages, status_shown}
 use Rattle.viewer_run.specs.Start.{StartsFor}
 use Rattle.viewer_run.specs.Status.{status_of}
@@ -352,6 +352,21 @@ run_stopped files words fault status f0 f1 o0 o1 r0 r1 m0 m1 e r =
       same_status = λ below. e ∙ stopped_status files words fault r.written.status (early below) r.status;
       counts = (r.ticks.0, r.ticks.1, (λ below. no_more r.ticks.0 r.written.work (none below).2 r.ticks.1), r.ticks.2);
     }
+
+pub same_line : (line other : List ℕ) → front.Refused line ≡ front.Refused other → line ≡ other
+same_line line other e = cc
+
+-- a part that stops and puts nothing
+pub gives_none : (result : Result Status Stop) (fault : Stop) (told : Option (List ℕ)) (text : List ℕ) → result ≡ Err fault → Gives result told told text
+gives_none result fault told text e = subst (λ r. Gives {T = Status} r told told text) (sym e) (λ before given. (before, given, ([], text, refl, sym (append-nil before))))
+
+-- a text that was put, by the status
+pub gets_all : (status : Status) (old new : Option (List ℕ)) (text : List ℕ) → Gives {T = Status} (Ok status) old new text → Gets status.0 old new text
+gets_all status old new text gives = λ before given. let put = gives before given in (put.0, put.1, (λ below. put.2), whole_grows before text put.0 put.2)
+
+-- a front of it, where the run didn't stop for the folder
+pub gets_front : (fault : Stop) (status : ℕ) (old new : Option (List ℕ)) (text : List ℕ) → status ≡ status_of fault → (fault ≡ stop.Folder → ⊥) → Gives {T = Status} (Err fault) old new text → Gets status old new text
+gets_front fault status old new text e other gives = λ before given. let put = gives before given in (put.0, put.1, (λ below. absurd (other (is_folder fault (subst (λ n. n < 4) e below)))), put.2)
 
 -- a run whose front failed doesn't come to its end
 pub front_stops : (files : Files) (words : List (List ℕ)) (status : Status) (f0 f1 : List Failure) (o0 o1 r0 r1 : Option (List ℕ)) (m0 m1 : ℕ) (added : List Failure) → Runs files words (Ok status) f0 f1 o0 o1 r0 r1 m0 m1 → f1 ≡ f0 ++ added → front_failed words added ≡ true → ⊥

@@ -3,10 +3,11 @@ ghost use Rattle.std.specs.Prelude.{◌≡◌, ◌≢◌, ℕ, ◌-◌, ◌^◌,
 ghost use Rattle.djvu_base.specs.Library.{Files};
 ghost use Rattle.djvu_outside.specs.Faults.{Failure, Rises};
 ghost use Rattle.viewer_words.specs.Words.{words_of};
+ghost use Rattle.viewer_words.specs.Lines.{words_line};
 ghost use Rattle.viewer_run.specs.Cut.{front_failed};
 ghost use Rattle.viewer_run.specs.Front.{draws};
 ghost use Rattle.viewer_run.specs.Outcome.{Gives, OneRises, OnlyTicks, SinkStops, SinksEnd};
-ghost use Rattle.viewer_run.specs.Runs.{Run, Runs, RunCounts};
+ghost use Rattle.viewer_run.specs.Runs.{Gets, Run, Runs, RunCounts};
 
 use crate::front::{Front, find_front};
 use crate::pages::show_pages;
@@ -51,9 +52,11 @@ pub fn run<F: Folder, S: Sink, E: Sink, M: Meter>(
     ensures sinks_kept { result.0 < 4 → (S.faults out.new ≡ S.faults out.old) × (E.faults report.new ≡ E.faults report.old) }
     ensures memory_alone { result.0 ≡ 5 → (S.faults out.new ≡ S.faults out.old) × (E.faults report.new ≡ E.faults report.old) }
 
-    // Words that don't fit are refused, whatever the folder is, and it isn't asked for anything.
+    // Words that don't fit are refused by their line, whatever the folder is, and it isn't asked for anything.
     ensures words_first { (number : ℕ) → words_of words.now ≡ Err number → folder.new ≡ folder.old }
     ensures refused { (number : ℕ) → words_of words.now ≡ Err number → result.0 < 4 → result.0 ≡ 2 }
+    ensures refused_line { (number : ℕ) → words_of words.now ≡ Err number → Gets result.0 (E.given report.old) (E.given report.new) (words_line number) }
+    ensures refused_output { (number : ℕ) → words_of words.now ≡ Err number → out.new ≡ out.old }
 
     // The meter is only ticked; not at all where nothing is to be drawn, or the run is refused.
     ensures only_ticks { OnlyTicks (M.count meter.old) (M.count meter.new) }
@@ -87,6 +90,8 @@ fn carry_out<F: Folder, S: Sink, E: Sink, M: Meter>(
     ensures untouched { result ≡ Err Stop.Folder → (out.new ≡ out.old) × (report.new ≡ report.old) }
     ensures words_first { (number : ℕ) → words_of words.now ≡ Err number → folder.new ≡ folder.old }
     ensures refused { (number : ℕ) → words_of words.now ≡ Err number → IfOk result (λ status. status.0 ≡ 2) }
+    ensures refused_line { (number : ℕ) → words_of words.now ≡ Err number → Gives result (E.given report.old) (E.given report.new) (words_line number) }
+    ensures refused_output { (number : ℕ) → words_of words.now ≡ Err number → out.new ≡ out.old }
     ensures unlisted { (number : ℕ) → words_of words.now ≡ Err number → result ≢ Err Stop.Folder }
     ensures only_ticks { OnlyTicks (M.count meter.old) (M.count meter.new) }
     ensures still { draws (words_of words.now) ≡ false → meter.new ≡ meter.old }

@@ -1,9 +1,10 @@
-use Rattle.std.proofs.Common.{List, ℕ, Err, ap, sym, ◌∙◌, subst}
+use Rattle.std.proofs.Common.{◌≡◌, List, ℕ, Err, ap, sym, ◌∙◌, subst}
 use Rattle.std.proofs.lemmas.Result.{err_from_is_err_and}
+use Rattle.viewer_words.specs.Lines.{words_line}
 use Rattle.viewer_run.specs.Outcome.{Gives}
 use Rattle.viewer_run.specs.Shown.{Shows}
 use Rattle.viewer_run.specs.Start.{CanShow}
-use Rattle.viewer_run.proofs.Running.{runs_shown, runs_stopped, runs_refused, runs_early, never_folder, sink_only}
+use Rattle.viewer_run.proofs.Running.{runs_shown, runs_stopped, runs_refused, runs_early, never_folder, sink_only, same_line, gives_none}
 use Rattle.viewer_run.proofs.whole.carry_out.Goals as goal
 
 pub returns-in_err-line-clause-told : goal.returns-in_err-line-clause-told
@@ -38,3 +39,25 @@ returns-in_ok-shown-in-Accepted-clause-words_first g c number e = let both = sym
 
 pub returns-in_ok-shown-in-Accepted-clause-refused : goal.returns-in_ok-shown-in-Accepted-clause-refused
 returns-in_ok-shown-in-Accepted-clause-refused g c number e = let both = sym c.in-Accepted.is ∙ c.in_ok-line.ensures.refused number e in cc
+
+pub returns-in_err-line-clause-refused_line : goal.returns-in_err-line-clause-refused_line
+returns-in_err-line-clause-refused_line g c number e =
+    let p = err_from_is_err_and c.from_residual.result c.from_residual.ensures.1 in
+    gives_none c.from_residual.result c.in_err-line.field-0.0 (g.E.Sink.given c.args.report.now) (words_line number) (p.1 ∙ ap Err p.2)
+
+pub returns-in-Refused-clause-refused_line : goal.returns-in-Refused-clause-refused_line
+returns-in-Refused-clause-refused_line g c number e =
+    let same : c.in-Refused.line ≡ words_line number = same_line c.in-Refused.line (words_line number) (sym c.in-Refused.is ∙ c.in_ok-line.ensures.refused number e) in
+    subst (λ (line : List ℕ). Gives c.refuse.result (g.E.Sink.given c.args.report.now) (g.E.Sink.given c.refuse.new.report) line) (c.slice.ensures ∙ same) c.refuse.ensures.report_text
+
+pub returns-in_err-shown-in-Accepted-clause-refused_line : goal.returns-in_err-shown-in-Accepted-clause-refused_line
+returns-in_err-shown-in-Accepted-clause-refused_line g c number e = let both = sym c.in-Accepted.is ∙ c.in_ok-line.ensures.refused number e in cc
+
+pub returns-in_err-shown-in-Accepted-clause-refused_output : goal.returns-in_err-shown-in-Accepted-clause-refused_output
+returns-in_err-shown-in-Accepted-clause-refused_output g c number e = let both = sym c.in-Accepted.is ∙ c.in_ok-line.ensures.refused number e in cc
+
+pub returns-in_ok-shown-in-Accepted-clause-refused_line : goal.returns-in_ok-shown-in-Accepted-clause-refused_line
+returns-in_ok-shown-in-Accepted-clause-refused_line g c number e = let both = sym c.in-Accepted.is ∙ c.in_ok-line.ensures.refused number e in cc
+
+pub returns-in_ok-shown-in-Accepted-clause-refused_output : goal.returns-in_ok-shown-in-Accepted-clause-refused_output
+returns-in_ok-shown-in-Accepted-clause-refused_output g c number e = let both = sym c.in-Accepted.is ∙ c.in_ok-line.ensures.refused number e in cc

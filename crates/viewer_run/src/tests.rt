@@ -3,6 +3,7 @@ ghost use Rattle.djvu_base.specs.Name.{IsAscending, is_ascending};
 ghost use Rattle.djvu_base.specs.Library.{names_of};
 
 mod cases;
+mod files;
 mod masks;
 
 use crate::run;
@@ -170,25 +171,42 @@ fn masks_of_pages(rt: HostRuntime) {
     expect_cases(&rt, rt.alloc(), &MASKS);
 }
 
-/// Where a sink fails at a page, that page was read, and the next one isn't.
+/// Draws two pages with a mask each.
+fn came_of_masks(alloc: Global, failing: Failing) -> Option<Came> {
+    let files = two_files(alloc, MASKED, MASKED)?;
+    let words: &[&[u8]] = &[b"draw", b"--table", b"flat", b"p", b"q"];
+    came_to(alloc, files, words, failing)
+}
+
+/// Where a sink fails at a page, that page was read, and the next one isn't. Each takes 29 decisions.
 #[test]
-fn failing_sinks_of_a_mask(rt: HostRuntime) {
+fn failing_sinks_of_masks(rt: HostRuntime) {
     let lines: &[u8] = b"p: chunk 1 sum 765\np: chunk 2 sum 0\n";
-    let cases: [(Option<u64>, Option<u64>, &[u8], &[u8]); 4] = [
-        (None, Some(0), NONE, NONE),
-        (Some(0), None, NONE, lines),
-        (Some(1), None, b"P6\n1 1\n255\n", lines),
-        (None, Some(1), b"P6\n1 1\n255\n\0\0\0", lines),
+    let all_lines: &[u8] =
+        b"p: chunk 1 sum 765\np: chunk 2 sum 0\nq: chunk 1 sum 765\nq: chunk 2 sum 0\n";
+    let black: &[u8] = b"P6\n1 1\n255\n\0\0\0";
+    let cases: [(Option<u64>, Option<u64>, u64, &[u8], &[u8]); 6] = [
+        (None, Some(0), 29, NONE, NONE),
+        (Some(0), None, 29, NONE, lines),
+        (Some(1), None, 29, b"P6\n1 1\n255\n", lines),
+        (None, Some(1), 58, black, lines),
+        (Some(2), None, 58, black, all_lines),
+        (
+            Some(3),
+            None,
+            58,
+            b"P6\n1 1\n255\n\0\0\0P6\n1 1\n255\n",
+            all_lines,
+        ),
     ];
-    for (number, (out_call, report_call, out, report)) in cases.into_iter().enumerate() {
+    for (number, (out_call, report_call, ticks, out, report)) in cases.into_iter().enumerate() {
         let failing = Failing {
             folder: None,
             out: out_call,
             report: report_call,
         };
-        let words: &[&[u8]] = &[b"draw", b"--table", b"flat", b"p", b"q"];
-        let came = came_over(rt.alloc(), MASKED, words, failing);
-        expect_counted(&rt, came, (4, 29), out, report, number);
+        let came = came_of_masks(rt.alloc(), failing);
+        expect_counted(&rt, came, (4, ticks), out, report, number);
     }
 }
 

@@ -1,5 +1,8 @@
 pub mod Numbering
+pub mod Placing
+pub mod Running
 pub mod Windowing
+pub mod RefinedWindowing
 pub mod Going
 pub mod Refining
 pub mod Cutting

@@ -2,7 +2,9 @@
 ghost use Rattle.std.specs.Prelude.{◌≡◌, ◌*◌, ◌<◌, ◌≤◌, ◌==◌, ◌+ℤ◌, IfOk, pos};
 ghost use Rattle.bit_plane.specs.Pixels.{is_black, area_limit};
 ghost use Rattle.jb2_shapes.specs.Shape.{empty_sketch, column_of, row_of, with_pixel, IsUnread};
+ghost use Rattle.jb2_shapes.specs.Rows.{IsRun, column_behind, row_behind};
 
+use crate::rows::pixels_from;
 use bit_plane::Plane;
 use std::alloc::{AllocError, Global};
 use std::marker::Model;
@@ -12,18 +14,22 @@ use std::marker::Model;
 pub(crate) struct Canvas {
     shape: Plane,
     number: u32,
+    /// The place of the pixel that is read next, as long as one is.
+    column: u32,
+    row: u32,
 }
 
 impl Model for Canvas {
     ghost use Rattle.std.specs.Prelude.{◌*◌, ◌≤◌};
     ghost use Rattle.bit_plane.specs.Pixels.{area_limit};
     ghost use Rattle.jb2_shapes.specs.Shape.{Sketch};
+    ghost use Rattle.jb2_shapes.specs.Rows.{StandsAt};
 
     ghost Value = { Sketch };
 
     ghost view = { λ a. record { shape = a.shape; number = a.number } };
 
-    ghost invariant = { λ a. (a.number ≤ a.shape.width * a.shape.height) × (a.shape.width * a.shape.height ≤ area_limit) };
+    ghost invariant = { λ a. (a.number ≤ a.shape.width * a.shape.height) × (a.shape.width * a.shape.height ≤ area_limit) × StandsAt (record { shape = a.shape; number = a.number }) a.column a.row };
 }
 
 impl Canvas {
@@ -35,6 +41,8 @@ impl Canvas {
         Ok(Canvas {
             shape: Plane::new(alloc, width, height)?,
             number: 0,
+            column: 0,
+            row: height.saturating_sub(1),
         })
     }
 
@@ -49,43 +57,42 @@ impl Canvas {
     /// The column of the pixel that is read next.
     pub(crate) fn column(&self) -> u32
         requires { IsUnread self.now }
-        ensures is { result ≡ column_of self.now }
-        ensures within { result < self.now.shape.width }
+        ensures { result ≡ column_of self.now }
     {
-        self.number % self.shape.width()
+        self.column
     }
 
     /// The row of the pixel that is read next.
     pub(crate) fn row(&self) -> u32
         requires { IsUnread self.now }
-        ensures is { result ≡ row_of self.now }
-        ensures within { result < self.now.shape.height }
+        ensures { result ≡ row_of self.now }
     {
-        self.shape.height() - 1 - self.number / self.shape.width()
+        self.row
     }
 
-    /// Whether the pixel so far right of the one that is read next, and so far above it, is black. What lies outside is
-    /// white.
-    pub(crate) fn near(&self, right: i8, up: i8) -> bool
+    /// 64 pixels of a row, from the one on that is so far right of the pixel that is read next, and so far above it. What
+    /// lies outside is white.
+    pub(crate) fn ahead(&self, right: i8, up: i8) -> u64
         requires { IsUnread self.now }
-        ensures { result ≡ is_black self.now.shape (pos (column_of self.now) +ℤ right) (pos (row_of self.now) +ℤ up) }
+        ensures { IsRun self.now.shape (pos (column_of self.now) +ℤ right) (pos (row_of self.now) +ℤ up) 64 result }
     {
-        let x = moved(self.column(), right);
-        let y = moved(self.row(), up);
-        self.shape.get(x, y)
+        pixels_from(&self.shape, moved(self.column, right), moved(self.row, up))
     }
 
     /// Reads the next pixel.
-    pub(crate) fn put(&mut self, is_black: bool)
+    pub(crate) fn put(&mut self, black: bool)
         requires { IsUnread self.old }
-        ensures { self.new ≡ with_pixel self.old is_black }
+        ensures pixel { self.new ≡ with_pixel self.old black }
+        ensures colour { is_black self.new.shape (pos (column_of self.old)) (pos (row_of self.old)) ≡ black }
     {
-        if is_black {
-            let column = self.column();
-            let row = self.row();
-            self.shape.set(column, row);
+        let width = self.shape.width();
+        if black {
+            self.shape.set(self.column, self.row);
         }
         self.number += 1;
+        let (column, row) = behind(self.column, self.row, width);
+        self.column = column;
+        self.row = row;
     }
 
     /// The shape.
@@ -93,6 +100,19 @@ impl Canvas {
         ensures { result ≡ self.shape }
     {
         self.shape
+    }
+}
+
+/// The place that comes after a place, in rows of a width.
+fn behind(column: u32, row: u32, width: u32) -> (u32, u32)
+    requires { column < width }
+    ensures column { result.0 ≡ column_behind width column }
+    ensures row { result.1 ≡ row_behind width column row }
+{
+    if column + 1 < width {
+        (column + 1, row)
+    } else {
+        (0, row.saturating_sub(1))
     }
 }
 

@@ -113,14 +113,14 @@ fn read_pixels<M: Meter>(
     }
     let mut window = DirectWindow::around(canvas);
     'pixels: loop {
-        match read_pixel(canvas, window.number(), contexts, zp, meter) {
-            Decision::Bit(_) => {}
+        let black = match read_pixel(canvas, window.number(), contexts, zp, meter) {
+            Decision::Bit(black) => black,
             Decision::NeedBytes => return ShapeStep::NeedBytes,
             Decision::Exhausted => return ShapeStep::Exhausted,
-        }
+        };
         if canvas.is_whole() {
             return ShapeStep::Done;
         }
-        window = window.next(canvas);
+        window = window.next(canvas, black);
     }
 }

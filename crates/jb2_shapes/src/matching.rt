@@ -1,12 +1,13 @@
 //! Matched shapes, beside which shapes are refined.
 ghost use Rattle.std.specs.Prelude.{◌≡◌, ◌/◌, ◌+ℤ◌, ◌-ℤ◌, ◌≤ℤ◌, pos};
 ghost use Rattle.std.specs.Arc.{arc_value};
-ghost use Rattle.bit_plane.specs.Pixels.{is_black};
 ghost use Rattle.bit_plane.specs.Ink.{ink_box_of};
 ghost use Rattle.jb2_shapes.specs.Shape.{IsUnread, column_of, row_of};
 ghost use Rattle.jb2_shapes.specs.Refined.{IsShift, extent, shift};
+ghost use Rattle.jb2_shapes.specs.Rows.{IsRun};
 
 use crate::canvas::Canvas;
+use crate::rows::pixels_from;
 use bit_plane::Plane;
 use std::marker::Model;
 use std::sync::Arc;
@@ -45,15 +46,15 @@ impl Matching {
         }
     }
 
-    /// Whether the pixel of the matched shape is black that lies so far right of and above the matched place of the pixel
-    /// that is read next.
-    pub(crate) fn near(&self, canvas: &Canvas, right: i8, up: i8) -> bool
+    /// 64 pixels of a row of the matched shape, from the one on that lies so far right of and above the matched place of the
+    /// pixel that is read next. What lies outside is white.
+    pub(crate) fn ahead(&self, canvas: &Canvas, right: i8, up: i8) -> u64
         requires { IsUnread canvas.now }
-        ensures { result ≡ is_black self.now.matched (pos (column_of canvas.now) +ℤ self.now.right +ℤ right) (pos (row_of canvas.now) +ℤ self.now.up +ℤ up) }
+        ensures { IsRun self.now.matched (pos (column_of canvas.now) +ℤ self.now.right +ℤ right) (pos (row_of canvas.now) +ℤ self.now.up +ℤ up) 64 result }
     {
         let x = sum(canvas.column(), self.right, right);
         let y = sum(canvas.row(), self.up, up);
-        self.shape.get(x, y)
+        pixels_from(&self.shape, x, y)
     }
 }
 

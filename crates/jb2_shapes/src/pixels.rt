@@ -1,10 +1,11 @@
 //! One pixel of a shape.
-ghost use Rattle.std.specs.Prelude.{◌≡◌, ℕ, ◌<◌, ◌≤◌, length, List, Bool, Option};
+ghost use Rattle.std.specs.Prelude.{◌≡◌, ℕ, ◌<◌, ◌≤◌, length, List, Bool, Option, pos};
+ghost use Rattle.bit_plane.specs.Pixels.{is_black};
 ghost use Rattle.zp_decoder.specs.Decision.{Interval, Adaptive, outcome_of, counted};
 ghost use Rattle.zp_decoder.specs.Decoder.{Fed, room_left};
 ghost use Rattle.jb2_shapes.specs.Contexts.{AreBelow, with_state};
 ghost use Rattle.jb2_shapes.specs.Numbers.{number_of, number_limit, states_of, IsNumber};
-ghost use Rattle.jb2_shapes.specs.Shape.{IsUnread, with_pixel};
+ghost use Rattle.jb2_shapes.specs.Shape.{IsUnread, column_of, row_of, with_pixel};
 
 use crate::canvas::Canvas;
 use crate::contexts::ShapeContexts;
@@ -29,6 +30,7 @@ pub(crate) fn read_pixel<M: Meter>(
     ensures states { (bit : Bool) → result ≡ Decision.Bit bit → (colours : List Bool) (payload : List ℕ) (place : Option Interval) → number_of colours ≡ number → Fed payload place zp.old →
         states_of contexts.new ≡ with_state (states_of contexts.old) colours (outcome_of zp.old.table (Adaptive (states_of contexts.old colours)) payload zp.old.ended place).state }
     ensures pixel { (bit : Bool) → result ≡ Decision.Bit bit → canvas.new ≡ with_pixel canvas.old bit }
+    ensures colour { (bit : Bool) → result ≡ Decision.Bit bit → is_black canvas.new.shape (pos (column_of canvas.old)) (pos (row_of canvas.old)) ≡ bit }
     ensures below { AreBelow (length zp.new.table) (states_of contexts.new) }
     ensures table { zp.new.table ≡ zp.old.table }
     ensures ended { zp.new.ended ≡ zp.old.ended }
@@ -39,10 +41,10 @@ pub(crate) fn read_pixel<M: Meter>(
 {
     let mut state = contexts.state(number);
     match zp.decode(&mut state, meter) {
-        Decision::Bit(is_black) => {
+        Decision::Bit(black) => {
             contexts.set(number, state);
-            canvas.put(is_black);
-            Decision::Bit(is_black)
+            canvas.put(black);
+            Decision::Bit(black)
         }
         Decision::NeedBytes => Decision::NeedBytes,
         Decision::Exhausted => Decision::Exhausted,

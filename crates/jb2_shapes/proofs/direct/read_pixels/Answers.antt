@@ -2,7 +2,7 @@ use Rattle.std.proofs.Common.{◌*◌, sym, ap, pos, eqb-true}
 use Rattle.jb2_shapes.specs.Numbers.{states_of}
 use Rattle.jb2_shapes.specs.Shape.{direct_context, column_of, row_of}
 use Rattle.jb2_shapes.proofs.Going.{keeps_first, keeps_bit, whole_reading, needs_reading, exhausted_reading, decided_by, counts_same, still_unread, fewer_left}
-use Rattle.jb2_shapes.proofs.Windowing.{direct_number, direct_is_number, window_before}
+use Rattle.jb2_shapes.proofs.Windowing.{direct_number, direct_is_number, window_before, colour_before}
 use Rattle.jb2_shapes.proofs.direct.read_pixels.Goals as goal
 
 pub pixels-init : goal.pixels-init
@@ -59,7 +59,7 @@ returns-then-is_whole-2-clause-reads g c =
     let kept =
     keeps_bit direct_context c.args.zp.now c.args.canvas.now (states_of c.args.contexts.now) (g.M.Meter.count c.args.meter.now)
     c.pixels.zp c.pixels.canvas (states_of c.pixels.contexts) (g.M.Meter.count c.pixels.meter) c.read_pixel.result
-    c.read_pixel.new.zp c.read_pixel.new.canvas (states_of c.read_pixel.new.contexts) (g.M.Meter.count c.read_pixel.new.meter) c.in-Bit.field-0
+    c.read_pixel.new.zp c.read_pixel.new.canvas (states_of c.read_pixel.new.contexts) (g.M.Meter.count c.read_pixel.new.meter) c.in-Bit.black
     c.pixels.invariant.2 c.pixels.invariant.0
     (decided_by direct_context c.pixels.zp c.pixels.canvas (states_of c.pixels.contexts) (g.M.Meter.count c.pixels.meter) c.read_pixel.result
     c.read_pixel.new.zp c.read_pixel.new.canvas (states_of c.read_pixel.new.contexts) (g.M.Meter.count c.read_pixel.new.meter) c.number.result
@@ -75,7 +75,7 @@ returns-then-is_whole-2-clause-counts g c =
     let kept =
     keeps_bit direct_context c.args.zp.now c.args.canvas.now (states_of c.args.contexts.now) (g.M.Meter.count c.args.meter.now)
     c.pixels.zp c.pixels.canvas (states_of c.pixels.contexts) (g.M.Meter.count c.pixels.meter) c.read_pixel.result
-    c.read_pixel.new.zp c.read_pixel.new.canvas (states_of c.read_pixel.new.contexts) (g.M.Meter.count c.read_pixel.new.meter) c.in-Bit.field-0
+    c.read_pixel.new.zp c.read_pixel.new.canvas (states_of c.read_pixel.new.contexts) (g.M.Meter.count c.read_pixel.new.meter) c.in-Bit.black
     c.pixels.invariant.2 c.pixels.invariant.0
     (decided_by direct_context c.pixels.zp c.pixels.canvas (states_of c.pixels.contexts) (g.M.Meter.count c.pixels.meter) c.read_pixel.result
     c.read_pixel.new.zp c.read_pixel.new.canvas (states_of c.read_pixel.new.contexts) (g.M.Meter.count c.read_pixel.new.meter) c.number.result
@@ -86,19 +86,24 @@ returns-then-is_whole-2-clause-counts g c =
 
 pub next-window-requires-clause-window : goal.next-window-requires-clause-window
 next-window-requires-clause-window g c more =
-    window_before c.pixels.canvas c.read_pixel.new.canvas c.in-Bit.field-0 c.pixels.window (c.read_pixel.ensures.pixel c.in-Bit.field-0 c.in-Bit.is)
+    window_before c.pixels.canvas c.read_pixel.new.canvas c.in-Bit.black c.pixels.window (c.read_pixel.ensures.pixel c.in-Bit.black c.in-Bit.is)
     c.pixels.invariant.0 c.pixels.invariant.1 more
+
+pub next-window-requires-clause-colour : goal.next-window-requires-clause-colour
+next-window-requires-clause-colour g c more =
+    colour_before c.pixels.canvas c.read_pixel.new.canvas c.in-Bit.black (c.read_pixel.ensures.pixel c.in-Bit.black c.in-Bit.is)
+    c.pixels.invariant.0 (c.read_pixel.ensures.colour c.in-Bit.black c.in-Bit.is) more
 
 pub pixels-smaller : goal.pixels-smaller
 pixels-smaller g c =
-    fewer_left c.pixels.canvas c.read_pixel.new.canvas c.in-Bit.field-0 c.pixels.invariant.0 (c.read_pixel.ensures.pixel c.in-Bit.field-0 c.in-Bit.is)
+    fewer_left c.pixels.canvas c.read_pixel.new.canvas c.in-Bit.black c.pixels.invariant.0 (c.read_pixel.ensures.pixel c.in-Bit.black c.in-Bit.is)
 
 pub pixels-preserved : goal.pixels-preserved
 pixels-preserved g c =
     let kept =
     keeps_bit direct_context c.args.zp.now c.args.canvas.now (states_of c.args.contexts.now) (g.M.Meter.count c.args.meter.now)
     c.pixels.zp c.pixels.canvas (states_of c.pixels.contexts) (g.M.Meter.count c.pixels.meter) c.read_pixel.result
-    c.read_pixel.new.zp c.read_pixel.new.canvas (states_of c.read_pixel.new.contexts) (g.M.Meter.count c.read_pixel.new.meter) c.in-Bit.field-0
+    c.read_pixel.new.zp c.read_pixel.new.canvas (states_of c.read_pixel.new.contexts) (g.M.Meter.count c.read_pixel.new.meter) c.in-Bit.black
     c.pixels.invariant.2 c.pixels.invariant.0
     (decided_by direct_context c.pixels.zp c.pixels.canvas (states_of c.pixels.contexts) (g.M.Meter.count c.pixels.meter) c.read_pixel.result
     c.read_pixel.new.zp c.read_pixel.new.canvas (states_of c.read_pixel.new.contexts) (g.M.Meter.count c.read_pixel.new.meter) c.number.result

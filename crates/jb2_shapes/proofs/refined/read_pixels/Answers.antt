@@ -3,7 +3,8 @@ use Rattle.jb2_shapes.specs.Numbers.{states_of}
 use Rattle.jb2_shapes.specs.Refined.{matching_context}
 use Rattle.jb2_shapes.specs.Shape.{column_of, row_of}
 use Rattle.jb2_shapes.proofs.Going.{keeps_first, keeps_bit, whole_reading, needs_reading, exhausted_reading, decided_by, counts_same, still_unread, fewer_left}
-use Rattle.jb2_shapes.proofs.Windowing.{refined_number, refined_is_number, refined_before}
+use Rattle.jb2_shapes.proofs.Windowing.{colour_before}
+use Rattle.jb2_shapes.proofs.RefinedWindowing.{refined_number, refined_is_number, refined_before}
 use Rattle.jb2_shapes.proofs.refined.read_pixels.Goals as goal
 
 pub pixels-init : goal.pixels-init
@@ -60,7 +61,7 @@ returns-then-is_whole-2-clause-reads g c =
     let kept =
     keeps_bit (matching_context c.args.matching.now) c.args.zp.now c.args.canvas.now (states_of c.args.contexts.now) (g.M.Meter.count c.args.meter.now)
     c.pixels.zp c.pixels.canvas (states_of c.pixels.contexts) (g.M.Meter.count c.pixels.meter) c.read_pixel.result
-    c.read_pixel.new.zp c.read_pixel.new.canvas (states_of c.read_pixel.new.contexts) (g.M.Meter.count c.read_pixel.new.meter) c.in-Bit.field-0
+    c.read_pixel.new.zp c.read_pixel.new.canvas (states_of c.read_pixel.new.contexts) (g.M.Meter.count c.read_pixel.new.meter) c.in-Bit.black
     c.pixels.invariant.2 c.pixels.invariant.0
     (decided_by (matching_context c.args.matching.now) c.pixels.zp c.pixels.canvas (states_of c.pixels.contexts) (g.M.Meter.count c.pixels.meter) c.read_pixel.result
     c.read_pixel.new.zp c.read_pixel.new.canvas (states_of c.read_pixel.new.contexts) (g.M.Meter.count c.read_pixel.new.meter) c.number.result
@@ -76,7 +77,7 @@ returns-then-is_whole-2-clause-counts g c =
     let kept =
     keeps_bit (matching_context c.args.matching.now) c.args.zp.now c.args.canvas.now (states_of c.args.contexts.now) (g.M.Meter.count c.args.meter.now)
     c.pixels.zp c.pixels.canvas (states_of c.pixels.contexts) (g.M.Meter.count c.pixels.meter) c.read_pixel.result
-    c.read_pixel.new.zp c.read_pixel.new.canvas (states_of c.read_pixel.new.contexts) (g.M.Meter.count c.read_pixel.new.meter) c.in-Bit.field-0
+    c.read_pixel.new.zp c.read_pixel.new.canvas (states_of c.read_pixel.new.contexts) (g.M.Meter.count c.read_pixel.new.meter) c.in-Bit.black
     c.pixels.invariant.2 c.pixels.invariant.0
     (decided_by (matching_context c.args.matching.now) c.pixels.zp c.pixels.canvas (states_of c.pixels.contexts) (g.M.Meter.count c.pixels.meter) c.read_pixel.result
     c.read_pixel.new.zp c.read_pixel.new.canvas (states_of c.read_pixel.new.contexts) (g.M.Meter.count c.read_pixel.new.meter) c.number.result
@@ -87,19 +88,24 @@ returns-then-is_whole-2-clause-counts g c =
 
 pub next-window-requires-clause-window : goal.next-window-requires-clause-window
 next-window-requires-clause-window g c more =
-    refined_before c.args.matching.now c.pixels.canvas c.read_pixel.new.canvas c.in-Bit.field-0 c.pixels.window (c.read_pixel.ensures.pixel c.in-Bit.field-0 c.in-Bit.is)
+    refined_before c.args.matching.now c.pixels.canvas c.read_pixel.new.canvas c.in-Bit.black c.pixels.window (c.read_pixel.ensures.pixel c.in-Bit.black c.in-Bit.is)
     c.pixels.invariant.0 c.pixels.invariant.1 more
+
+pub next-window-requires-clause-colour : goal.next-window-requires-clause-colour
+next-window-requires-clause-colour g c more =
+    colour_before c.pixels.canvas c.read_pixel.new.canvas c.in-Bit.black (c.read_pixel.ensures.pixel c.in-Bit.black c.in-Bit.is)
+    c.pixels.invariant.0 (c.read_pixel.ensures.colour c.in-Bit.black c.in-Bit.is) more
 
 pub pixels-smaller : goal.pixels-smaller
 pixels-smaller g c =
-    fewer_left c.pixels.canvas c.read_pixel.new.canvas c.in-Bit.field-0 c.pixels.invariant.0 (c.read_pixel.ensures.pixel c.in-Bit.field-0 c.in-Bit.is)
+    fewer_left c.pixels.canvas c.read_pixel.new.canvas c.in-Bit.black c.pixels.invariant.0 (c.read_pixel.ensures.pixel c.in-Bit.black c.in-Bit.is)
 
 pub pixels-preserved : goal.pixels-preserved
 pixels-preserved g c =
     let kept =
     keeps_bit (matching_context c.args.matching.now) c.args.zp.now c.args.canvas.now (states_of c.args.contexts.now) (g.M.Meter.count c.args.meter.now)
     c.pixels.zp c.pixels.canvas (states_of c.pixels.contexts) (g.M.Meter.count c.pixels.meter) c.read_pixel.result
-    c.read_pixel.new.zp c.read_pixel.new.canvas (states_of c.read_pixel.new.contexts) (g.M.Meter.count c.read_pixel.new.meter) c.in-Bit.field-0
+    c.read_pixel.new.zp c.read_pixel.new.canvas (states_of c.read_pixel.new.contexts) (g.M.Meter.count c.read_pixel.new.meter) c.in-Bit.black
     c.pixels.invariant.2 c.pixels.invariant.0
     (decided_by (matching_context c.args.matching.now) c.pixels.zp c.pixels.canvas (states_of c.pixels.contexts) (g.M.Meter.count c.pixels.meter) c.read_pixel.result
     c.read_pixel.new.zp c.read_pixel.new.canvas (states_of c.read_pixel.new.contexts) (g.M.Meter.count c.read_pixel.new.meter) c.number.result

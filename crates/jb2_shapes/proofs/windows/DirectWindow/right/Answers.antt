@@ -1,14 +1,8 @@
-use Rattle.std.proofs.Common.{pos, ◌-ℤ◌, ap, ◌∙◌, add-zero}
-use Rattle.bit_plane.specs.Pixels.{is_black}
-use Rattle.jb2_shapes.specs.Shape.{column_of, row_of}
-use Rattle.jb2_shapes.proofs.Windowing.{window_right}
+use Rattle.std.proofs.Common.{refl, arith}
+use Rattle.jb2_shapes.proofs.Windowing.{window_next}
 use Rattle.jb2_shapes.proofs.windows.DirectWindow.right.Goals as goal
 
 pub returns : goal.returns
-returns c =
-    let shape = c.args.canvas.now.shape in
-    let x = column_of c.args.canvas.now in
-    let y = row_of c.args.canvas.now in
-    window_right shape (pos x) (pos y) c.args.self _ c.near.result c.near-2.result c.near-3.result c.requires.window
-    c.joined.ensures c.joined-2.ensures c.joined-3.ensures c.near.ensures c.near-2.ensures
-    (c.near-3.ensures ∙ ap (λ n. is_black shape (pos x -ℤ pos 1) (pos n)) (add-zero y))
+returns c shape x y window colour =
+    window_next shape x y c.args.self _ c.is_set.result c.is_set-2.result c.args.black window colour c.requires
+    c.joined.ensures c.joined-2.ensures c.joined-3.ensures c.is_set.ensures c.is_set-2.ensures refl refl (omega arith)

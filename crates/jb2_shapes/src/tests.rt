@@ -1,4 +1,4 @@
-ghost use Rattle.std.specs.Prelude.{◌≡◌, ◌≤◌, length, false, IfSome};
+ghost use Rattle.std.specs.Prelude.{◌≡◌, ◌<◌, ◌≤◌, length, false, IfSome};
 ghost use Rattle.jb2_shapes.specs.Contexts.{AreBelow};
 ghost use Rattle.jb2_shapes.specs.Numbers.{states_of};
 
@@ -9,7 +9,7 @@ use std::alloc::{AllocError, Global};
 use std::process::Abort;
 use std::sync::Arc;
 use std::test::Fail;
-use zp_decoder::ZpDecoder;
+use zp_decoder::{Decision, ZpDecoder};
 use zp_table::Table;
 
 /// Bytes without a pattern.
@@ -60,12 +60,12 @@ fn has_rows(shape: &Plane, rows: &[&str]) -> bool {
     true
 }
 
-/// A decoder with the table of DjVu files, and contexts at the beginning of a chunk.
-fn begin(alloc: Global) -> Option<(ZpDecoder, ShapeContexts)>
+/// A decoder with a table, and contexts at the beginning of a chunk.
+fn begin(alloc: Global, table: Table) -> Option<(ZpDecoder, ShapeContexts)>
+    ensures some { IfSome result (λ pair. 0 < length pair.0.table) }
     ensures below { IfSome result (λ pair. AreBelow (length pair.0.table) (states_of pair.1)) }
     ensures open_end { IfSome result (λ pair. pair.0.ended ≡ false) }
 {
-    let table = Table::djvu(alloc).ok()?;
     let some = table.len();
     prove!(some > 0);
     let table = Arc::new(alloc, table).ok()?;
@@ -77,7 +77,7 @@ fn begin(alloc: Global) -> Option<(ZpDecoder, ShapeContexts)>
 fn read_both(rt: &impl Abort, alloc: Global, cut: usize) -> Result<(), Fail>
     requires { cut ≤ 96 }
 {
-    let Some((mut zp, mut contexts)) = begin(alloc) else {
+    let Some((mut zp, mut contexts)) = begin(alloc, Table::djvu(alloc)?) else {
         panic!(rt; "memory is ample");
     };
     let mut meter = CountMeter::new();
@@ -112,4 +112,59 @@ fn shapes_are_read_in_pieces(rt: HostRuntime) -> Result<(), Fail> {
         read_both(&rt, rt.alloc(), cut)?;
     }
     Ok(())
+}
+
+/// Whether the next decisions are these, each in a context that stands at its start.
+fn are_decided(zp: &mut ZpDecoder, meter: &mut CountMeter, decisions: &str) -> bool
+    requires { 0 < length zp.old.table }
+    ensures table { zp.new.table ≡ zp.old.table }
+    ensures ended { zp.new.ended ≡ zp.old.ended }
+{
+    for decision in decisions.bytes() {
+        let mut state = 0;
+        if zp.decode(&mut state, meter) != Decision::Bit(decision == b'1') {
+            return false;
+        }
+    }
+    true
+}
+
+/// The chunk of a mask of one pixel: a direct shape of one pixel for the library, and then a mark that refines it. What
+/// stands before and behind the two pixels is decided here apart. All its decisions are 39.
+fn read_refined_dot(rt: &impl Abort, alloc: Global) -> Result<(), Fail> {
+    let Some((mut zp, mut contexts)) = begin(alloc, Table::flat(alloc)?) else {
+        panic!(rt; "memory is ample");
+    };
+    let mut meter = CountMeter::new();
+    zp.push(&[0xB7, 0x4D, 0x88, 0xA1, 0xA1])?;
+    zp.end();
+    // A start of width 1 and height 1, and a library shape of width 1 and height 1.
+    assert!(rt; are_decided(&mut zp, &mut meter, "01001000"));
+    assert!(rt; are_decided(&mut zp, &mut meter, "101100100"));
+    let mut direct = DirectReader::begin(alloc, 1, 1)?;
+    assert_eq!(rt;
+        direct.advance(&mut contexts, &mut zp, &mut meter),
+        ShapeStep::Done
+    );
+    assert_eq!(rt; meter.count(), 18);
+    let dot = direct.take();
+    assert!(rt; has_rows(&dot, &["#"]));
+    // A refined mark with the differences 0 and 0.
+    assert!(rt; are_decided(&mut zp, &mut meter, "110111010"));
+    let mut refined = RefineReader::begin(alloc, 1, 1, Arc::new(alloc, dot)?)?;
+    assert_eq!(rt;
+        refined.advance(&mut contexts, &mut zp, &mut meter),
+        ShapeStep::Done
+    );
+    assert_eq!(rt; meter.count(), 28);
+    assert!(rt; has_rows(&refined.take(), &["#"]));
+    // Its place, and the end.
+    assert!(rt; are_decided(&mut zp, &mut meter, "11100101111"));
+    assert_eq!(rt; meter.count(), 39);
+    Ok(())
+}
+
+#[test]
+fn a_pixel_refines_a_pixel(rt: HostRuntime) -> Result<(), Fail> {
+    read_refined_dot(&rt, rt.alloc())
 }

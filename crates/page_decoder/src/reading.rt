@@ -39,8 +39,8 @@ pub struct PageReading {
     pub end: PageEnd,
 }
 
-/// Reads a page with a state table, up to its first fault. Each decision ticks the meter once; where there is no memory, only
-/// those that were read before did.
+/// Reads a page with a state table, up to its first fault. Each decision ticks the meter once; where there is no memory, no
+/// more than all of them did.
 pub fn read_page<M: Meter>(
     alloc: Global,
     table: &Arc<Table>,

@@ -2,7 +2,7 @@
 //!
 //! `draw [--table T] PAGE [PAGE ..]` draws pages, each in its size: black where its mask is, and white elsewhere. `info PAGE
 //! [PAGE ..]` lists the chunks of files. `run` is the call; its contract says which bytes both sinks get, by how much the
-//! meter rises, and which status comes when.
+//! meter rises, and what each status says.
 //!
 //! How a page is read is said in `page_decoder`. `specs/` has the other definitions: `Texts` (what is written for a page),
 //! `Info` (the chunks of a file, in lines), `Front` (what stands before the pages), `Cut` (a library whose files broke off),

@@ -8,3 +8,4 @@ pub mod Walks
 pub mod Starting
 pub mod Running
 pub mod Working
+pub mod Finishing

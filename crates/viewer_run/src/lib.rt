@@ -27,6 +27,6 @@ mod texts;
 mod whole;
 mod worked;
 
-pub use laws::{sound_folders, work_is_decisions};
+pub use laws::{sound_folders, unrefused_pages_are_drawn, work_is_decisions};
 pub use whole::run;
 pub use worked::{worked_fronts, worked_infos, worked_masks, worked_runs};

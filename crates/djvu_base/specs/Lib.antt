@@ -1,4 +1,6 @@
 pub mod Name
 pub mod Library
 pub mod FaultKind
+pub mod Meter
+pub mod Text
 pub mod Picture

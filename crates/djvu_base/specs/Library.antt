@@ -1,11 +1,17 @@
 -- Libraries: the files that a run works on, and how much of each is there.
 use Rattle.std.specs.Prelude.{ℕ, List, [], ◌∷◌, map, take, Option, Some, None, if◌then◌else◌, bytes_eq}
+use Rattle.djvu_base.specs.declared.ends.FileEnd.{FileEnd}
+use Rattle.djvu_base.specs.declared.ends.FileEnd.TheVariants as file_end
 
--- what is known of a file's end: more bytes may come, these are all, or the file broke off behind them
+-- what is known of a file's end: more bytes may come, these are all, or the file broke off after them
 pub data Mark : Type 0 where
   Open : Mark
   Whole : Mark
   Broken : Mark
+
+abbrev pub mark_of : FileEnd → Mark
+mark_of file_end.Whole = Whole
+mark_of file_end.Broken = Broken
 
 pub record File : Type 0 where
   pub name : List ℕ

@@ -1,6 +1,6 @@
 -- Names of files, as lists of bytes.
 use Rattle.std.specs.Prelude.{ℕ, Bool, true, not, ◌&&◌, ◌||◌, ◌==◌, List, [], ◌∷◌, length, nat_le, codes, bytes_eq, IsTrue}
-use Rattle.std.specs.List.{list_all}
+use Rattle.std.specs.List.{list_all, list_any}
 use Rattle.std.specs.Str.{is_utf8}
 use Rattle.std.specs.Ordering.{nat_cmp, is_lt}
 use Rattle.std.specs.Cmp.Lexicographic.{slice_cmp}
@@ -35,3 +35,7 @@ is_ascending (name ∷ next ∷ names) = is_before name next && is_ascending (ne
 
 abbrev pub IsAscending : List (List ℕ) → Type 0
 IsAscending names = IsTrue (is_ascending names)
+
+-- whether a list of names has this one
+abbrev pub is_listed : List (List ℕ) → List ℕ → Bool
+is_listed names name = list_any (λ listed. bytes_eq name listed) names

@@ -1,7 +1,17 @@
-//! Worked values of the definitions, as clauses of functions that do nothing.
-ghost use Rattle.std.specs.Prelude.{◌≡◌, true, false, [], ◌∷◌, codes, Some, None};
+//! Laws and worked values of the definitions, as clauses of functions that do nothing.
+ghost use Rattle.std.specs.Prelude.{◌≡◌, ◌≤◌, ◌+◌, ◌^◌, ◌-◌, ℕ, min, true, false, [], ◌∷◌, codes, Some, None};
 ghost use Rattle.djvu_base.specs.Name.{is_name, is_before, is_ascending};
 ghost use Rattle.djvu_base.specs.Library.{Whole, library_within, contents_of, file_named};
+ghost use Rattle.djvu_base.specs.Meter.{ticked_once, ticked};
+
+/// Ticks add up, and a count that they raise never falls.
+pub fn ticks_add_up()
+    ensures none { (count : ℕ) → ticked 0 count ≡ count }
+    ensures one { (count : ℕ) → ticked 1 count ≡ ticked_once count }
+    ensures both { (more ticks count : ℕ) → ticked more (ticked ticks count) ≡ ticked (more + ticks) count }
+    ensures never_falls { (ticks count : ℕ) → count ≤ ticked ticks count }
+    ensures from_zero { (ticks : ℕ) → ticked ticks 0 ≡ min ticks (2 ^ 64 - 1) }
+{}
 
 /// Bytes that are names, and bytes that aren't.
 pub fn worked_names()

@@ -1,24 +1,24 @@
-//! What every crate of the viewer speaks of: names of files, faults and their places, meters, rasters, lists
-//! and shares.
+//! What every crate of the viewer speaks of: names of files, how files end, faults and their places, meters,
+//! rasters, lists and shares.
 //!
-//! `specs/` has the definitions that the contracts cite: `Name` (what a name is, and the order of names), `Library`
-//! (the files that a run works on), `FaultKind` (the words of faults) and `Picture` (what a raster holds).
+//! `specs/` has the definitions that the contracts cite: `Name` (what a name is, the order of names, and lists of names),
+//! `Library` (the files that a run works on), `FaultKind` (the words of faults), `Meter` (how ticks raise a count), `Text`
+//! (bytes of text) and `Picture` (what a raster holds). `proofs/Ticks` has the lemmas that crates above may cite.
 #![tactic(auto)]
 
+mod ends;
 mod faults;
-mod laws;
+pub mod laws;
 mod lists;
 mod meters;
 mod names;
 mod rasters;
 mod shares;
-#[cfg(test)]
-mod tests;
 
+pub use ends::FileEnd;
 pub use faults::{Fault, FaultKind, Place};
-pub use laws::{worked_files, worked_names, worked_orders};
 pub use lists::Items;
 pub use meters::{CountMeter, Meter};
-pub use names::Name;
+pub use names::{Name, is_listed};
 pub use rasters::Raster;
 pub use shares::Share;

@@ -1,5 +1,6 @@
 //! Meters, which count the decisions of decoders.
-ghost use Rattle.std.specs.Prelude.{◌≡◌, ℕ, ◌+◌, ◌-◌, ◌^◌, min};
+ghost use Rattle.std.specs.Prelude.{◌≡◌, ℕ};
+ghost use Rattle.djvu_base.specs.Meter.{ticked_once};
 
 use std::marker::Model;
 
@@ -10,7 +11,7 @@ pub trait Meter {
 
     /// Counts one decision. At `u64::MAX` the count stands still.
     fn tick(&mut self)
-        ensures { count self.new ≡ min (count self.old + 1) (2 ^ 64 - 1) };
+        ensures { count self.new ≡ ticked_once (count self.old) };
 }
 
 /// A meter that only counts.

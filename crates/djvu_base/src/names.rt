@@ -2,7 +2,7 @@
 ghost use Rattle.std.specs.Prelude.{◌≡◌, IfOk, IfSome, is_some};
 ghost use Rattle.std.specs.List.{list_all};
 ghost use Rattle.std.specs.Str.{is_utf8};
-ghost use Rattle.djvu_base.specs.Name.{IsName, is_name, is_plain_byte, is_dots, has_name_length};
+ghost use Rattle.djvu_base.specs.Name.{IsName, is_name, is_plain_byte, is_dots, has_name_length, is_listed};
 
 use std::alloc::{AllocError, Global};
 use std::marker::Model;
@@ -53,6 +53,13 @@ impl Name {
         let text = Vec::from_slice(alloc, self.text.as_slice())?;
         Ok(Name { text })
     }
+}
+
+/// Whether the list has a name of these bytes.
+pub fn is_listed(names: &[Name], name: &[u8]) -> bool
+    ensures { result ≡ is_listed names.now name.now }
+{
+    names.iter().any(|listed| name == listed.bytes())
 }
 
 fn is_name(bytes: &[u8]) -> bool

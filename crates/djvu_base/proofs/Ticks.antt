@@ -1,0 +1,45 @@
+-- How ticks raise a count.
+use Rattle.std.proofs.Common.{◌≡◌, ℕ, ◌+◌, ◌^◌, ◌-◌, ◌≤◌, min, ◌∙◌, ap, sym, arith}
+use Rattle.std.proofs.lemmas.Grind.{common_steps}
+use Rattle.djvu_base.specs.Meter.{ticked_once, ticked, TicksExactly, TicksAtMost}
+
+pub ticked_none : (count : ℕ) → ticked 0 count ≡ count
+ticked_none count = grind (arith, common_steps)
+
+pub ticked_one : (count : ℕ) → ticked 1 count ≡ ticked_once count
+ticked_one count = grind (arith, common_steps)
+
+-- ticks after others
+pub ticked_both : (more ticks count : ℕ) → ticked more (ticked ticks count) ≡ ticked (more + ticks) count
+ticked_both more ticks count = grind (arith, common_steps)
+
+pub ticked_grows : (ticks count : ℕ) → count ≤ ticked ticks count
+ticked_grows ticks count = grind (arith, common_steps)
+
+pub ticked_more : (less more : ℕ) → less ≤ more → ticked less 0 ≤ ticked more 0
+ticked_more less more le = grind (arith, common_steps)
+
+pub ticks_both : (first last before mid after : ℕ) → TicksExactly first before mid → TicksExactly last mid after → TicksExactly (first + last) before after
+ticks_both first last before mid after is_mid is_after =
+    let turned : last + first ≡ first + last = omega arith in
+    is_after ∙ ap (ticked last) is_mid ∙ ticked_both last first before ∙ ap (λ n. ticked n before) turned
+
+-- no tick
+pub ticks_none : (count : ℕ) → TicksExactly 0 count count
+ticks_none count = sym (ticked_none count)
+
+-- exactly so many are at most so many
+pub exactly_at_most : (ticks before after : ℕ) → TicksExactly ticks before after → TicksAtMost ticks before after
+exactly_at_most ticks before after e = (ticks, omega arith, e)
+
+pub at_most_none : (most count : ℕ) → TicksAtMost most count count
+at_most_none most count = (0, omega arith, sym (ticked_none count))
+
+-- a part that was counted whole, and then another in part
+pub at_most_after : (first most before mid after : ℕ) → TicksExactly first before mid → TicksAtMost most mid after → TicksAtMost (first + most) before after
+at_most_after first most before mid after is_mid at_most =
+    (first + at_most.0, omega (arith, at_most.1), ticks_both first at_most.0 before mid after is_mid at_most.2)
+
+-- at most as many as a larger number
+pub at_most_more : (most more before after : ℕ) → most ≤ more → TicksAtMost most before after → TicksAtMost more before after
+at_most_more most more before after le at_most = (at_most.0, omega (arith, le, at_most.1), at_most.2)

@@ -1,0 +1,28 @@
+//! Tests of the decoders' layers, over their public calls: what no clause says. Their values were worked out by hand, or by
+//! another program after the rules in `docs/`.
+#![tactic(auto)]
+
+#[cfg(test)]
+mod coefficients;
+#[cfg(test)]
+mod decisions;
+#[cfg(test)]
+mod drawings;
+#[cfg(test)]
+mod numbers;
+#[cfg(test)]
+mod places;
+#[cfg(test)]
+mod planes;
+#[cfg(test)]
+mod records;
+#[cfg(test)]
+mod shapes;
+#[cfg(test)]
+mod shared;
+#[cfg(test)]
+mod tables;
+#[cfg(test)]
+mod threads;
+#[cfg(test)]
+mod transforms;

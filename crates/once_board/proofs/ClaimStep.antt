@@ -9,10 +9,10 @@ use Rattle.once_board.specs.declared.holds.Hold.{Hold}
 use Rattle.once_board.specs.declared.holds.Stage.TheVariants.{Idle}
 use Rattle.once_board.specs.declared.holds.Seen.{Seen}
 use Rattle.once_board.specs.declared.owners.Owner.{Owner}
-use Rattle.once_board.specs.Numbers.{times}
+use Rattle.once_board.specs.Numbers.{times, total}
 use Rattle.once_board.specs.Places.{record_of, read, claimed, IsFree, Grows}
 use Rattle.once_board.specs.Holds.{won, saw, MayClaim, Extends}
-use Rattle.once_board.specs.Rule.{Content, vacant, awaited, filling, ready, lent, total, word_of, value_of, claim_count, fills, turn_of, one_if_some, IsHome, At, at, Knows, PlaceOk, SeatOk, Rule}
+use Rattle.once_board.specs.Rule.{Content, vacant, awaited, filling, ready, lent, word_of, value_of, claim_count, fills, turn_of, one_if_some, IsHome, At, at, Knows, PlaceOk, SeatOk, Rule, fill_count, turn_count}
 use Rattle.once_board.specs.Told.{IsSound, Follows, WasNew, Seated, idle, Claimed, claim_told}
 use Rattle.once_board.specs.declared.answers.Claiming.TheVariants.{Won, Taken}
 use Rattle.once_board.specs.Boards.{Claims}
@@ -67,8 +67,8 @@ module _ {T : Type 0} (fits : ℕ → T → Type 0) (owners : List Owner) where
     saw_keeps = keeps fits owners s r id v after p found s.homes e (r.contents p) saw_off refl refl refl (λ q ne. refl)
         (record { claims_need_a_part = (r.seat_each id v e).claims_need_a_part; joined_well = tt })
         (here fits owners s r id v after p found s.homes e (r.contents p) (r.contents p) (r.place_each p) inside word_is refl refl
-        (ap (λ st. fills p st + Rattle.once_board.specs.Rule.fill_count (r.contents p)) (sym idles))
-        (ap (λ st. one_if_some (turn_of p st) + Rattle.once_board.specs.Rule.turn_count (r.contents p)) (sym idles))
+        (ap (λ st. fills p st + fill_count (r.contents p)) (sym idles))
+        (ap (λ st. one_if_some (turn_of p st) + turn_count (r.contents p)) (sym idles))
         ((r.place_each p).home inside) (r.place_each p).may_stand saw_knows (λ j u ne d k. k))
 
     pub follows : Follows found (record_of v.hold.places p)

@@ -16,7 +16,7 @@ use Rattle.once_board.specs.Numbers.{times}
 use Rattle.once_board.specs.Places.{record_of, met, either_value, Grows}
 use Rattle.once_board.specs.Holds.{nothing, joined}
 use Rattle.once_board.specs.Rule.{word_of, value_of, fills, turn_of, one_if_some, at, Knows, Met, IsMet, SeatOk, Rule}
-use Rattle.once_board.specs.Told.{Seated, idle, meeting, settle_told}
+use Rattle.once_board.specs.Told.{Seated, idle, seats_joined, settle_told}
 use Rattle.once_board.proofs.Sums.{times-append, total_same}
 use Rattle.once_board.proofs.Records.{record_of-together}
 use Rattle.once_board.proofs.Changes.{at_same}
@@ -81,7 +81,7 @@ module _ {T : Type 0} (owners : List Owner) where
     abbrev kw : ℕ → Known T
     kw p = record_of w.hold.places p
 
-    both_at : (p : ℕ) → at p (meeting v w) ≡ record { claims = times p (v.hold.claims ++ w.hold.claims); puts = times p (v.hold.puts ++ w.hold.puts); fills_it = 0; turn = None; known = met (kv p) (kw p); rights = v.hold.rights ++ w.hold.rights }
+    both_at : (p : ℕ) → at p (seats_joined v w) ≡ record { claims = times p (v.hold.claims ++ w.hold.claims); puts = times p (v.hold.puts ++ w.hold.puts); fills_it = 0; turn = None; known = met (kv p) (kw p); rights = v.hold.rights ++ w.hold.rights }
     both_at p = at_same _ _ refl refl refl refl (record_of-together v.hold.places w.hold.places p) refl
 
     module _ (p word : ℕ) (value : Option T) (k : Knows owners p word value (at p v)) (l : Knows owners p word value (at p w)) where
@@ -106,7 +106,7 @@ module _ {T : Type 0} (owners : List Owner) where
           (λ b. either_other (kv p).value (kw p).value x (λ y it. one_value x y it is) (l.own_value b x is))
           (times_from p v.hold.claims w.hold.claims h)
 
-      both_knows : Knows owners p word value (at p (meeting v w))
+      both_knows : Knows owners p word value (at p (seats_joined v w))
       both_knows = subst (λ a. Knows owners p word value a) (sym (both_at p)) (record {
         true_value = both_value;
         open_value = both_open;
@@ -141,12 +141,12 @@ module _ {T : Type 0} (owners : List Owner) where
       claimed_there h = either_claimed (subst (λ (z : Known T). 1 ≤ z.word) (record_of-together v.hold.places w.hold.places p) h)
 
 module _ {T : Type 0} (fits : ℕ → T → Type 0) (owners : List Owner) where
-  pub meets : (id : ℕ) (v : Seen T) (other : ℕ) (w : Seen T) → v.stage ≡ Idle → w.stage ≡ Idle → Joins (Rule fits owners) id v other w (meeting v w) (idle nothing)
-  meets id v other w idles rests s r e apart d =
-      let was = other_was fits owners s r id other v w (meeting v w) (idle nothing) e apart d in
+  pub joins_seats : (id : ℕ) (v : Seen T) (other : ℕ) (w : Seen T) → v.stage ≡ Idle → w.stage ≡ Idle → Joins (Rule fits owners) id v other w (seats_joined v w) (idle nothing)
+  joins_seats id v other w idles rests s r e apart d =
+      let was = other_was fits owners s r id other v w (seats_joined v w) (idle nothing) e apart d in
       let k = λ (p : ℕ). (r.place_each p).knowers id v e in
       let l = λ (p : ℕ). (r.place_each p).knowers other w was in
-      joins_well fits owners s r id other v w (meeting v w) (idle nothing) e apart d
+      joins_well fits owners s r id other v w (seats_joined v w) (idle nothing) e apart d
       (record {
         same_rights = λ x. let t = times-append x v.hold.rights w.hold.rights in omega arith;
         same_parts = omega arith;

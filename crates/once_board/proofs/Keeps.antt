@@ -10,10 +10,10 @@ use Rattle.atomic_table.specs.Table.{State}
 use Rattle.atomic_table.proofs.Lists.{at_set}
 use Rattle.once_board.specs.declared.holds.Seen.{Seen}
 use Rattle.once_board.specs.declared.owners.Owner.{Owner}
-use Rattle.once_board.specs.Numbers.{times}
+use Rattle.once_board.specs.Numbers.{times, total}
 use Rattle.once_board.specs.Places.{record_of}
 use Rattle.once_board.specs.Holds.{AwaitsPuts}
-use Rattle.once_board.specs.Rule.{Content, vacant, awaited, filling, ready, lent, total, word_of, value_of, claim_count, put_count, fill_count, turn_count, one_if_some, IsHome, at, Knows, PlaceOk, SeatOk, Rule}
+use Rattle.once_board.specs.Rule.{Content, vacant, awaited, filling, ready, lent, word_of, value_of, claim_count, put_count, fill_count, turn_count, one_if_some, IsHome, at, Knows, PlaceOk, SeatOk, Rule}
 use Rattle.once_board.specs.Told.{IsSound}
 use Rattle.once_board.proofs.Changes.{none_of}
 use Rattle.once_board.proofs.Sums.{total_set, total_same, total_one, total_two, total_alone}

@@ -12,11 +12,11 @@ use Rattle.once_board.specs.declared.holds.Known.{Known}
 use Rattle.once_board.specs.declared.holds.Stage.TheVariants.{Idle, Turn}
 use Rattle.once_board.specs.declared.holds.Seen.{Seen}
 use Rattle.once_board.specs.declared.owners.Owner.{Owner}
-use Rattle.once_board.specs.Numbers.{times}
+use Rattle.once_board.specs.Numbers.{times, total}
 use Rattle.once_board.specs.Places.{record_of, noted, read, opened, IsPrivate}
 use Rattle.once_board.specs.Holds.{saw, learned, OwnsAll, Extends}
-use Rattle.once_board.specs.Rule.{Content, vacant, awaited, filling, ready, lent, total, word_of, value_of, claim_count, fill_count, put_count, turn_count, fills, turn_of, one_if_some, IsHome, At, at, Knows, PlaceOk, SeatOk, Rule}
-use Rattle.once_board.specs.Told.{IsSound, Seated, seen, idle, Looked, look_told, learn_told, leave_told}
+use Rattle.once_board.specs.Rule.{Content, vacant, awaited, filling, ready, lent, word_of, value_of, claim_count, fill_count, put_count, turn_count, fills, turn_of, one_if_some, IsHome, At, at, Knows, PlaceOk, SeatOk, Rule, IsMet}
+use Rattle.once_board.specs.Told.{IsSound, Seated, seen, idle, Looked, look_told, learn_told}
 use Rattle.once_board.proofs.Sums.{set_there, total_one}
 use Rattle.once_board.proofs.Records.{noted_here, noted_else}
 use Rattle.once_board.proofs.Changes.{at_same, turn_else, turn_here}
@@ -194,7 +194,7 @@ module _ {T : Type 0} (fits : ℕ → T → Type 0) (owners : List Owner) where
         (length-set s.homes p (some (Some x))) (λ q ne. set_else s.homes p q (some (Some x)) ne)
         (record {
           claims_need_a_part = λ none q. ap (times q) claims ∙ (r.seat_each id v e).claims_need_a_part (sym parts ∙ none) q;
-          joined_well = subst (λ st. Rattle.once_board.specs.Rule.IsMet owners st w.hold) (sym idles) tt;
+          joined_well = subst (λ st. IsMet owners st w.hold) (sym idles) tt;
         })
         (here fits owners s r id v w p 2 again e (lent x) (ready x) ok inside refl
         (ap (λ a. a.claims + 1) is) (ap (λ a. a.puts + 1) is)
@@ -255,35 +255,6 @@ module _ {T : Type 0} (fits : ℕ → T → Type 0) (owners : List Owner) where
     pub learn_sound : IsSound fits (learned p x v.hold)
     learn_sound = back_sound s r id p x v learner (opened x (record_of v.hold.places p)) at_it e inside learn_at learn_off refl refl refl refl learn_known
 
-    abbrev leaver : Seen T
-    leaver = idle v.hold
-
-    leave_at : at p leaver ≡ record { claims = times p v.hold.claims; puts = times p v.hold.puts; fills_it = 0; turn = None; known = record_of v.hold.places p; rights = v.hold.rights }
-    leave_at = at_same _ _ refl refl refl refl refl refl
-
-    leave_off : OffSame fits owners p v leaver
-    leave_off q ne = at_same _ _ refl refl (ap (fills q) (sym at_it)) (sym (ap (turn_of q) at_it ∙ turn_else p q x ne)) refl refl
-
-    leave_known : Knows owners p 3 (Some x) (at p v) → Knows owners p 2 (Some x) (record { claims = times p v.hold.claims; puts = times p v.hold.puts; fills_it = 0; turn = None; known = record_of v.hold.places p; rights = v.hold.rights })
-    leave_known l = record {
-      true_value = l.true_value;
-      open_value = l.open_value;
-      was_claimed = λ h. omega arith;
-      was_open = λ h. omega arith;
-      shown = l.shown;
-      own_value = l.own_value;
-      put_claimed = l.put_claimed;
-      fill_claimed = omega arith;
-      has_turn = λ y h. absurd (cc);
-      own_place = λ right private mine h. l.own_place right private mine (omega arith);
-    }
-
-    pub leave_keeps : Rule fits owners (changed fits owners s p 2 (set s.homes p (some (Some x))) id leaver)
-    leave_keeps = back_keeps s r id p x v leaver (record_of v.hold.places p) at_it e inside leave_at leave_off refl refl refl refl leave_known
-
-    pub leave_sound : IsSound fits v.hold
-    leave_sound = back_sound s r id p x v leaver (record_of v.hold.places p) at_it e inside leave_at leave_off refl refl refl refl leave_known
-
   -- one turn has one value
   pub same_turn : (p q : ℕ) (x y : T) → Turn p x ≡ Turn q y → x ≡ y
   same_turn p q x y e = cc
@@ -302,13 +273,7 @@ module _ {T : Type 0} (fits : ℕ → T → Type 0) (owners : List Owner) where
             ((λ i. idle (learned (there i) (it i) v.hold)), refl, learn_sound s r id p x v at_it e inside')),
       )
 
-  leaves_held : (slots id p : ℕ) (x : T) (v : Seen T) → v.stage ≡ Turn p x → p < slots
-      → Allows (Rule fits owners) slots id (v, (p, Some x) ∷ []) (suc p) (λ _. 2) (λ _. leave_told fits (step slots (suc p) 2 0 none) (v, (p, Some x) ∷ []) 2)
-  leaves_held slots id p x v at_it inside s r long e small =
-      let inside' : p < length s.homes = omega arith in
-      (idle v.hold, gives, tt, leave_keeps s r id p x v at_it e inside', (refl, refl, leave_sound s r id p x v at_it e inside'))
-
-  -- all three in the words of the code
+  -- both in the words of the code
   pub looks_next : (slots id p : ℕ) (m : Seated T) (key : List Owner) → key ≡ owners → m.0.stage ≡ Idle → p < slots
       → Allows (Rule fits key) slots id m (p + 1) (λ n. either (n == 2) 3 n) (look_told fits owners (step slots (p + 1) 2 3 none) m)
   looks_next slots id p m key is idles inside =
@@ -320,9 +285,3 @@ module _ {T : Type 0} (fits : ℕ → T → Type 0) (owners : List Owner) where
   learns_next slots id p x m at_it has inside =
       let P : ℕ → List (ℕ × Option T) → Type 0 = λ i slot. Allows (Rule fits owners) slots id (m.0, slot) i (λ _. 2) (λ _. learn_told fits (step slots i 2 0 none) (m.0, slot) 2) in
       subst (λ i. P i m.1) (sym (add-one p)) (subst (λ slot. P (suc p) slot) (sym has) (learns_held slots id p x m.0 at_it inside))
-
-  pub leaves_next : (slots id p : ℕ) (x : T) (m : Seated T) → m.0.stage ≡ Turn p x → m.1 ≡ (p, Some x) ∷ [] → p < slots
-      → Allows (Rule fits owners) slots id m (p + 1) (λ _. 2) (λ _. leave_told fits (step slots (p + 1) 2 0 none) m 2)
-  leaves_next slots id p x m at_it has inside =
-      let P : ℕ → List (ℕ × Option T) → Type 0 = λ i slot. Allows (Rule fits owners) slots id (m.0, slot) i (λ _. 2) (λ _. leave_told fits (step slots i 2 0 none) (m.0, slot) 2) in
-      subst (λ i. P i m.1) (sym (add-one p)) (subst (λ slot. P (suc p) slot) (sym has) (leaves_held slots id p x m.0 at_it inside))

@@ -11,10 +11,10 @@ use Rattle.once_board.specs.declared.holds.Stage.TheVariants.{Idle, Filling}
 use Rattle.once_board.specs.declared.holds.Hold.{Hold}
 use Rattle.once_board.specs.declared.holds.Seen.{Seen}
 use Rattle.once_board.specs.declared.owners.Owner.{Owner}
-use Rattle.once_board.specs.Numbers.{times}
+use Rattle.once_board.specs.Numbers.{times, total}
 use Rattle.once_board.specs.Places.{record_of, opened}
 use Rattle.once_board.specs.Holds.{put_at, Extends}
-use Rattle.once_board.specs.Rule.{Content, vacant, awaited, filling, ready, lent, total, word_of, value_of, fills, turn_of, At, at, Knows, PlaceOk, SeatOk, Rule}
+use Rattle.once_board.specs.Rule.{Content, vacant, awaited, filling, ready, lent, word_of, value_of, fills, turn_of, At, at, Knows, PlaceOk, SeatOk, Rule, one_if_some}
 use Rattle.once_board.specs.Told.{IsSound, Seated, seen, idle, fill_told, put_told}
 use Rattle.once_board.proofs.Sums.{set_there, total_one, total_two, total_some, times_here}
 use Rattle.once_board.proofs.Records.{noted_here, noted_else, extends_at}
@@ -93,7 +93,7 @@ module _ {T : Type 0} (fits : ℕ → T → Type 0) (owners : List Owner) where
           (record { claims_need_a_part = (r.seat_each id v e).claims_need_a_part; joined_well = tt })
           (here fits owners s r id v filler p (get_or s.words (suc p) 0) (set s.homes p none) e awaited filling ok inside ok.word refl refl
           (let f = fills_here T p in let g : fills p v.stage ≡ 0 = ap (fills p) idles in omega arith)
-          (ap (λ st. Rattle.once_board.specs.Rule.one_if_some (turn_of p st) + 0) (sym idles))
+          (ap (λ st. one_if_some (turn_of p st) + 0) (sym idles))
           tt (λ x k. absurd (cc)) (fill_knows (ok.knowers id v e)) (λ j u ne d k. k)),
     )
     taken filling ok = absurd (one_filler ok)
@@ -172,7 +172,7 @@ module _ {T : Type 0} (fits : ℕ → T → Type 0) (owners : List Owner) where
         (here fits owners s r id v putter p 2 home_again e filling (ready x) ok inside refl refl
         (let t = times_here p v.hold.puts in omega arith)
         (omega arith)
-        (ap (λ st. Rattle.once_board.specs.Rule.one_if_some (turn_of p st) + 0) (sym at_it))
+        (ap (λ st. one_if_some (turn_of p st) + 0) (sym at_it))
         (set_here s.homes p (some (Some x)) inside)
         (λ y h. let same : x ≡ y = (cc) in subst (fits p) same fit)
         (put_knows no_put claim) (put_other ok claim))

@@ -13,7 +13,7 @@ use Rattle.once_board.specs.Numbers.{times, without, given, kept, part_given}
 use Rattle.once_board.specs.Places.{record_of, unread}
 use Rattle.once_board.specs.Holds.{split_kept, split_off}
 use Rattle.once_board.specs.Rule.{fills, turn_of, one_if_some, at, Knows, Rule}
-use Rattle.once_board.specs.Told.{IsSound, idle, cut_kept, cut_off, silent_kept, voice_off}
+use Rattle.once_board.specs.Told.{IsSound, idle, cut_kept, cut_off, rights_split, rights_off}
 use Rattle.once_board.proofs.Sums.{times-without, times-without_other, times-without_few, times_single, times_else, times_here, parts_are}
 use Rattle.once_board.proofs.Records.{record_of-unread}
 use Rattle.once_board.proofs.Changes.{at_same}
@@ -112,8 +112,8 @@ module _ {T : Type 0} (fits : ℕ → T → Type 0) (owners : List Owner) where
       cut_rule v idles (kept right v.hold.rights) (given right) (v.hold.parts - part_given v.hold.parts) (part_given v.hold.parts)
       (kept_given right v.hold.rights has) (let few = parts.0 in omega arith) parts.1 s r id e
 
-  pub voices : (id : ℕ) (v : Seen T) → v.stage ≡ Idle → Splits (Rule fits owners) id v (silent_kept v) (voice_off v)
-  voices id v idles s r e = cut_rule v idles [] v.hold.rights v.hold.parts 0 (λ x. omega arith) (omega arith) (λ none. none) s r id e
+  pub splits_rights : (id : ℕ) (v : Seen T) → v.stage ≡ Idle → Splits (Rule fits owners) id v (rights_split v) (rights_off v)
+  splits_rights id v idles s r e = cut_rule v idles [] v.hold.rights v.hold.parts 0 (λ x. omega arith) (omega arith) (λ none. none) s r id e
 
   -- both seats are sound
   pub kept_sound : (right : Option ℕ) (h : Hold T) → IsSound fits h → IsSound fits (split_kept right h)

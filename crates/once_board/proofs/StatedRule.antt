@@ -4,9 +4,9 @@ use mathlib.Core.Option.{some}
 use lib.ListN.{get_elem?}
 use Rattle.once_board.specs.declared.holds.Seen.{Seen}
 use Rattle.once_board.specs.declared.owners.Owner.{Owner}
-use Rattle.once_board.specs.Numbers.{times}
+use Rattle.once_board.specs.Numbers.{times, total}
 use Rattle.once_board.specs.Places.{record_of}
-use Rattle.once_board.specs.Rule.{Content, vacant, awaited, filling, ready, lent, total, word_of, turn_of, one_if_some, at, PlaceOk, Rule}
+use Rattle.once_board.specs.Rule.{Content, vacant, awaited, filling, ready, lent, word_of, turn_of, one_if_some, at, PlaceOk, Rule, value_of}
 use Rattle.once_board.specs.Stated.{place_word, claims_of, turns_of, NoneKnows, AllAgree, Stated}
 use Rattle.once_board.proofs.Sums.{parts_are, total_one}
 use Rattle.once_board.proofs.Changes.{none_of}
@@ -14,7 +14,7 @@ use Rattle.once_board.proofs.ClaimStep.{small_word}
 use Rattle.once_board.proofs.Keeps.{Table, claim_known, part_of}
 
 module _ {T : Type 0} (fits : ℕ → T → Type 0) (owners : List Owner) (s : Table T) (r : Rule fits owners s) where
-  none_with : (p : ℕ) (c : Content T) → PlaceOk fits owners s p c → ((x : T) → Rattle.once_board.specs.Rule.value_of c ≡ Some x → ⊥) → NoneKnows s p
+  none_with : (p : ℕ) (c : Content T) → PlaceOk fits owners s p c → ((x : T) → value_of c ≡ Some x → ⊥) → NoneKnows s p
   none_with p c ok none_here seat v e = none_of (record_of v.hold.places p).value (λ x known. none_here x ((ok.knowers seat v e).true_value x known))
 
   free_of : (p : ℕ) (c : Content T) → PlaceOk fits owners s p c → word_of c ≡ 0 → (claims_of s p ≡ 0) × NoneKnows s p

@@ -3,8 +3,7 @@ use Rattle.std.proofs.Common.{◌≡◌, ◌≢◌, ℕ, zero, suc, ◌+◌, ◌
 use mathlib.Core.Option.{some, some-injective, some-ne-none}
 use native.Mathlib.Decide.{ℕ_discrete, dec_lt}
 use lib.ListN.{get_elem?}
-use Rattle.once_board.specs.Numbers.{times, without, below, every_right, all_parts}
-use Rattle.once_board.specs.Rule.{total}
+use Rattle.once_board.specs.Numbers.{times, without, below, every_right, all_parts, total}
 
 module _ {V : Type 0} where
   pub total_set : (f : V → ℕ) (l : List V) (i : ℕ) (v w : V) → get_elem? l i ≡ some v → total f (set l i w) + f v ≡ total f l + f w

@@ -3,9 +3,8 @@ use Rattle.std.specs.Prelude.{◌≡◌, ℕ, List}
 use mathlib.Core.Option.{some}
 use lib.ListN.{get_elem?}
 use Rattle.once_board.specs.declared.holds.Hold.{Hold}
-use Rattle.once_board.specs.Numbers.{times}
+use Rattle.once_board.specs.Numbers.{times, total}
 use Rattle.once_board.specs.Holds.{Extends}
-use Rattle.once_board.specs.Rule.{total}
 
 -- one seat has what these seats had together, and knows what each of them knew
 pub record Gathered {T : Type 0} (seats : List (Hold T)) (h : Hold T) : Type 0 where

@@ -43,15 +43,15 @@ module _ {T : Type 0} where
   split_off right h = record { rights = given right; parts = part_given h.parts; claims = []; puts = []; places = map unread h.places }
 
   -- a seat without its rights, and its rights with what it knows
-  abbrev pub silent : Hold T → Hold T
-  silent h = record { rights = []; parts = h.parts; claims = h.claims; puts = h.puts; places = h.places }
+  abbrev pub without_rights : Hold T → Hold T
+  without_rights h = record { rights = []; parts = h.parts; claims = h.claims; puts = h.puts; places = h.places }
 
-  abbrev pub voice : Hold T → Hold T
-  voice h = record { rights = h.rights; parts = 0; claims = []; puts = []; places = map unread h.places }
+  abbrev pub rights_and_records : Hold T → Hold T
+  rights_and_records h = record { rights = h.rights; parts = 0; claims = []; puts = []; places = map unread h.places }
 
   -- a seat that gets these rights back
-  abbrev pub regained : Hold T → Hold T → Hold T
-  regained h other = record { rights = h.rights ++ other.rights; parts = h.parts; claims = h.claims; puts = h.puts; places = h.places }
+  abbrev pub with_rights : Hold T → Hold T → Hold T
+  with_rights h other = record { rights = h.rights ++ other.rights; parts = h.parts; claims = h.claims; puts = h.puts; places = h.places }
 
   -- two seats in one
   abbrev pub joined : Hold T → Hold T → Hold T

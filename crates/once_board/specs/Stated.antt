@@ -5,9 +5,9 @@ use lib.ListN.{get_elem?}
 use Rattle.atomic_table.specs.Table.{State}
 use Rattle.once_board.specs.declared.holds.Seen.{Seen}
 use Rattle.once_board.specs.declared.owners.Owner.{Owner}
-use Rattle.once_board.specs.Numbers.{times}
+use Rattle.once_board.specs.Numbers.{times, total}
 use Rattle.once_board.specs.Places.{IsPrivate, record_of}
-use Rattle.once_board.specs.Rule.{total, turn_of, one_if_some}
+use Rattle.once_board.specs.Rule.{turn_of, one_if_some}
 
 module _ {T : Type 0} (s : State (Option T) (Seen T)) where
   -- the word of a place

@@ -14,4 +14,5 @@ pub mod LookAnswers
 pub mod StatedRule
 pub mod OwnerLists
 pub mod RowSteps
+pub mod RowValues
 pub mod Gathering

@@ -16,7 +16,7 @@ use Rattle.once_board.specs.Holds.{AwaitsPuts}
 use Rattle.once_board.specs.Rule.{Content, vacant, awaited, filling, ready, lent, word_of, value_of, claim_count, put_count, fill_count, turn_count, one_if_some, IsHome, at, Knows, PlaceOk, SeatOk, Rule}
 use Rattle.once_board.specs.Told.{IsSound}
 use Rattle.once_board.proofs.Changes.{none_of}
-use Rattle.once_board.proofs.Sums.{total_set, total_same, total_one, total_two, total_alone}
+use Rattle.once_board.proofs.Sums.{parts_are, total_set, total_same, total_one, total_two, total_alone}
 
 abbrev pub Table : Type 0 → Type 0
 Table T = State (Option T) (Seen T)
@@ -87,7 +87,7 @@ module _ {T : Type 0} (fits : ℕ → T → Type 0) (owners : List Owner) where
     sound_of id v e = record {
       lawful = λ p x k. ((r.place_each p).knowers id v e).open_value x k;
       may_stand = λ p x k. (r.place_each p).may_stand x (((r.place_each p).knowers id v e).true_value x k);
-      has_parts = let one = total_one (λ (u : Seen T). u.hold.parts) s.views id v e in let sum = r.all_the_parts in omega arith;
+      has_parts = let one = total_one (λ (u : Seen T). u.hold.parts) s.views id v e in let sum = r.all_the_parts in let n = parts_are in omega arith;
       rights_once = λ right. let one = total_one (λ (u : Seen T). times right u.hold.rights) s.views id v e in let most = r.right_once right in omega arith;
       once = λ p. (
         (let one = total_one (λ (u : Seen T). (at p u).claims) s.views id v e in let is = (r.place_each p).claimed_by in let few = one_claim (r.contents p) in omega arith),
@@ -106,6 +106,7 @@ module _ {T : Type 0} (fits : ℕ → T → Type 0) (owners : List Owner) where
           total_alone (λ (u : Seen T). (at p u).claims) s.views id v e (λ j w n d.
           let two : v.hold.parts + w.hold.parts ≤ total (λ (u : Seen T). u.hold.parts) s.views = total_two (λ (u : Seen T). u.hold.parts) s.views id j v w n e d in
           let sum = r.all_the_parts in
+          let number = parts_are in
           (r.seat_each j w d).claims_need_a_part (omega arith) p) in
           omega arith;
     }

@@ -14,7 +14,7 @@ use Rattle.once_board.specs.Places.{record_of, unread}
 use Rattle.once_board.specs.Holds.{split_kept, split_off}
 use Rattle.once_board.specs.Rule.{fills, turn_of, one_if_some, at, Knows, Rule}
 use Rattle.once_board.specs.Told.{IsSound, idle, cut_kept, cut_off, rights_split, rights_off}
-use Rattle.once_board.proofs.Sums.{times-without, times-without_other, times-without_few, times_single, times_else, times_here, parts_are}
+use Rattle.once_board.proofs.Sums.{times-without, times-without_other, times-without_few, times_single, times_else, times_here}
 use Rattle.once_board.proofs.Records.{record_of-unread}
 use Rattle.once_board.proofs.Changes.{at_same}
 use Rattle.once_board.proofs.Keeps.{Table}
@@ -132,10 +132,10 @@ module _ {T : Type 0} (fits : ℕ → T → Type 0) (owners : List Owner) where
   off_sound right h sound = record {
     lawful = λ p x is. let k = record_of-unread h.places p in subst (λ (z : _). 2 ≤ z.word) (sym k) (sound.lawful p x (ap (λ z. z.value) (sym k) ∙ is));
     may_stand = λ p x is. let k = record_of-unread h.places p in sound.may_stand p x (ap (λ z. z.value) (sym k) ∙ is);
-    has_parts = let parts = part_facts h.parts in let n = parts_are in omega arith;
+    has_parts = let parts = part_facts h.parts in omega arith;
     rights_once = given_once right;
     once = λ p. (omega arith, omega arith);
     awaits_puts = λ p claim unput. absurd (omega arith);
     shows_claims = λ p claim. absurd (omega arith);
-    claims_all = λ all. absurd (let parts = part_facts h.parts in let n = parts_are in omega arith);
+    claims_all = λ all. absurd (let parts = part_facts h.parts in omega arith);
   }

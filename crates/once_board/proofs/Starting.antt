@@ -73,7 +73,7 @@ module _ {T : Type 0} (fits : ℕ → T → Type 0) (owners : List Owner) where
   first_sound = record {
     lawful = λ p x h. absurd (cc);
     may_stand = λ p x h. absurd (cc);
-    has_parts = omega arith;
+    has_parts = let n = parts_are in omega arith;
     rights_once = every_right_at_most_once;
     once = λ p. (omega arith, omega arith);
     awaits_puts = λ p claim unput. refl;

@@ -83,7 +83,7 @@ module _ {T : Type 0} where
 
   -- no seat has more parts than there are
   abbrev pub HasParts : Hold T → Type 0
-  HasParts h = h.parts ≤ all_parts
+  HasParts h = h.parts ≤ 4_294_967_296
 
   -- no right is held twice
   abbrev pub HasRightsOnce : Hold T → Type 0
@@ -103,7 +103,7 @@ module _ {T : Type 0} where
 
   -- with all parts, a place that is known as claimed or open is among the claims
   abbrev pub ClaimsAll : Hold T → Type 0
-  ClaimsAll h = h.parts ≡ all_parts → (place : ℕ) → 1 ≤ (record_of h.places place).word → times place h.claims ≡ 1
+  ClaimsAll h = h.parts ≡ 4_294_967_296 → (place : ℕ) → 1 ≤ (record_of h.places place).word → times place h.claims ≡ 1
 
   -- a free place that this seat didn't claim, or a place that is private to a right of its and not known as claimed
   abbrev pub MayClaim : List Owner → ℕ → Hold T → Type 0

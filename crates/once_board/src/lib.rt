@@ -29,5 +29,5 @@ pub use answers::{Claiming, Looking};
 pub use board::Board;
 pub use holds::{Hold, Known};
 pub use laws::{rule_in_words, worked_numbers, worked_records, worked_seats};
-pub use owners::Owner;
+pub use owners::{Owner, free_owners, row_owners};
 pub use seats::BoardSeat;

@@ -65,15 +65,15 @@ module _ {T : Type 0} (rows : Rows) where
   value_stays h h' extends place has = (has.0, (extends place).same_value has.0 has.1)
 
   -- the value at a row's count is known
-  pub rows_read : (counts : ℕ → ℕ) (row : ℕ) (h : Hold T) → InRows rows counts h → HasValue h (place_in rows row (counts row)) → InRows rows (one_more row counts) h
-  rows_read counts row h old has = record {
+  pub rows_read : (counts : ℕ → ℕ) (row at : ℕ) (h : Hold T) → at ≡ counts row → InRows rows counts h → HasValue h (place_in rows row at) → InRows rows (one_more row counts) h
+  rows_read counts row place h here old has = record {
     known_below = λ other at r a below. dite (ℕ_discrete other row)
         (λ same.
         let height : one_more row counts other ≡ suc (counts other) = rw (eq-eqb other row same) in
         dite (dec_le (suc at) (counts other))
         (λ low. old.known_below other at r a low)
         (λ top.
-        let is : at ≡ counts row = (let c : counts other ≡ counts row = ap counts same in omega arith) in
+        let is : at ≡ place = (let c : counts other ≡ counts row = ap counts same in omega arith) in
         subst (λ z. HasValue h z) (λ i. place_in rows (sym same i) (sym is i)) has))
         (λ ne.
         let height : one_more row counts other ≡ counts other = rw (ne_eqb other row ne) in
@@ -101,19 +101,24 @@ module _ {T : Type 0} (rows : Rows) where
         ap (λ (z : Known T). z.word) (elsewhere (place_in rows other at) ne) ∙ old.empty_from other at k a (still_from counts row other at from) (rights (rows.right_of other) mine);
   }
 
-  -- the place was won and put: the row has one more
-  pub rows_put : (counts : ℕ → ℕ) (row : ℕ) (x : T) (h : Hold T) → InRows rows counts h → row < rows.count → counts row < rows.width
-      → InRows rows (one_more row counts) (put_at (place_in rows row (counts row)) x (won (place_in rows row (counts row)) h))
-  rows_put counts row x h old r room =
-      let p : ℕ = place_in rows row (counts row) in
-      let first : Known T = claimed (record_of h.places p) in
-      let claimed_places : List (Known T) = noted h.places p first in
-      let known : Known T = opened x (record_of claimed_places p) in
-      let after : Hold T = put_at p x (won p h) in
-      let here : record_of after.places p ≡ known = noted_here claimed_places p known in
-      let has : HasValue after p = (x, ap (λ (k : Known T). k.value) here) in
-      let elsewhere : (q : ℕ) → q ≢ p → record_of after.places q ≡ record_of h.places q = λ q ne. noted_else claimed_places p q known ne ∙ noted_else h.places p q first ne in
-      rows_grown counts row h after old r room (λ right mine. mine) elsewhere has
+  -- the place at the row's count was won and put: the row has one more
+  pub rows_put : (counts : ℕ → ℕ) (row at : ℕ) (x : T) (h : Hold T) → at ≡ counts row → InRows rows counts h → row < rows.count → at < rows.width
+      → InRows rows (one_more row counts) (put_at (place_in rows row at) x (won (place_in rows row at) h))
+  rows_put counts row at x h here old r room =
+      subst (λ n. InRows rows (one_more row counts) (put_at (place_in rows row n) x (won (place_in rows row n) h))) (sym here) (put_there (omega arith))
+    where
+      put_there : counts row < rows.width → InRows rows (one_more row counts) (put_at (place_in rows row (counts row)) x (won (place_in rows row (counts row)) h))
+      put_there low =
+          let p : ℕ = place_in rows row (counts row) in
+          let first : Known T = claimed (record_of h.places p) in
+          let claimed_places : List (Known T) = noted h.places p first in
+          let known : Known T = opened x (record_of claimed_places p) in
+          let after : Hold T = put_at p x (won p h) in
+          let stands : record_of after.places p ≡ known = noted_here claimed_places p known in
+          let has : HasValue after p = (x, ap (λ (k : Known T). k.value) stands) in
+          let elsewhere : (q : ℕ) → q ≢ p → record_of after.places q ≡ record_of h.places q
+              = λ q ne. noted_else claimed_places p q known ne ∙ noted_else h.places p q first ne in
+          rows_grown counts row h after old r low (λ right mine. mine) elsewhere has
 
   -- a seat is split off
   pub rows_kept : (counts : ℕ → ℕ) (right : Option ℕ) (h : Hold T) → ((x : ℕ) → right ≡ Some x → 1 ≤ times x h.rights) → InRows rows counts h → InRows rows counts (split_kept right h)
@@ -140,6 +145,10 @@ module _ {T : Type 0} (rows : Rows) where
     empty_from = λ row at r a from mine. old.empty_from row at r a (let is = same row r mine in omega arith) mine;
   }
 
+  -- counts that are the same for each row
+  pub rows_same : (counts others : ℕ → ℕ) (h : Hold T) → ((row : ℕ) → row < rows.count → others row ≡ counts row) → InRows rows counts h → InRows rows others h
+  rows_same counts others h same old = rows_fewer counts others h (λ row r. let is = same row r in omega arith) (λ row r mine. same row r) old
+
 module _ {T : Type 0} (rows : Rows) (owners : List Owner) (laid : IsLaid rows owners) where
   -- a look, or a join as far as this seat is concerned: nothing is lost, and no right is gained
   pub rows_stay : (counts : ℕ → ℕ) (h h' : Hold T) → Extends h h' → OwnsAll owners h h' → ((right : ℕ) → 1 ≤ times right h'.rights → 1 ≤ times right h.rights) → InRows rows counts h → InRows rows counts h'
@@ -152,9 +161,9 @@ module _ {T : Type 0} (rows : Rows) (owners : List Owner) (laid : IsLaid rows ow
   }
 
   -- the place at a row's count may be claimed by who holds the row's right
-  pub rows_may_claim : (counts : ℕ → ℕ) (row : ℕ) (h : Hold T) → InRows rows counts h → row < rows.count → counts row < rows.width → 1 ≤ times (rows.right_of row) h.rights
-      → MayClaim owners (place_in rows row (counts row)) h
-  rows_may_claim counts row h old r room mine = inr (rows.right_of row, laid.each row (counts row) r room, mine, old.empty_from row (counts row) r room (omega arith) mine)
+  pub rows_may_claim : (counts : ℕ → ℕ) (row at : ℕ) (h : Hold T) → at ≡ counts row → InRows rows counts h → row < rows.count → at < rows.width
+      → 1 ≤ times (rows.right_of row) h.rights → MayClaim owners (place_in rows row at) h
+  rows_may_claim counts row at h here old r room mine = inr (rows.right_of row, laid.each row at r room, mine, old.empty_from row at r room (omega arith) mine)
 
   -- two seats are joined
   pub rows_join : (counts others : ℕ → ℕ) (h other after : Hold T) → Extends h after → Extends other after → OwnsAll owners h after → OwnsAll owners other after

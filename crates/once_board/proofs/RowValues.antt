@@ -1,5 +1,5 @@
 -- The values of a row, as a list: how it grows, and that what one seat read is a prefix of what another put.
-use Rattle.std.proofs.Common.{◌≡◌, ℕ, zero, suc, ◌+◌, ◌<◌, ◌≤◌, eq-eqb, refl, sym, ap, subst, ◌∙◌, List, [], ◌∷◌, ◌++◌, append_assoc, option_to_list, arith, Option, Some}
+use Rattle.std.proofs.Common.{◌≡◌, ℕ, zero, suc, ◌+◌, ◌<◌, ◌≤◌, refl, sym, ap, subst, ◌∙◌, List, [], ◌∷◌, ◌++◌, append_assoc, option_to_list, arith, add-one, Option, Some}
 use Rattle.std.proofs.lemmas.List.{append-nil}
 use mathlib.Core.Logic.{dite}
 use native.Mathlib.Decide.{dec_le}
@@ -8,7 +8,7 @@ use Rattle.once_board.specs.declared.owners.Owner.{Owner}
 use Rattle.once_board.specs.Numbers.{times}
 use Rattle.once_board.specs.Places.{record_of}
 use Rattle.once_board.specs.Holds.{Extends, OwnsAll, IsLawful}
-use Rattle.once_board.specs.Rows.{Rows, place_in, IsLaid, IsPrefix, one_more, HasValue, row_values, InRows}
+use Rattle.once_board.specs.Rows.{Rows, place_in, IsLaid, IsPrefix, HasValue, row_values, InRows}
 use Rattle.once_board.proofs.RowSteps.{rows_of_holder, value_stays}
 
 pub prefix_trans : {A : Type 0} (xs ys zs : List A) → IsPrefix xs ys → IsPrefix ys zs → IsPrefix xs zs
@@ -36,13 +36,11 @@ module _ {T : Type 0} (rows : Rows) where
       (λ i. values_stay h h' extends row n (λ at below. known at (omega arith)) i ++ option_to_list (last i))
 
   -- a put appends a value, and so does a look that found one: the place at the row's count is known now
-  pub values_appended : (counts : ℕ → ℕ) (h after : Hold T) (row : ℕ) (x : T) → InRows rows counts h → Extends h after → row < rows.count → counts row ≤ rows.width
-      → (record_of after.places (place_in rows row (counts row))).value ≡ Some x
-      → row_values rows after row (one_more row counts row) ≡ row_values rows h row (counts row) ++ x ∷ []
-  values_appended counts h after row x old extends r narrow is =
-      let more : one_more row counts row ≡ suc (counts row) = rw (eq-eqb row row refl) in
-      let same = values_stay h after extends row (counts row) (known_row counts h old row (counts row) r (omega arith) narrow) in
-      ap (λ n. row_values rows after row n) more ∙ (λ i. same i ++ option_to_list (is i))
+  pub values_appended : (h after : Hold T) (row at : ℕ) (x : T) → IsKnown h row at → Extends h after → (record_of after.places (place_in rows row at)).value ≡ Some x
+      → row_values rows after row (at + 1) ≡ row_values rows h row at ++ x ∷ []
+  values_appended h after row at x known extends is =
+      let same = values_stay h after extends row at known in
+      ap (λ n. row_values rows after row n) (add-one at) ∙ (λ i. same i ++ option_to_list (is i))
 
   -- the row up to a lower count is a prefix of it
   pub values_prefix : (h : Hold T) (row low high : ℕ) → low ≤ high → IsPrefix (row_values rows h row low) (row_values rows h row high)

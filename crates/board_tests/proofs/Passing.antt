@@ -12,7 +12,7 @@ use Rattle.once_board.specs.Places.{record_of}
 use Rattle.once_board.specs.Rows.{InRows, IsLaid, IsPrefix, one_more, place_in, row_values}
 use Rattle.once_board.proofs.Lemmas.{IsKnown, known_row, read_is_prefix, rows_put, rows_read, rows_same, rows_stay, values_appended, values_stay}
 use Rattle.board_tests.specs.declared.passes.Pass.{Pass}
-use Rattle.board_tests.specs.Passes.{two_rows, hold_of, counts_of, values_of, IsPass, ReadsPrefixes}
+use Rattle.board_tests.specs.Passes.{two_rows, hold_of, counts_of, values_of, IsNew, IsPass, ReadsPrefixes}
 
 count_here : (pass : Pass) → pass.known ≡ counts_of pass pass.row
 count_here pass = rw (eq-eqb pass.row pass.row refl) refl
@@ -91,7 +91,18 @@ reads_prefixes board first h passes laid each all lawful i j d at there same min
     let known : reader.known ≡ counts_of reader holder.row = count_here reader ∙ ap (counts_of reader) same in
     let put : holder.known ≡ counts_of holder holder.row = count_here holder in
     let prefix = (read_is_prefix two_rows board.owners laid (counts_of reader) (counts_of holder) (hold_of reader) (hold_of holder) h a.in_rows b.in_rows
-        (all.knows_each i d at) (all.knows_each j d there) (all.owns_each j d there) lawful holder.row b.inside (let n = a.narrow in omega arith) mine).1 in
+    (all.knows_each i d at) (all.knows_each j d there) (all.owns_each j d there) lawful holder.row b.inside (let n = a.narrow in omega arith) mine).1 in
     let read_values : values_of reader ≡ row_values two_rows (hold_of reader) holder.row (counts_of reader holder.row) = λ k. row_values two_rows (hold_of reader) (same k) (known k) in
     let put_values : values_of holder ≡ row_values two_rows (hold_of holder) holder.row (counts_of holder holder.row) = λ k. row_values two_rows (hold_of holder) holder.row (put k) in
     (prefix.0, put_values ∙ (prefix.1 ∙ ap (λ l. l ++ prefix.0) (sym read_values)))
+
+-- a pass that knows nothing yet
+pub new_pass : (board : BoardView) (pass : Pass) → pass.seat.board ≡ board.board → pass.row < 2 → pass.known ≡ 0 → IsNew (hold_of pass) → IsPass board pass
+new_pass board pass same inside none is = record {
+  same_board = same;
+  inside = inside;
+  narrow = omega arith;
+  in_rows = rows_same two_rows (λ row. 0) (counts_of pass) (hold_of pass) (λ other r. dite (ℕ_discrete other pass.row)
+      (λ here. rw (eq-eqb other pass.row here) none)
+      (λ ne. rw (ne_eqb other pass.row ne) refl)) is;
+}

@@ -24,6 +24,10 @@ pub record IsPass (board : BoardView) (pass : Pass) : Type 0 where
   pub narrow : pass.known ≤ 3
   pub in_rows : InRows two_rows (counts_of pass) (hold_of pass)
 
+-- a seat that knows nothing of any row
+abbrev pub IsNew : Hold ℕ → Type 0
+IsNew h = InRows two_rows (λ row. 0) h
+
 -- the values of its row that a pass put or read
 abbrev pub values_of : Pass → List ℕ
 values_of pass = row_values two_rows (hold_of pass) pass.row pass.known

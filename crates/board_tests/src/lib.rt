@@ -8,4 +8,4 @@ mod passes;
 #[cfg(test)]
 mod tests;
 
-pub use passes::{Pass, join_passes, put_next, read_next, row_board};
+pub use passes::{Pass, join_passes, put_next, read_next, row_board, split_pass};

@@ -1,10 +1,11 @@
 //! Passes over one row of a board: they put, read, and are joined at the end.
-ghost use Rattle.std.specs.Prelude.{◌≡◌, ℕ, ◌+◌, ◌≤◌, ◌<◌, ◌++◌, [], ◌∷◌, All, MatchOption, IfOk};
+ghost use Rattle.std.specs.Prelude.{◌≡◌, ℕ, ◌+◌, ◌≤◌, ◌<◌, ◌++◌, [], ◌∷◌, All, MatchOption, IfOk, Some};
 ghost use Rattle.once_board.specs.Boards.{IsFirst};
 ghost use Rattle.once_board.specs.Gathered.{Gathered};
+ghost use Rattle.once_board.specs.Holds.{split_kept, split_off};
 ghost use Rattle.once_board.specs.Numbers.{times};
 ghost use Rattle.once_board.specs.Rows.{IsLaid};
-ghost use Rattle.board_tests.specs.Passes.{two_rows, hold_of, values_of, IsPass, ReadsPrefixes};
+ghost use Rattle.board_tests.specs.Passes.{two_rows, hold_of, values_of, IsNew, IsPass, ReadsPrefixes};
 
 use once_board::{Board, BoardSeat, Claiming, Looking, row_owners};
 use std::alloc::{AllocError, Global};
@@ -22,9 +23,36 @@ pub fn row_board(alloc: Global) -> Result<(Board<u64>, BoardSeat<u64>), AllocErr
     ensures laid { IfOk result (λ made. IsLaid two_rows made.0.owners) }
     ensures board { IfOk result (λ made. made.1.board ≡ made.0.board) }
     ensures seat { IfOk result (λ made. IsFirst made.1.hold) }
+    ensures new { IfOk result (λ made. IsNew made.1.hold) }
 {
     let owners = row_owners(alloc, 2, 3, 2)?;
     Board::new(alloc, owners)
+}
+
+/// A pass over a row, with a seat that is split off, and with a right or none.
+pub fn split_pass(
+    board: &Board<u64>,
+    seat: &mut BoardSeat<u64>,
+    row: u32,
+    right: Option<u32>,
+) -> Pass
+    requires board { seat.old.board ≡ board.now.board }
+    requires inside { row < 2 }
+    requires new { IsNew seat.old.hold }
+    requires right { (r : ℕ) → right ≡ Some r → 1 ≤ times r seat.old.hold.rights }
+    ensures board { seat.new.board ≡ seat.old.board }
+    ensures kept { seat.new.hold ≡ split_kept right seat.old.hold }
+    ensures new { IsNew seat.new.hold }
+    ensures pass { IsPass board.now result }
+    ensures row { (result.row ≡ row) × (result.known ≡ 0) }
+    ensures split_off { hold_of result ≡ split_off right seat.old.hold }
+{
+    let seat = board.split(seat, right);
+    Pass {
+        seat,
+        row,
+        known: 0,
+    }
 }
 
 /// Puts a value at the end of the pass's row.

@@ -58,16 +58,3 @@ fn a_claim_is_looked_at_and_then_filled(rt: HostRuntime) -> Result<(), Fail> {
     board.close(first);
     Ok(())
 }
-
-#[test]
-fn a_free_place_that_was_told_is_taken(rt: HostRuntime) -> Result<(), Fail> {
-    let (board, mut first) = Board::<u64>::new(rt.alloc(), two_owners(rt.alloc())?)?;
-    let mut second = board.split(&mut first, None);
-    assert_eq!(rt; board.claim(&mut second, 1), Claiming::Won);
-    board.put(&mut second, 1, 50);
-    board.tell(&mut first, &mut second);
-    assert_eq!(rt; board.claim(&mut first, 1), Claiming::Taken(2));
-    board.join(&mut first, second);
-    board.close(first);
-    Ok(())
-}

@@ -1,25 +1,20 @@
 //! Two threads that claim the same places.
-ghost use Rattle.std.specs.Prelude.{◌≡◌, ◌≢◌, ℕ, ◌≤◌, ◌<◌, length, IfOk};
+ghost use Rattle.std.specs.Prelude.{◌≡◌, ◌≢◌, ℕ, ◌≤◌, ◌<◌, length};
 ghost use Rattle.once_board.specs.Numbers.{times};
 ghost use Rattle.once_board.specs.Places.{IsFree};
 
 use super::*;
+use once_board::free_owners;
 use std::process::Abort;
 use std::thread::{Threads, join};
 
 const PLACES: u32 = 64;
 
-/// So many free places.
-fn free_owners(alloc: Global, count: usize) -> Result<Vec<Owner>, AllocError>
-    ensures long { IfOk result (λ owners. length owners.items ≡ count) }
-    ensures free { IfOk result (λ owners. (place : ℕ) → IsFree owners.items place) }
-{
-    let mut owners = Vec::new(alloc);
-    for done in 0..count {
-        owners.push(Owner::Free)?;
-    }
-    Ok(owners)
-}
+/// That values of a type may go from thread to thread.
+fn goes_to_a_thread<T: Send>() {}
+
+/// That threads may share a value of a type by reference.
+fn is_shared_by_threads<T: Sync>() {}
 
 /// Claims a free place, and tells whether it was won.
 fn claim_free(board: &Board<u64>, seat: &mut BoardSeat<u64>, place: u32) -> bool
@@ -55,7 +50,7 @@ fn claim_each(board: &Board<u64>, mut seat: BoardSeat<u64>) -> (BoardSeat<u64>, 
 
 #[test]
 fn each_place_has_one_winner(rt: HostRuntime) -> Result<(), Fail> {
-    let owners = free_owners(rt.alloc(), PLACES as usize)?;
+    let owners = free_owners(rt.alloc(), PLACES)?;
     let (board, mut first) = Board::<u64>::new(rt.alloc(), owners)?;
     let second = board.split(&mut first, None);
     let shared = &board;
@@ -71,4 +66,12 @@ fn each_place_has_one_winner(rt: HostRuntime) -> Result<(), Fail> {
     board.join(&mut first, second);
     board.close(first);
     Ok(())
+}
+
+#[test]
+fn boards_and_seats_cross_threads(rt: HostRuntime) {
+    goes_to_a_thread::<Board<u64>>();
+    is_shared_by_threads::<Board<u64>>();
+    goes_to_a_thread::<BoardSeat<u64>>();
+    let _ = rt;
 }

@@ -1,5 +1,6 @@
 -- Passes over a row, by the lemmas that the board offers.
-use Rattle.std.proofs.Common.{◌≡◌, ◌≢◌, ℕ, ◌+◌, ◌*◌, ◌≤◌, ◌<◌, List, ◌∷◌, ◌++◌, [], length, get_or, eq-eqb, ne_eqb, refl, sym, ap, subst, ◌∙◌, arith, All, if◌then◌else◌, ◌==◌, Some}
+use Rattle.std.proofs.Common.{◌≡◌, ◌≢◌, ℕ, ◌+◌, ◌*◌, ◌≤◌, ◌<◌, List, ◌∷◌, ◌++◌, [], length, get_or, eq-eqb, ne_eqb, refl, sym, ap, subst, ◌∙◌, arith, All}
+use Rattle.std.proofs.Common.{if◌then◌else◌, ◌==◌, Some}
 use mathlib.Core.Logic.{dite}
 use native.Mathlib.Decide.{ℕ_discrete}
 use Rattle.once_board.specs.declared.owners.Owner.{Owner}
@@ -34,21 +35,25 @@ module _ (pass after : Pass) (row : after.row ≡ pass.row) (known : after.known
 
 -- the places that a pass knows
 known_places : (board : BoardView) (pass : Pass) → IsPass board pass → IsKnown two_rows (hold_of pass) pass.row pass.known
-known_places board pass is = known_row two_rows (counts_of pass) (hold_of pass) is.in_rows pass.row pass.known is.inside (let here = count_here pass in omega arith) is.narrow
+known_places board pass is = known_row two_rows (counts_of pass) (hold_of pass) is.in_rows pass.row pass.known is.inside (let here = count_here pass in
+    omega arith) is.narrow
 
-module _ (board : BoardView) (laid : IsLaid two_rows board.owners) (pass after : Pass) (is : IsPass board pass) (row : after.row ≡ pass.row) (same_board : after.seat.board ≡ pass.seat.board) where
+module _ (board : BoardView) (laid : IsLaid two_rows board.owners) (pass after : Pass) (is : IsPass board pass) (row : after.row ≡ pass.row)
+    (same_board : after.seat.board ≡ pass.seat.board) where
   -- the value that the next place has is the last one now
   pub grown_values : (x : ℕ) → after.known ≡ pass.known + 1 → Extends (hold_of pass) (hold_of after)
       → (record_of (hold_of after).places (pass.row * 3 + pass.known)).value ≡ Some x → values_of after ≡ values_of pass ++ x ∷ []
   grown_values x known extends has =
-      (λ i. row_values two_rows (hold_of after) (row i) (known i)) ∙ values_appended two_rows (hold_of pass) (hold_of after) pass.row pass.known x (known_places board pass is) extends has
+      (λ i. row_values two_rows (hold_of after) (row i) (known i))
+      ∙ values_appended two_rows (hold_of pass) (hold_of after) pass.row pass.known x (known_places board pass is) extends has
 
   grown_pass : after.known ≡ pass.known + 1 → pass.known < 3 → InRows two_rows (one_more pass.row (counts_of pass)) (hold_of after) → IsPass board after
   grown_pass known room rows = record {
     same_board = same_board ∙ is.same_board;
     inside = let old = is.inside in omega arith;
     narrow = omega arith;
-    in_rows = rows_same two_rows (one_more pass.row (counts_of pass)) (counts_of after) (hold_of after) (λ other r. counts_grown pass after row known other) rows;
+    in_rows = rows_same two_rows (one_more pass.row (counts_of pass)) (counts_of after) (hold_of after)
+        (λ other r. counts_grown pass after row known other) rows;
   }
 
   -- a value was put
@@ -59,11 +64,14 @@ module _ (board : BoardView) (laid : IsLaid two_rows board.owners) (pass after :
       (rows_put two_rows (counts_of pass) pass.row pass.known x (hold_of pass) (count_here pass) is.in_rows is.inside room))
 
   -- the next value was read
-  pub read_pass : (x : ℕ) → after.known ≡ pass.known + 1 → pass.known < 3 → Extends (hold_of pass) (hold_of after) → OwnsAll board.owners (hold_of pass) (hold_of after)
+  pub read_pass : (x : ℕ) → after.known ≡ pass.known + 1 → pass.known < 3 → Extends (hold_of pass) (hold_of after)
+      → OwnsAll board.owners (hold_of pass) (hold_of after)
       → (hold_of after).rights ≡ (hold_of pass).rights → (record_of (hold_of after).places (pass.row * 3 + pass.known)).value ≡ Some x → IsPass board after
   read_pass x known room extends owns rights has = grown_pass known room
       (rows_read two_rows (counts_of pass) pass.row pass.known (hold_of after) (count_here pass)
-      (rows_stay two_rows board.owners laid (counts_of pass) (hold_of pass) (hold_of after) extends owns (λ right mine. let same : times right (hold_of after).rights ≡ times right (hold_of pass).rights = ap (times right) rights in omega arith) is.in_rows)
+      (rows_stay two_rows board.owners laid (counts_of pass) (hold_of pass) (hold_of after) extends owns
+      (λ right mine. let same : times right (hold_of after).rights ≡ times right (hold_of pass).rights = ap (times right) rights in
+      omega arith) is.in_rows)
       (x, has))
 
   -- nothing was read
@@ -75,9 +83,12 @@ module _ (board : BoardView) (laid : IsLaid two_rows board.owners) (pass after :
       inside = let old = is.inside in omega arith;
       narrow = let old = is.narrow in omega arith;
       in_rows = rows_same two_rows (counts_of pass) (counts_of after) (hold_of after) (λ other r i. if other == row i then known i else 0)
-          (rows_stay two_rows board.owners laid (counts_of pass) (hold_of pass) (hold_of after) extends owns (λ right mine. let same : times right (hold_of after).rights ≡ times right (hold_of pass).rights = ap (times right) rights in omega arith) is.in_rows);
+          (rows_stay two_rows board.owners laid (counts_of pass) (hold_of pass) (hold_of after) extends owns
+          (λ right mine. let same : times right (hold_of after).rights ≡ times right (hold_of pass).rights = ap (times right) rights in
+          omega arith) is.in_rows);
     },
-    (λ i. row_values two_rows (hold_of after) (row i) (known i)) ∙ values_stay two_rows (hold_of pass) (hold_of after) extends pass.row pass.known (known_places board pass is),
+    (λ i. row_values two_rows (hold_of after) (row i) (known i))
+        ∙ values_stay two_rows (hold_of pass) (hold_of after) extends pass.row pass.known (known_places board pass is),
   )
 
 -- what passes read that were joined into one seat
@@ -92,8 +103,10 @@ reads_prefixes board first h passes laid each all lawful i j d at there same min
     let put : holder.known ≡ counts_of holder holder.row = count_here holder in
     let prefix = (read_is_prefix two_rows board.owners laid (counts_of reader) (counts_of holder) (hold_of reader) (hold_of holder) h a.in_rows b.in_rows
     (all.knows_each i d at) (all.knows_each j d there) (all.owns_each j d there) lawful holder.row b.inside (let n = a.narrow in omega arith) mine).1 in
-    let read_values : values_of reader ≡ row_values two_rows (hold_of reader) holder.row (counts_of reader holder.row) = λ k. row_values two_rows (hold_of reader) (same k) (known k) in
-    let put_values : values_of holder ≡ row_values two_rows (hold_of holder) holder.row (counts_of holder holder.row) = λ k. row_values two_rows (hold_of holder) holder.row (put k) in
+    let read_values : values_of reader ≡ row_values two_rows (hold_of reader) holder.row (counts_of reader holder.row) = λ k. row_values two_rows
+    (hold_of reader) (same k) (known k) in
+    let put_values : values_of holder ≡ row_values two_rows (hold_of holder) holder.row (counts_of holder holder.row) = λ k. row_values two_rows
+    (hold_of holder) holder.row (put k) in
     (prefix.0, put_values ∙ (prefix.1 ∙ ap (λ l. l ++ prefix.0) (sym read_values)))
 
 -- a pass that knows nothing yet

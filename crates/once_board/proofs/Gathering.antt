@@ -73,17 +73,17 @@ module _ {X T : Type 0} (seat : X → Hold T) (owners : List Owner) (first : Hol
     rights = λ right.
         let sum = old.rights right in
         let a : times right after.rights ≡ times right h.rights + times right (seat x).rights
-            = ap (λ (s : Hold T). times right s.rights) is ∙ times-append right h.rights (seat x).rights in
+        = ap (λ (s : Hold T). times right s.rights) is ∙ times-append right h.rights (seat x).rights in
         omega arith;
     claims = λ place.
         let sum = old.claims place in
         let a : times place after.claims ≡ times place h.claims + times place (seat x).claims
-            = ap (λ (s : Hold T). times place s.claims) is ∙ times-append place h.claims (seat x).claims in
+        = ap (λ (s : Hold T). times place s.claims) is ∙ times-append place h.claims (seat x).claims in
         omega arith;
     puts = λ place.
         let sum = old.puts place in
         let a : times place after.puts ≡ times place h.puts + times place (seat x).puts
-            = ap (λ (s : Hold T). times place s.puts) is ∙ times-append place h.puts (seat x).puts in
+        = ap (λ (s : Hold T). times place s.puts) is ∙ times-append place h.puts (seat x).puts in
         omega arith;
     knows_first = extends_trans first h after old.knows_first knows.0;
     owns_first = first_owned xs h after old knows.0 owns.0;

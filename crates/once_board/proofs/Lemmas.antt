@@ -1,7 +1,8 @@
 -- What the crates above may cite of the board.
 
 -- rows: what each call makes of them, by the clauses of that call
-pub use Rattle.once_board.proofs.RowSteps.{place_inside, other_place, rows_first, rows_may_claim, rows_put, rows_read, rows_stay, rows_kept, rows_off, rows_same, rows_fewer, rows_join, rows_told}
+pub use Rattle.once_board.proofs.RowSteps.{place_inside, other_place, rows_first, rows_may_claim, rows_put, rows_read, rows_stay, rows_kept, rows_off}
+pub use Rattle.once_board.proofs.RowSteps.{rows_same, rows_fewer, rows_join, rows_told}
 -- rows: who holds a row's right knows all that anyone does
 pub use Rattle.once_board.proofs.RowSteps.{rows_of_holder}
 -- the values of a row: they stay, a put or a look appends one, and what one seat read is a prefix of what another put

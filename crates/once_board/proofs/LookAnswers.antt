@@ -22,18 +22,27 @@ module _ {T : Type 0} where
   Held h after = (after.rights ≡ h.rights) × (after.parts ≡ h.parts) × (after.claims ≡ h.claims) × (after.puts ≡ h.puts)
 
   found_held : (fits : ℕ → T → Type 0) (p : ℕ) (h after : Hold T) (x : T) → Finds fits p h after x → Held h after
-  found_held fits p h after x told = (ap (λ (s : Hold T). s.rights) told.0, ap (λ (s : Hold T). s.parts) told.0, ap (λ (s : Hold T). s.claims) told.0, ap (λ (s : Hold T). s.puts) told.0)
+  found_held fits p h after x told = (
+    ap (λ (s : Hold T). s.rights) told.0,
+    ap (λ (s : Hold T). s.parts) told.0,
+    ap (λ (s : Hold T). s.claims) told.0,
+    ap
+        (λ (s : Hold T). s.puts) told.0,
+  )
 
   pub same_held : (fits : ℕ → T → Type 0) (p : ℕ) (h after : Hold T) (answer : Looking T) → Looks fits p h after answer → Held h after
   same_held fits p h after (Value x) told = found_held fits p h after x told
-  same_held fits p h after (NotYet word) told = (ap (λ (s : Hold T). s.rights) told.0, ap (λ (s : Hold T). s.parts) told.0, ap (λ (s : Hold T). s.claims) told.0, ap (λ (s : Hold T). s.puts) told.0)
-  same_held fits p h after (Busy word) told = (ap (λ (s : Hold T). s.rights) told.0, ap (λ (s : Hold T). s.parts) told.0, ap (λ (s : Hold T). s.claims) told.0, ap (λ (s : Hold T). s.puts) told.0)
+  same_held fits p h after (NotYet word) told =
+      (ap (λ (s : Hold T). s.rights) told.0, ap (λ (s : Hold T). s.parts) told.0, ap (λ (s : Hold T). s.claims) told.0, ap (λ (s : Hold T). s.puts) told.0)
+  same_held fits p h after (Busy word) told =
+      (ap (λ (s : Hold T). s.rights) told.0, ap (λ (s : Hold T). s.parts) told.0, ap (λ (s : Hold T). s.claims) told.0, ap (λ (s : Hold T). s.puts) told.0)
   same_held fits p h after OutOfMemory told = found_held fits p h after told.0 told.1
 
 module _ {T : Type 0} (fits : ℕ → T → Type 0) (owners : List Owner) where
   -- what the board answers
 
-  pub answers_not_yet : (p word : ℕ) (m m' : Seated T) (h : Hold T) → m.0.hold ≡ h → Looked fits owners p word m m' → word < 2 → Looks fits p h m'.0.hold (NotYet word)
+  pub answers_not_yet : (p word : ℕ) (m m' : Seated T) (h : Hold T) → m.0.hold ≡ h → Looked fits owners p word m m' → word < 2
+      → Looks fits p h m'.0.hold (NotYet word)
   answers_not_yet p word m m' h same told low =
       let after = ap (λ v. v.hold) (told.missed (λ two. omega arith)).0 in
       subst (λ b. Looks fits p b m'.0.hold (NotYet word)) same (
@@ -45,7 +54,8 @@ module _ {T : Type 0} (fits : ℕ → T → Type 0) (owners : List Owner) where
         told.follows,
       )
 
-  pub answers_busy : (p word : ℕ) (m m' : Seated T) (h : Hold T) → m.0.hold ≡ h → Looked fits owners p word m m' → word ≡ 3 → Looks fits p h m'.0.hold (Busy word)
+  pub answers_busy : (p word : ℕ) (m m' : Seated T) (h : Hold T) → m.0.hold ≡ h → Looked fits owners p word m m' → word ≡ 3
+      → Looks fits p h m'.0.hold (Busy word)
   answers_busy p word m m' h same told three =
       let after = ap (λ v. v.hold) (told.missed (λ two. omega arith)).0 in
       subst (λ b. Looks fits p b m'.0.hold (Busy word)) same
@@ -59,7 +69,8 @@ module _ {T : Type 0} (fits : ℕ → T → Type 0) (owners : List Owner) where
       record { rights = h.rights; parts = h.parts; claims = h.claims; puts = h.puts; places = places i }
 
   -- the value was found
-  module _ (p word : ℕ) (x : T) (m m' : Seated T) (after : Hold T) (told : Looked fits owners p word m m') (two : word ≡ 2) (turn : m'.0.stage ≡ Turn p x) (now : after ≡ learned p x m'.0.hold) where
+  module _ (p word : ℕ) (x : T) (m m' : Seated T) (after : Hold T) (told : Looked fits owners p word m m') (two : word ≡ 2) (turn : m'.0.stage ≡ Turn p x)
+      (now : after ≡ learned p x m'.0.hold) where
     the_value : (told.got two).0 ≡ x
     the_value = same_turn fits owners p p (told.got two).0 x (sym (ap (λ v. v.stage) (told.got two).1) ∙ turn)
 
@@ -90,12 +101,16 @@ module _ {T : Type 0} (fits : ℕ → T → Type 0) (owners : List Owner) where
         let seen_then : m'.0.hold.places ≡ noted m.0.hold.places p (read 2 (record_of m.0.hold.places p)) = ap (λ v. v.hold.places) (told.got two).1 in
         told.owns q right private mine (dite (ℕ_discrete q p)
         (λ same. subst (λ z. 1 ≤ (record_of m'.0.hold.places z).word) (sym same)
-        (subst (λ (z : Known T). 1 ≤ z.word) (sym (ap (λ l. record_of l p) seen_then ∙ noted_here m.0.hold.places p (read 2 (record_of m.0.hold.places p)))) (omega arith)))
+        (subst (λ (z : Known T). 1 ≤ z.word)
+        (sym (ap (λ l. record_of l p) seen_then ∙ noted_here m.0.hold.places p (read 2 (record_of m.0.hold.places p)))) (omega arith)))
         (λ ne. subst (λ (z : Known T). 1 ≤ z.word)
-        (ap (λ l. record_of l q) places ∙ (noted_else m.0.hold.places p q k ne ∙ sym (ap (λ l. record_of l q) seen_then ∙ noted_else m.0.hold.places p q (read 2 (record_of m.0.hold.places p)) ne))) h))
+        (ap (λ l. record_of l q) places ∙
+        (noted_else m.0.hold.places p q k ne
+        ∙ sym (ap (λ l. record_of l q) seen_then ∙ noted_else m.0.hold.places p q (read 2 (record_of m.0.hold.places p)) ne))) h))
 
   -- the same, of a seat that holds h before and `after` after
-  module _ (p word : ℕ) (m m' : Seated T) (key : List Owner) (h after : Hold T) (owned : owners ≡ key) (same : m.0.hold ≡ h) (told : Looked fits owners p word m m') (two : word ≡ 2) where
+  module _ (p word : ℕ) (m m' : Seated T) (key : List Owner) (h after : Hold T) (owned : owners ≡ key) (same : m.0.hold ≡ h)
+      (told : Looked fits owners p word m m') (two : word ≡ 2) where
     pub found : (x : T) → m'.0.stage ≡ Turn p x → after ≡ learned p x m'.0.hold → Finds fits p h after x
     found x turn now = subst (λ b. Finds fits p b after x) same (answers_value p word x m m' after told two turn now)
 

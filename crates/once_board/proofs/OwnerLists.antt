@@ -1,5 +1,6 @@
 -- Owners of rows whose rights go round, and owners that are all free.
-use Rattle.std.proofs.Common.{◌≡◌, ℕ, zero, suc, ◌+◌, ◌*◌, ◌/◌, ◌%◌, ◌<◌, ◌≤◌, List, [], ◌∷◌, ◌++◌, length, length-append, replicate, refl, sym, ap, subst, ◌∙◌, arith}
+use Rattle.std.proofs.Common.{◌≡◌, ℕ, zero, suc, ◌+◌, ◌*◌, ◌/◌, ◌%◌, ◌<◌, ◌≤◌, List, [], ◌∷◌, ◌++◌, length, length-append, replicate, refl, sym, ap, subst}
+use Rattle.std.proofs.Common.{◌∙◌, arith}
 use Rattle.std.proofs.lemmas.Nat.{div-mul-add, mul-add-lt}
 use Rattle.std.proofs.Math.Nat.{mul_comm}
 use mathlib.Core.Logic.{dite}
@@ -31,7 +32,8 @@ pub record GoRound (width rights count : ℕ) (owners : List Owner) : Type 0 whe
 pub none_round : (width rights : ℕ) → GoRound width rights 0 []
 none_round width rights = record { long = refl; each = λ place below. absurd (omega arith) }
 
-pub next_round : (width rights count : ℕ) (owners after : List Owner) → after ≡ owners ++ Private (count / width % rights) ∷ [] → GoRound width rights count owners
+pub next_round : (width rights count : ℕ) (owners after : List Owner) → after ≡ owners ++ Private (count / width % rights) ∷ []
+    → GoRound width rights count owners
     → GoRound width rights (count + 1) after
 next_round width rights count owners after is old = subst (GoRound width rights (count + 1)) (sym is) (record {
   long = let e = length-append owners (Private (count / width % rights) ∷ []) in let n = old.long in omega arith;

@@ -1,5 +1,6 @@
 -- What each call of a board does to rows of places.
-use Rattle.std.proofs.Common.{◌≡◌, ◌≢◌, ℕ, zero, suc, ◌+◌, ◌*◌, ◌<◌, ◌≤◌, eq-eqb, ne_eqb, ⊎_elim, inr, List, [], ◌∷◌, ◌++◌, length, sym, refl, ap, subst, ◌∙◌, arith, Option, Some}
+use Rattle.std.proofs.Common.{◌≡◌, ◌≢◌, ℕ, zero, suc, ◌+◌, ◌*◌, ◌<◌, ◌≤◌, eq-eqb, ne_eqb, ⊎_elim, inr, List, [], ◌∷◌, ◌++◌, length, sym, refl, ap, subst, ◌∙◌}
+use Rattle.std.proofs.Common.{arith, Option, Some}
 use Rattle.std.proofs.lemmas.Nat.{same_from_place, mul-add-lt}
 use Rattle.std.proofs.Math.Nat.{mul_comm}
 use mathlib.Core.Logic.{dite}
@@ -17,11 +18,13 @@ use Rattle.once_board.proofs.SplitStep.{kept_given}
 use Rattle.once_board.proofs.JoinStep.{max_from, sum_from}
 
 -- places at different positions differ
-pub other_place : (rows : Rows) (row at row' at' : ℕ) → at < rows.width → at' < rows.width → place_in rows row at ≡ place_in rows row' at' → (row ≡ row') × (at ≡ at')
+pub other_place : (rows : Rows) (row at row' at' : ℕ) → at < rows.width → at' < rows.width → place_in rows row at ≡ place_in rows row' at'
+    → (row ≡ row') × (at ≡ at')
 other_place rows row at row' at' h h' e = same_from_place row at row' at' rows.width h h' e
 
 -- a place of a row is a place of the board
-pub place_inside : (rows : Rows) (owners : List Owner) → IsLaid rows owners → (row at : ℕ) → row < rows.count → at < rows.width → place_in rows row at < length owners
+pub place_inside : (rows : Rows) (owners : List Owner) → IsLaid rows owners → (row at : ℕ) → row < rows.count → at < rows.width
+    → place_in rows row at < length owners
 place_inside rows owners laid row at r a =
     let long = laid.long in
     let place = mul-add-lt row rows.width at rows.count r a in
@@ -65,7 +68,8 @@ module _ {T : Type 0} (rows : Rows) where
   value_stays h h' extends place has = (has.0, (extends place).same_value has.0 has.1)
 
   -- the value at a row's count is known
-  pub rows_read : (counts : ℕ → ℕ) (row at : ℕ) (h : Hold T) → at ≡ counts row → InRows rows counts h → HasValue h (place_in rows row at) → InRows rows (one_more row counts) h
+  pub rows_read : (counts : ℕ → ℕ) (row at : ℕ) (h : Hold T) → at ≡ counts row → InRows rows counts h → HasValue h (place_in rows row at)
+      → InRows rows (one_more row counts) h
   rows_read counts row place h here old has = record {
     known_below = λ other at r a below. dite (ℕ_discrete other row)
         (λ same.
@@ -88,7 +92,8 @@ module _ {T : Type 0} (rows : Rows) where
   -- one more row is known where nothing but that place changed
   rows_grown : (counts : ℕ → ℕ) (row : ℕ) (h after : Hold T) → InRows rows counts h → row < rows.count → counts row < rows.width
       → ((right : ℕ) → 1 ≤ times right after.rights → 1 ≤ times right h.rights)
-      → ((q : ℕ) → q ≢ place_in rows row (counts row) → record_of after.places q ≡ record_of h.places q) → HasValue after (place_in rows row (counts row)) → InRows rows (one_more row counts) after
+      → ((q : ℕ) → q ≢ place_in rows row (counts row) → record_of after.places q ≡ record_of h.places q) → HasValue after (place_in rows row (counts row))
+      → InRows rows (one_more row counts) after
   rows_grown counts row h after old r room rights elsewhere has = record {
     known_below = λ other at k a below. dite (ℕ_discrete (place_in rows other at) (place_in rows row (counts row)))
         (λ same. subst (λ z. HasValue after z) (sym same) has)
@@ -98,7 +103,8 @@ module _ {T : Type 0} (rows : Rows) where
         let ne : place_in rows other at ≢ place_in rows row (counts row) = λ same.
         let is = other_place rows other at row (counts row) a room same in
         passed counts row other at from is in
-        ap (λ (z : Known T). z.word) (elsewhere (place_in rows other at) ne) ∙ old.empty_from other at k a (still_from counts row other at from) (rights (rows.right_of other) mine);
+        ap (λ (z : Known T). z.word) (elsewhere (place_in rows other at) ne)
+        ∙ old.empty_from other at k a (still_from counts row other at from) (rights (rows.right_of other) mine);
   }
 
   -- the place at the row's count was won and put: the row has one more
@@ -107,7 +113,8 @@ module _ {T : Type 0} (rows : Rows) where
   rows_put counts row at x h here old r room =
       subst (λ n. InRows rows (one_more row counts) (put_at (place_in rows row n) x (won (place_in rows row n) h))) (sym here) (put_there (omega arith))
     where
-      put_there : counts row < rows.width → InRows rows (one_more row counts) (put_at (place_in rows row (counts row)) x (won (place_in rows row (counts row)) h))
+      put_there : counts row < rows.width
+          → InRows rows (one_more row counts) (put_at (place_in rows row (counts row)) x (won (place_in rows row (counts row)) h))
       put_there low =
           let p : ℕ = place_in rows row (counts row) in
           let first : Known T = claimed (record_of h.places p) in
@@ -117,17 +124,19 @@ module _ {T : Type 0} (rows : Rows) where
           let stands : record_of after.places p ≡ known = noted_here claimed_places p known in
           let has : HasValue after p = (x, ap (λ (k : Known T). k.value) stands) in
           let elsewhere : (q : ℕ) → q ≢ p → record_of after.places q ≡ record_of h.places q
-              = λ q ne. noted_else claimed_places p q known ne ∙ noted_else h.places p q first ne in
+          = λ q ne. noted_else claimed_places p q known ne ∙ noted_else h.places p q first ne in
           rows_grown counts row h after old r low (λ right mine. mine) elsewhere has
 
   -- a seat is split off
-  pub rows_kept : (counts : ℕ → ℕ) (right : Option ℕ) (h : Hold T) → ((x : ℕ) → right ≡ Some x → 1 ≤ times x h.rights) → InRows rows counts h → InRows rows counts (split_kept right h)
+  pub rows_kept : (counts : ℕ → ℕ) (right : Option ℕ) (h : Hold T) → ((x : ℕ) → right ≡ Some x → 1 ≤ times x h.rights) → InRows rows counts h
+      → InRows rows counts (split_kept right h)
   rows_kept counts right h has old = record {
     known_below = old.known_below;
     empty_from = λ row at r a from mine. old.empty_from row at r a from (let both = kept_given right h.rights has (rows.right_of row) in omega arith);
   }
 
-  pub rows_off : (counts : ℕ → ℕ) (right : Option ℕ) (h : Hold T) → ((x : ℕ) → right ≡ Some x → 1 ≤ times x h.rights) → InRows rows counts h → InRows rows counts (split_off right h)
+  pub rows_off : (counts : ℕ → ℕ) (right : Option ℕ) (h : Hold T) → ((x : ℕ) → right ≡ Some x → 1 ≤ times x h.rights) → InRows rows counts h
+      → InRows rows counts (split_off right h)
   rows_off counts right h has old = record {
     known_below = λ row at r a below.
         let v = old.known_below row at r a below in
@@ -151,7 +160,8 @@ module _ {T : Type 0} (rows : Rows) where
 
 module _ {T : Type 0} (rows : Rows) (owners : List Owner) (laid : IsLaid rows owners) where
   -- a look, or a join as far as this seat is concerned: nothing is lost, and no right is gained
-  pub rows_stay : (counts : ℕ → ℕ) (h h' : Hold T) → Extends h h' → OwnsAll owners h h' → ((right : ℕ) → 1 ≤ times right h'.rights → 1 ≤ times right h.rights) → InRows rows counts h → InRows rows counts h'
+  pub rows_stay : (counts : ℕ → ℕ) (h h' : Hold T) → Extends h h' → OwnsAll owners h h'
+      → ((right : ℕ) → 1 ≤ times right h'.rights → 1 ≤ times right h.rights) → InRows rows counts h → InRows rows counts h'
   rows_stay counts h h' extends owns rights old = record {
     known_below = λ row at r a below. value_stays rows h h' extends (place_in rows row at) (old.known_below row at r a below);
     empty_from = λ row at r a from mine.
@@ -167,7 +177,8 @@ module _ {T : Type 0} (rows : Rows) (owners : List Owner) (laid : IsLaid rows ow
 
   -- two seats are joined
   pub rows_join : (counts others : ℕ → ℕ) (h other after : Hold T) → Extends h after → Extends other after → OwnsAll owners h after → OwnsAll owners other after
-      → ((right : ℕ) → times right after.rights ≡ times right h.rights + times right other.rights) → InRows rows counts h → InRows rows others other → InRows rows (further counts others) after
+      → ((right : ℕ) → times right after.rights ≡ times right h.rights + times right other.rights) → InRows rows counts h → InRows rows others other
+      → InRows rows (further counts others) after
   rows_join counts others h other after extends extends_other owns owns_other rights old old_other = record {
     known_below = λ row at r a below. ⊎_elim
         (λ first. value_stays rows h after extends (place_in rows row at) (old.known_below row at r a first))
@@ -186,7 +197,8 @@ module _ {T : Type 0} (rows : Rows) (owners : List Owner) (laid : IsLaid rows ow
 
   -- a seat is told what another knows
   pub rows_told : (counts others : ℕ → ℕ) (h other after : Hold T) → Extends h after → Extends other after → OwnsAll owners h after
-      → ((right : ℕ) → times right after.rights ≡ times right h.rights) → InRows rows counts h → InRows rows others other → InRows rows (further counts others) after
+      → ((right : ℕ) → times right after.rights ≡ times right h.rights) → InRows rows counts h → InRows rows others other → InRows rows
+      (further counts others) after
   rows_told counts others h other after extends extends_other owns rights old old_other = record {
     known_below = λ row at r a below. ⊎_elim
         (λ first. value_stays rows h after extends (place_in rows row at) (old.known_below row at r a first))

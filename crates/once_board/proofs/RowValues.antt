@@ -1,5 +1,6 @@
 -- The values of a row, as a list: how it grows, and that what one seat read is a prefix of what another put.
-use Rattle.std.proofs.Common.{◌≡◌, ℕ, zero, suc, ◌+◌, ◌<◌, ◌≤◌, refl, sym, ap, subst, ◌∙◌, List, [], ◌∷◌, ◌++◌, append_assoc, option_to_list, arith, add-one, Option, Some}
+use Rattle.std.proofs.Common.{◌≡◌, ℕ, zero, suc, ◌+◌, ◌<◌, ◌≤◌, refl, sym, ap, subst, ◌∙◌, List, [], ◌∷◌, ◌++◌, append_assoc, option_to_list, arith, add-one}
+use Rattle.std.proofs.Common.{Option, Some}
 use Rattle.std.proofs.lemmas.List.{append-nil}
 use mathlib.Core.Logic.{dite}
 use native.Mathlib.Decide.{dec_le}
@@ -32,11 +33,12 @@ module _ {T : Type 0} (rows : Rows) where
   values_stay h h' extends row (suc n) known =
       let v = known n (omega arith) in
       let last : (record_of h'.places (place_in rows row n)).value ≡ (record_of h.places (place_in rows row n)).value
-          = (extends (place_in rows row n)).same_value v.0 v.1 ∙ sym v.1 in
+      = (extends (place_in rows row n)).same_value v.0 v.1 ∙ sym v.1 in
       (λ i. values_stay h h' extends row n (λ at below. known at (omega arith)) i ++ option_to_list (last i))
 
   -- a put appends a value, and so does a look that found one: the place at the row's count is known now
-  pub values_appended : (h after : Hold T) (row at : ℕ) (x : T) → IsKnown h row at → Extends h after → (record_of after.places (place_in rows row at)).value ≡ Some x
+  pub values_appended : (h after : Hold T) (row at : ℕ) (x : T) → IsKnown h row at → Extends h after
+      → (record_of after.places (place_in rows row at)).value ≡ Some x
       → row_values rows after row (at + 1) ≡ row_values rows h row at ++ x ∷ []
   values_appended h after row at x known extends is =
       let same = values_stay h after extends row at known in
@@ -62,15 +64,17 @@ module _ {T : Type 0} (rows : Rows) (owners : List Owner) (laid : IsLaid rows ow
       → (reads row ≤ puts row) × IsPrefix (row_values rows reader row (reads row)) (row_values rows holder row (puts row))
   read_is_prefix reads puts reader holder both old_reader old_holder knows_reader knows_holder owns lawful row r narrow mine =
       let few : reads row ≤ puts row = dite (dec_le (reads row) (puts row)) (λ h. h)
-          (λ above. absurd (
-          let has = value_stays rows reader both knows_reader (place_in rows row (puts row)) (old_reader.known_below row (puts row) r (omega arith) (omega arith)) in
-          let below = rows_of_holder rows owners laid puts holder both old_holder owns lawful row (puts row) r (omega arith) mine has in
-          omega arith)) in
+      (λ above. absurd (
+      let has = value_stays rows reader both knows_reader (place_in rows row (puts row))
+      (old_reader.known_below row (puts row) r (omega arith) (omega arith)) in
+      let below = rows_of_holder rows owners laid puts holder both old_holder owns lawful row (puts row) r (omega arith) mine has in
+      omega arith)) in
       (few, seen_prefix few)
     where
       seen_prefix : reads row ≤ puts row → IsPrefix (row_values rows reader row (reads row)) (row_values rows holder row (puts row))
       seen_prefix few =
-          let there = values_stay rows reader both knows_reader row (reads row) (known_row rows reads reader old_reader row (reads row) r (omega arith) narrow) in
+          let there = values_stay rows reader both knows_reader row (reads row)
+          (known_row rows reads reader old_reader row (reads row) r (omega arith) narrow) in
           let here = values_stay rows holder both knows_holder row (reads row) (known_row rows puts holder old_holder row (reads row) r few narrow) in
           let more = values_prefix rows holder row (reads row) (puts row) few in
           (more.0, more.1 ∙ ap (λ l. l ++ more.0) (sym here ∙ there))

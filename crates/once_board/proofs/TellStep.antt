@@ -35,7 +35,8 @@ module _ {T : Type 0} (fits : ℕ → T → Type 0) (owners : List Owner) where
     few_puts : (p : ℕ) → times p (a.puts ++ b.puts) ≡ times p a.puts
     few_puts p = let t = times-append p a.puts b.puts in let z : times p b.puts ≡ 0 = ap (times p) no_put in omega arith
 
-    back_shares : Shares keeper (idle b) (λ x. times x told_seat.hold.rights) (λ p. (at p told_seat).claims) (λ p. (at p told_seat).puts) (λ p. (at p told_seat).fills_it) (λ p. one_if_some (at p told_seat).turn) told_seat.hold.parts
+    back_shares : Shares keeper (idle b) (λ x. times x told_seat.hold.rights) (λ p. (at p told_seat).claims) (λ p. (at p told_seat).puts)
+        (λ p. (at p told_seat).fills_it) (λ p. one_if_some (at p told_seat).turn) told_seat.hold.parts
     back_shares = record {
       same_rights = λ x. sym (times-append x a.rights b.rights);
       same_parts = refl;
@@ -59,7 +60,8 @@ module _ {T : Type 0} (fits : ℕ → T → Type 0) (owners : List Owner) where
       own_place = λ right private mine h. k.own_place right private (let t = times-append right a.rights b.rights in omega arith) h;
     }
 
-    goes_back : (p word : ℕ) (value : Option T) → Met owners a b (joined a b) → Knows owners p word value (at p told_seat) → Knows owners p word value (at p (idle b))
+    goes_back : (p word : ℕ) (value : Option T) → Met owners a b (joined a b) → Knows owners p word value (at p told_seat)
+        → Knows owners p word value (at p (idle b))
     goes_back p word value met k = let z : times p b.claims ≡ 0 = ap (times p) no_claim in let y : times p b.puts ≡ 0 = ap (times p) no_put in record {
       true_value = λ x is. k.true_value x ((met.extends_other p).same_value x is);
       open_value = lawful p;
@@ -74,26 +76,37 @@ module _ {T : Type 0} (fits : ℕ → T → Type 0) (owners : List Owner) where
           (k.own_place right private (let t = times-append right a.rights b.rights in omega arith) h);
     }
 
-    gives_back_rule : (s : Table T) (r : Rule fits owners s) (id : ℕ) → get_elem? s.views id ≡ some told_seat → Rule fits owners (record { words = s.words; homes = s.homes; views = set s.views id keeper ++ idle b ∷ [] })
+    gives_back_rule : (s : Table T) (r : Rule fits owners s) (id : ℕ) → get_elem? s.views id ≡ some told_seat → Rule fits owners
+        (record { words = s.words; homes = s.homes; views = set s.views id keeper ++ idle b ∷ [] })
     gives_back_rule s r id e =
         let met : Met owners a b (joined a b) = (r.seat_each id told_seat e).joined_well in
         splits_well fits owners s r id told_seat keeper (idle b) e back_shares
         (λ p k. keeps_knowing p _ _ k) (λ p k. goes_back p _ _ met k)
         (record {
           claims_need_a_part = λ none p. let c = few_claims p in let o = (r.seat_each id told_seat e).claims_need_a_part (omega arith) p in omega arith;
-          joined_well = record { agrees = met.agrees; extends_first = met.extends_first; extends_other = met.extends_other; owns_first = met.owns_first; owns_other = met.owns_other };
+          joined_well = record {
+            agrees = met.agrees;
+            extends_first = met.extends_first;
+            extends_other = met.extends_other;
+            owns_first
+                = met.owns_first;
+            owns_other = met.owns_other;
+          };
         })
         (record { claims_need_a_part = λ none p. ap (times p) no_claim; joined_well = tt })
 
-    pub gives_back : (id : ℕ) (v : Seen T) → v.hold ≡ joined a b → v.stage ≡ Joined a b → Splits (Rule fits owners) id v (back_kept v.stage v.hold) (back_off v.stage)
+    pub gives_back : (id : ℕ) (v : Seen T) → v.hold ≡ joined a b → v.stage ≡ Joined a b
+        → Splits (Rule fits owners) id v (back_kept v.stage v.hold) (back_off v.stage)
     gives_back id v hold stage =
         let P : Stage T → Hold T → Type 0 = λ st h. Splits (Rule fits owners) id (seen h st) (back_kept st h) (back_off st) in
         subst (λ st. P st v.hold) (sym stage) (subst (λ h. P (Joined a b) h) (sym hold) (λ s r e. gives_back_rule s r id e))
 
   -- the teller v, which kept all but its rights, takes them again
-  module _ (v w : Seen T) (idles : v.stage ≡ Idle) (rests : w.stage ≡ Idle) (no_part : w.hold.parts ≡ 0) (no_claim : w.hold.claims ≡ []) (no_put : w.hold.puts ≡ [])
+  module _ (v w : Seen T) (idles : v.stage ≡ Idle) (rests : w.stage ≡ Idle) (no_part : w.hold.parts ≡ 0) (no_claim : w.hold.claims ≡ [])
+      (no_put : w.hold.puts ≡ [])
       (knows : (p : ℕ) → (record_of w.hold.places p).word ≡ (record_of v.hold.places p).word) where
-    takes_knowing : (p word : ℕ) (value : Option T) → Knows owners p word value (at p v) → Knows owners p word value (at p w) → Knows owners p word value (at p (rights_joined v w))
+    takes_knowing : (p word : ℕ) (value : Option T) → Knows owners p word value (at p v) → Knows owners p word value (at p w)
+        → Knows owners p word value (at p (rights_joined v w))
     takes_knowing p word value k l = let same = knows p in record {
       true_value = k.true_value;
       open_value = k.open_value;
@@ -119,7 +132,8 @@ module _ {T : Type 0} (fits : ℕ → T → Type 0) (owners : List Owner) where
           same_claims = λ p. let z : times p w.hold.claims ≡ 0 = ap (times p) no_claim in omega arith;
           same_puts = λ p. let z : times p w.hold.puts ≡ 0 = ap (times p) no_put in omega arith;
           same_fills = λ p. let i : fills p v.stage ≡ 0 = ap (fills p) idles in let j : fills p w.stage ≡ 0 = ap (fills p) rests in omega arith;
-          same_turns = λ p. let i : one_if_some (turn_of p v.stage) ≡ 0 = ap (λ st. one_if_some (turn_of p st)) idles in let j : one_if_some (turn_of p w.stage) ≡ 0 = ap (λ st. one_if_some (turn_of p st)) rests in omega arith;
+          same_turns = λ p. let i : one_if_some (turn_of p v.stage) ≡ 0 = ap (λ st. one_if_some (turn_of p st)) idles in
+              let j : one_if_some (turn_of p w.stage) ≡ 0 = ap (λ st. one_if_some (turn_of p st)) rests in omega arith;
         })
         (λ p k l. takes_knowing p _ _ k l)
         (λ p l. spent_at owners p _ _)
@@ -143,4 +157,5 @@ module _ {T : Type 0} (owners : List Owner) (a h n : Hold T) (known : Met owners
       record { still_claimed = grown.still_claimed; still_open = grown.still_open; same_value = grown.same_value }
 
   pub told_owns : OwnsAll owners h n
-  told_owns p right private mine seen_there = subst (λ (z : Known T). 1 ≤ z.word) (record_of-unread h.places p) (known.owns_other p right private mine seen_there)
+  told_owns p right private mine seen_there = subst (λ (z : Known T). 1 ≤ z.word) (record_of-unread h.places p)
+      (known.owns_other p right private mine seen_there)

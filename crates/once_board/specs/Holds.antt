@@ -16,23 +16,58 @@ module _ {T : Type 0} where
 
   -- after the claim of a place was won
   abbrev pub won : ℕ → Hold T → Hold T
-  won place h = record { rights = h.rights; parts = h.parts; claims = place ∷ h.claims; puts = h.puts; places = noted h.places place (claimed (record_of h.places place)) }
+  won place h = record {
+    rights = h.rights;
+    parts = h.parts;
+    claims = place ∷ h.claims;
+    puts = h.puts;
+    places = noted h.places place
+        (claimed (record_of h.places place));
+  }
 
   -- after a word was read at a place
   abbrev pub saw : ℕ → ℕ → Hold T → Hold T
-  saw place word h = record { rights = h.rights; parts = h.parts; claims = h.claims; puts = h.puts; places = noted h.places place (read word (record_of h.places place)) }
+  saw place word h = record {
+    rights = h.rights;
+    parts = h.parts;
+    claims = h.claims;
+    puts = h.puts;
+    places = noted h.places place
+        (read word (record_of h.places place));
+  }
 
   -- after a value was put at a place
   abbrev pub put_at : ℕ → T → Hold T → Hold T
-  put_at place x h = record { rights = h.rights; parts = h.parts; claims = h.claims; puts = place ∷ h.puts; places = noted h.places place (opened x (record_of h.places place)) }
+  put_at place x h = record {
+    rights = h.rights;
+    parts = h.parts;
+    claims = h.claims;
+    puts = place ∷ h.puts;
+    places = noted h.places place
+        (opened x (record_of h.places place));
+  }
 
   -- after the value of a place became known
   abbrev pub learned : ℕ → T → Hold T → Hold T
-  learned place x h = record { rights = h.rights; parts = h.parts; claims = h.claims; puts = h.puts; places = noted h.places place (opened x (record_of h.places place)) }
+  learned place x h = record {
+    rights = h.rights;
+    parts = h.parts;
+    claims = h.claims;
+    puts = h.puts;
+    places = noted h.places place
+        (opened x (record_of h.places place));
+  }
 
   -- after the value of a place was read, while its word was 2
   abbrev pub looked : ℕ → T → Hold T → Hold T
-  looked place x h = record { rights = h.rights; parts = h.parts; claims = h.claims; puts = h.puts; places = noted h.places place (opened x (read 2 (record_of h.places place))) }
+  looked place x h = record {
+    rights = h.rights;
+    parts = h.parts;
+    claims = h.claims;
+    puts = h.puts;
+    places = noted h.places place
+        (opened x (read 2 (record_of h.places place)));
+  }
 
   -- what a seat keeps when another is split off, with a right or none
   abbrev pub split_kept : Option ℕ → Hold T → Hold T
@@ -55,7 +90,14 @@ module _ {T : Type 0} where
 
   -- two seats in one
   abbrev pub joined : Hold T → Hold T → Hold T
-  joined h other = record { rights = h.rights ++ other.rights; parts = h.parts + other.parts; claims = h.claims ++ other.claims; puts = h.puts ++ other.puts; places = together h.places other.places }
+  joined h other = record {
+    rights = h.rights ++ other.rights;
+    parts = h.parts + other.parts;
+    claims = h.claims ++ other.claims;
+    puts
+        = h.puts ++ other.puts;
+    places = together h.places other.places;
+  }
 
   -- a seat that was told what another knows
   abbrev pub told : Hold T → Hold T → Hold T
@@ -71,7 +113,8 @@ module _ {T : Type 0} where
 
   -- a place that is private to a right of the first is known as claimed or open to the second only where it was to the first
   abbrev pub OwnsAll : List Owner → Hold T → Hold T → Type 0
-  OwnsAll owners h after = (place right : ℕ) → IsPrivate owners place right → 1 ≤ times right h.rights → 1 ≤ (record_of after.places place).word → 1 ≤ (record_of h.places place).word
+  OwnsAll owners h after = (place right : ℕ) → IsPrivate owners place right → 1 ≤ times right h.rights → 1 ≤ (record_of after.places place).word → 1 ≤
+      (record_of h.places place).word
 
   -- a place whose value is known is known as open
   abbrev pub IsLawful : Hold T → Type 0

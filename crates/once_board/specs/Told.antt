@@ -10,7 +10,8 @@ use Rattle.once_board.specs.declared.owners.Owner.{Owner}
 use Rattle.once_board.specs.Numbers.{times}
 use Rattle.once_board.specs.Places.{IsFree, record_of}
 use Rattle.once_board.specs.Rule.{IsMet}
-use Rattle.once_board.specs.Holds.{AwaitsPuts, ClaimsAll, Extends, FitsAll, HasParts, HasRightsOnce, IsLawful, IsOnce, OwnsAll, ShowsClaims, joined, learned, nothing, put_at, with_rights, saw, without_rights, split_kept, split_off, rights_and_records, won}
+use Rattle.once_board.specs.Holds.{AwaitsPuts, ClaimsAll, Extends, FitsAll, HasParts, HasRightsOnce, IsLawful, IsOnce, OwnsAll, ShowsClaims, joined, learned}
+use Rattle.once_board.specs.Holds.{nothing, put_at, with_rights, saw, without_rights, split_kept, split_off, rights_and_records, won}
 
 -- what holds of each seat at every moment
 pub record IsSound {T : Type 0} (fits : ℕ → T → Type 0) (h : Hold T) : Type 0 where
@@ -65,7 +66,8 @@ module _ {T : Type 0} where
 
   -- a store of 2 that brings the value home
   abbrev pub put_told : (ℕ → T → Type 0) → Step (Option T) → Seated T → ℕ → Seated T → Type 0
-  put_told fits st m found m' = (place : ℕ) (x : T) → st.word ≡ suc place → m.1 ≡ (place, Some x) ∷ [] → (m'.1 ≡ []) × (m'.0 ≡ idle (put_at place x m.0.hold)) × IsSound fits m'.0.hold
+  put_told fits st m found m' = (place : ℕ) (x : T) → st.word ≡ suc place → m.1 ≡ (place, Some x) ∷ [] → (m'.1 ≡ [])
+      × (m'.0 ≡ idle (put_at place x m.0.hold)) × IsSound fits m'.0.hold
 
   -- how a seat is cut in two: with a right or none, and its rights with what it knows
   abbrev pub cut_kept : Option ℕ → Seen T → Seen T
@@ -122,4 +124,5 @@ module _ {T : Type 0} where
 
   -- a store of 2 that brings the value home, by the seat that has its turn: it knows the value then
   abbrev pub learn_told : (ℕ → T → Type 0) → Step (Option T) → Seated T → ℕ → Seated T → Type 0
-  learn_told fits st m found m' = (place : ℕ) (x : T) → st.word ≡ suc place → m.0.stage ≡ Turn place x → (m'.0 ≡ idle (learned place x m.0.hold)) × (m'.1 ≡ rest m.1) × IsSound fits m'.0.hold
+  learn_told fits st m found m' = (place : ℕ) (x : T) → st.word ≡ suc place → m.0.stage ≡ Turn place x → (m'.0 ≡ idle (learned place x m.0.hold))
+      × (m'.1 ≡ rest m.1) × IsSound fits m'.0.hold

@@ -10,7 +10,13 @@ use Rattle.board_tests.proofs.Passing.{reads_prefixes}
 use Rattle.board_tests.proofs.passes.join_passes.Goals as goal
 
 pub loop-pass-init : goal.loop-pass-init
-loop-pass-init c = ([], sym (append-nil c.args.passes.items), c.requires.first, c.requires.passes, gathered_none hold_of c.args.board.now.owners c.args.first.hold)
+loop-pass-init c = (
+  [],
+  sym (append-nil c.args.passes.items),
+  c.requires.first,
+  c.requires.passes,
+  gathered_none hold_of c.args.board.now.owners c.args.first.hold,
+)
 
 pub join-requires : goal.join-requires
 join-requires c = record {

@@ -8,7 +8,8 @@ use Rattle.board_tests.proofs.passes.put_next.Goals as goal
 
 pub returns-clause-pass : goal.returns-clause-pass
 returns-clause-pass c =
-    put_pass c.args.board.now c.requires.laid c.args.pass.now _ c.requires.pass refl (c.put.ensures.board ∙ c.claim.ensures.board) c.args.value refl c.requires.room
+    put_pass c.args.board.now c.requires.laid c.args.pass.now _ c.requires.pass refl
+    (c.put.ensures.board ∙ c.claim.ensures.board) c.args.value refl c.requires.room
     (c.put.ensures.put ∙ ap (put_at _ c.args.value) c.in-Won.ensures.answer.0)
 
 pub returns-clause-values : goal.returns-clause-values

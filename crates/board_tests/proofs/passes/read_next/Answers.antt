@@ -9,5 +9,6 @@ returns-in-Value-clause-pass c =
 
 pub returns-in_default : goal.returns-in_default
 returns-in_default c =
-    let same = same_pass c.args.board.now c.requires.laid c.args.pass.now _ c.requires.pass refl c.look.ensures.board refl c.look.ensures.extends c.look.ensures.owns c.look.ensures.held.0 in
+    let same = same_pass c.args.board.now c.requires.laid c.args.pass.now _ c.requires.pass refl c.look.ensures.board refl c.look.ensures.extends
+    c.look.ensures.owns c.look.ensures.held.0 in
     record { pass = same.0; row = refl; values = same.1; rights = c.look.ensures.held.0 }

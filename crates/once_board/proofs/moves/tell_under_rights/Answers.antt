@@ -45,6 +45,8 @@ join_seat-requires-2 g c =
       c.split_seat-back.ensures.3 ∙ (c.join_seat.ensures.0 ∙ c.requires.board.0),
       ap (λ m. m.1) c.split_seat-back.ensures.4,
       c.requires.board.2,
-      joins_rights _ _ _ _ (ap (λ v. v.stage) kept) (ap (λ v. v.stage) back) (ap (λ v. v.hold.parts) back) (ap (λ v. v.hold.claims) back) (ap (λ v. v.hold.puts) back)
-          (λ p. ap (λ v. (record_of v.hold.places p).word) back ∙ (ap (λ k. k.word) (record_of-unread h.places p) ∙ sym (ap (λ v. (record_of v.hold.places p).word) kept))) _ _,
+      joins_rights _ _ _ _ (ap (λ v. v.stage) kept) (ap (λ v. v.stage) back) (ap (λ v. v.hold.parts) back) (ap (λ v. v.hold.claims) back)
+          (ap (λ v. v.hold.puts) back)
+          (λ p. ap (λ v. (record_of v.hold.places p).word) back
+          ∙ (ap (λ k. k.word) (record_of-unread h.places p) ∙ sym (ap (λ v. (record_of v.hold.places p).word) kept))) _ _,
     )

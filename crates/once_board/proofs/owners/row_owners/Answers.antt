@@ -8,6 +8,7 @@ loop-place-preserved c =
 
 pub returns : goal.returns
 returns c =
-    let end : c.loop-place.place ≡ c.args.count * c.args.width = (let most = c.loop-place-test.false in let least = c.loop-place.auto.place-end in omega arith) in
+    let end : c.loop-place.place ≡ c.args.count * c.args.width = (let most = c.loop-place-test.false in let least = c.loop-place.auto.place-end in
+    omega arith) in
     rows_laid c.args.count c.args.width c.args.rights c.loop-place.owners.items
     (subst (λ n. GoRound c.args.width c.args.rights n c.loop-place.owners.items) end c.loop-place.invariant)

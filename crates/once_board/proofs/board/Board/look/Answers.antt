@@ -24,8 +24,14 @@ returns-clause-answer g c =
     let same = ap (λ s. s.hold) c.seat.view_is in
     let P = λ (answer : _). Looks g.T.Share.fits c.args.place c.args.seat.now.hold c.share_value.new.seat.me.0.hold answer in
     elim c.match-share_value.branch [
-      | in-Ok w ↦ subst P (sym w.result-is) (subst (λ x. P (Value x)) (sym w.in-Ok.ensures.learned.3) (found _ _ _ _ _ _ _ _ _ owned same told two w.in-Ok.ensures.learned.0 w.in-Ok.ensures.learned.1 (ap (λ m. m.0.hold) w.in-Ok.ensures.learned.2)))
-      | in-Err w ↦ subst P (sym w.result-is) (w.in-Err.ensures.learned.0, found _ _ _ _ _ _ _ _ _ owned same told two w.in-Err.ensures.learned.0 w.in-Err.ensures.learned.1 (ap (λ m. m.0.hold) w.in-Err.ensures.learned.2))
+      | in-Ok w ↦ subst P (sym w.result-is)
+          (subst (λ x. P (Value x)) (sym w.in-Ok.ensures.learned.3)
+          (found _ _ _ _ _ _ _ _ _ owned same told two w.in-Ok.ensures.learned.0 w.in-Ok.ensures.learned.1 (ap (λ m. m.0.hold) w.in-Ok.ensures.learned.2)))
+      | in-Err w ↦ subst P (sym w.result-is) (
+        w.in-Err.ensures.learned.0,
+        found _ _ _ _ _ _ _ _ _ owned same told two w.in-Err.ensures.learned.0 w.in-Err.ensures.learned.1
+            (ap (λ m. m.0.hold) w.in-Err.ensures.learned.2),
+      )
     ]
 
 pub returns-clause-extends : goal.returns-clause-extends
@@ -48,11 +54,13 @@ returns-clause-owns g c =
 
 pub returns-then-word-lt2-clause-held : goal.returns-then-word-lt2-clause-held
 returns-then-word-lt2-clause-held g c =
-    same_held g.T.Share.fits c.args.place c.args.seat.now.hold c.take_turn-word.new.seat.me.0.hold (NotYet c.take_turn-word.result) (returns-then-word-lt2-clause-answer g c)
+    same_held g.T.Share.fits c.args.place c.args.seat.now.hold c.take_turn-word.new.seat.me.0.hold (NotYet c.take_turn-word.result)
+    (returns-then-word-lt2-clause-answer g c)
 
 pub returns-then-word-eq3-clause-held : goal.returns-then-word-eq3-clause-held
 returns-then-word-eq3-clause-held g c =
-    same_held g.T.Share.fits c.args.place c.args.seat.now.hold c.take_turn-word.new.seat.me.0.hold (Busy c.take_turn-word.result) (returns-then-word-eq3-clause-answer g c)
+    same_held g.T.Share.fits c.args.place c.args.seat.now.hold c.take_turn-word.new.seat.me.0.hold (Busy c.take_turn-word.result)
+    (returns-then-word-eq3-clause-answer g c)
 
 pub returns-clause-held : goal.returns-clause-held
 returns-clause-held g c = same_held g.T.Share.fits c.args.place c.args.seat.now.hold c.share_value.new.seat.me.0.hold _ (returns-clause-answer g c)

@@ -25,7 +25,8 @@ zero_unless zero h = refl
 zero_unless (suc n) h = absurd (h (omega arith))
 
 module _ {T : Type 0} where
-  pub at_same : (a b : At T) → a.claims ≡ b.claims → a.puts ≡ b.puts → a.fills_it ≡ b.fills_it → a.turn ≡ b.turn → a.known ≡ b.known → a.rights ≡ b.rights → a ≡ b
+  pub at_same : (a b : At T) → a.claims ≡ b.claims → a.puts ≡ b.puts → a.fills_it ≡ b.fills_it → a.turn ≡ b.turn → a.known ≡ b.known → a.rights ≡ b.rights
+      → a ≡ b
   at_same a b c p f t k r i = record { claims = c i; puts = p i; fills_it = f i; turn = t i; known = k i; rights = r i }
 
   pub turn_else : (p q : ℕ) (x : T) → q ≢ p → turn_of q (Turn p x) ≡ None

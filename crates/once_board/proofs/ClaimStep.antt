@@ -9,10 +9,11 @@ use Rattle.once_board.specs.declared.holds.Hold.{Hold}
 use Rattle.once_board.specs.declared.holds.Stage.TheVariants.{Idle}
 use Rattle.once_board.specs.declared.holds.Seen.{Seen}
 use Rattle.once_board.specs.declared.owners.Owner.{Owner}
-use Rattle.once_board.specs.Numbers.{times}
+use Rattle.once_board.specs.Numbers.{times, total}
 use Rattle.once_board.specs.Places.{record_of, read, claimed, IsFree, Grows}
 use Rattle.once_board.specs.Holds.{won, saw, MayClaim, Extends}
-use Rattle.once_board.specs.Rule.{Content, vacant, awaited, filling, ready, lent, total, word_of, value_of, claim_count, fills, turn_of, one_if_some, IsHome, At, at, Knows, PlaceOk, SeatOk, Rule}
+use Rattle.once_board.specs.Rule.{Content, vacant, awaited, filling, ready, lent, word_of, value_of, claim_count, fills, turn_of, one_if_some, IsHome, At, at}
+use Rattle.once_board.specs.Rule.{Knows, PlaceOk, SeatOk, Rule, fill_count, turn_count}
 use Rattle.once_board.specs.Told.{IsSound, Follows, WasNew, Seated, idle, Claimed, claim_told}
 use Rattle.once_board.specs.declared.answers.Claiming.TheVariants.{Won, Taken}
 use Rattle.once_board.specs.Boards.{Claims}
@@ -30,18 +31,28 @@ small_word (lent x) = omega arith
 
 module _ {T : Type 0} (fits : ℕ → T → Type 0) (owners : List Owner) where
   -- the word of a place was read, and nothing else happens
-  module _ (s : Table T) (r : Rule fits owners s) (id p : ℕ) (v : Seen T) (idles : v.stage ≡ Idle) (e : get_elem? s.views id ≡ some v) (inside : p < length s.homes) where
+  module _ (s : Table T) (r : Rule fits owners s) (id p : ℕ) (v : Seen T) (idles : v.stage ≡ Idle) (e : get_elem? s.views id ≡ some v)
+      (inside : p < length s.homes) where
     abbrev found : ℕ
     found = get_or s.words (suc p) 0
 
     abbrev after : Seen T
     after = idle (saw p found v.hold)
 
-    saw_at : at p after ≡ record { claims = times p v.hold.claims; puts = times p v.hold.puts; fills_it = 0; turn = None; known = read found (record_of v.hold.places p); rights = v.hold.rights }
+    saw_at : at p after ≡ record {
+      claims = times p v.hold.claims;
+      puts = times p v.hold.puts;
+      fills_it = 0;
+      turn = None;
+      known = read found
+          (record_of v.hold.places p);
+      rights = v.hold.rights;
+    }
     saw_at = at_same _ _ refl refl refl refl (noted_here v.hold.places p (read found (record_of v.hold.places p))) refl
 
     saw_off : OffSame fits owners p v after
-    saw_off q ne = at_same _ _ refl refl (ap (fills q) (sym idles)) (ap (turn_of q) (sym idles)) (noted_else v.hold.places p q (read found (record_of v.hold.places p)) ne) refl
+    saw_off q ne = at_same _ _ refl refl (ap (fills q) (sym idles)) (ap (turn_of q) (sym idles))
+        (noted_else v.hold.places p q (read found (record_of v.hold.places p)) ne) refl
 
     old : Knows owners p (word_of (r.contents p)) (value_of (r.contents p)) (at p v)
     old = (r.place_each p).knowers id v e
@@ -50,25 +61,26 @@ module _ {T : Type 0} (fits : ℕ → T → Type 0) (owners : List Owner) where
     word_is = (r.place_each p).word
 
     saw_knows : Knows owners p (word_of (r.contents p)) (value_of (r.contents p)) (at p after)
-    saw_knows = let is : found ≡ word_of (r.contents p) = word_is in subst (λ a. Knows owners p (word_of (r.contents p)) (value_of (r.contents p)) a) (sym saw_at) (record {
-      true_value = old.true_value;
-      open_value = λ x k. let o = old.was_open (old.open_value x k) in omega arith;
-      was_claimed = λ h. omega arith;
-      was_open = λ h. omega arith;
-      shown = λ h. let o = old.was_claimed (old.shown h) in omega arith;
-      own_value = old.own_value;
-      put_claimed = old.put_claimed;
-      fill_claimed = omega arith;
-      has_turn = λ x k. absurd (cc);
-      own_place = λ right private mine h. omega arith;
-    })
+    saw_knows = let is : found ≡ word_of (r.contents p) = word_is in
+        subst (λ a. Knows owners p (word_of (r.contents p)) (value_of (r.contents p)) a) (sym saw_at) (record {
+          true_value = old.true_value;
+          open_value = λ x k. let o = old.was_open (old.open_value x k) in omega arith;
+          was_claimed = λ h. omega arith;
+          was_open = λ h. omega arith;
+          shown = λ h. let o = old.was_claimed (old.shown h) in omega arith;
+          own_value = old.own_value;
+          put_claimed = old.put_claimed;
+          fill_claimed = omega arith;
+          has_turn = λ x k. absurd (cc);
+          own_place = λ right private mine h. omega arith;
+        })
 
     pub saw_keeps : Rule fits owners (changed fits owners s p found s.homes id after)
     saw_keeps = keeps fits owners s r id v after p found s.homes e (r.contents p) saw_off refl refl refl (λ q ne. refl)
         (record { claims_need_a_part = (r.seat_each id v e).claims_need_a_part; joined_well = tt })
         (here fits owners s r id v after p found s.homes e (r.contents p) (r.contents p) (r.place_each p) inside word_is refl refl
-        (ap (λ st. fills p st + Rattle.once_board.specs.Rule.fill_count (r.contents p)) (sym idles))
-        (ap (λ st. one_if_some (turn_of p st) + Rattle.once_board.specs.Rule.turn_count (r.contents p)) (sym idles))
+        (ap (λ st. fills p st + fill_count (r.contents p)) (sym idles))
+        (ap (λ st. one_if_some (turn_of p st) + turn_count (r.contents p)) (sym idles))
         ((r.place_each p).home inside) (r.place_each p).may_stand saw_knows (λ j u ne d k. k))
 
     pub follows : Follows found (record_of v.hold.places p)
@@ -87,16 +99,26 @@ module _ {T : Type 0} (fits : ℕ → T → Type 0) (owners : List Owner) where
     pub saw_sound : IsSound fits (saw p found v.hold)
     saw_sound = sound_of fits owners (changed fits owners s p found s.homes id after) saw_keeps id after (set_there s.views id v after e)
 
-  module _ (s : Table T) (r : Rule fits owners s) (id p : ℕ) (v : Seen T) (idles : v.stage ≡ Idle) (e : get_elem? s.views id ≡ some v) (inside : p < length s.homes)
+  module _ (s : Table T) (r : Rule fits owners s) (id p : ℕ) (v : Seen T) (idles : v.stage ≡ Idle) (e : get_elem? s.views id ≡ some v)
+      (inside : p < length s.homes)
       (part : 1 ≤ v.hold.parts) (may : MayClaim owners p v.hold) where
     abbrev winner : Seen T
     winner = idle (won p v.hold)
 
-    won_at : at p winner ≡ record { claims = suc (times p v.hold.claims); puts = times p v.hold.puts; fills_it = 0; turn = None; known = claimed (record_of v.hold.places p); rights = v.hold.rights }
+    won_at : at p winner ≡ record {
+      claims = suc (times p v.hold.claims);
+      puts = times p v.hold.puts;
+      fills_it = 0;
+      turn = None;
+      known = claimed
+          (record_of v.hold.places p);
+      rights = v.hold.rights;
+    }
     won_at = at_same _ _ (times_here p v.hold.claims) refl refl refl (noted_here v.hold.places p (claimed (record_of v.hold.places p))) refl
 
     won_off : OffSame fits owners p v winner
-    won_off q ne = at_same _ _ (other_claims p q v.hold.claims ne) refl (ap (fills q) (sym idles)) (ap (turn_of q) (sym idles)) (noted_else v.hold.places p q (claimed (record_of v.hold.places p)) ne) refl
+    won_off q ne = at_same _ _ (other_claims p q v.hold.claims ne) refl (ap (fills q) (sym idles)) (ap (turn_of q) (sym idles))
+        (noted_else v.hold.places p q (claimed (record_of v.hold.places p)) ne) refl
 
     won_knows : Knows owners p 0 None (at p v) → times p v.hold.claims ≡ 0 → Knows owners p 1 None (at p winner)
     won_knows old none_yet = subst (λ a. Knows owners p 1 None a) (sym won_at) (record {
@@ -189,7 +211,8 @@ module _ {T : Type 0} (fits : ℕ → T → Type 0) (owners : List Owner) where
       let n : ℕ = get_or s.words (suc p) 0 in
       let v : Seen T = m.0 in
       let inside' : p < length s.homes = omega arith in
-      let P : ℕ → Type 0 = λ new. (w : Seen T) × (a : Act (Option T)) × Valid s.homes m.1 a × Rule fits owners (stepped s (suc p) new id m.1 w a) × claim_told fits owners (step slots (suc p) 0 1 none) m n (w, carried_after m.1 a) in
+      let P : ℕ → Type 0 = λ new. (w : Seen T) × (a : Act (Option T)) × Valid s.homes m.1 a × Rule fits owners (stepped s (suc p) new id m.1 w a)
+      × claim_told fits owners (step slots (suc p) 0 1 none) m n (w, carried_after m.1 a) in
       exchanged n 0 1 P
       (λ hit.
       let c : Content T = r.contents p in
@@ -205,7 +228,8 @@ module _ {T : Type 0} (fits : ℕ → T → Type 0) (owners : List Owner) where
             subst (λ z. Claimed fits owners z n m (idle (won p v.hold), m.1)) there (record {
               same_slots = refl;
               small = omega arith;
-              sound = sound_of fits owners (changed fits owners s p 1 s.homes id (idle (won p v.hold))) kept id (idle (won p v.hold)) (set_there s.views id v (idle (won p v.hold)) e);
+              sound = sound_of fits owners (changed fits owners s p 1 s.homes id (idle (won p v.hold))) kept id (idle (won p v.hold))
+                  (set_there s.views id v (idle (won p v.hold)) e);
               extends = extends_at v.hold (won p v.hold) p (claimed (record_of v.hold.places p)) refl (won_grows s r id p v idles e inside' part may c ok is);
               at_once = λ z. (refl, won_new s r id p v idles e inside' part may c ok is);
               lost = λ taken. absurd (taken hit);
@@ -229,14 +253,17 @@ module _ {T : Type 0} (fits : ℕ → T → Type 0) (owners : List Owner) where
       ))
 
   -- in the words of the code
-  pub claims_next : (slots id p : ℕ) (m : Seated T) (key : List Owner) → key ≡ owners → m.0.stage ≡ Idle → p < slots → 1 ≤ m.0.hold.parts → MayClaim owners p m.0.hold
+  pub claims_next : (slots id p : ℕ) (m : Seated T) (key : List Owner) → key ≡ owners → m.0.stage ≡ Idle → p < slots → 1 ≤ m.0.hold.parts
+      → MayClaim owners p m.0.hold
       → Allows (Rule fits key) slots id m (p + 1) (λ n. either (n == 0) 1 n) (claim_told fits owners (step slots (p + 1) 0 1 none) m)
   claims_next slots id p m key is idles inside part may =
-      let P : ℕ → List Owner → Type 0 = λ i k. Allows (Rule fits k) slots id m i (λ n. either (n == 0) 1 n) (claim_told fits owners (step slots i 0 1 none) m) in
+      let P : ℕ → List Owner → Type 0 = λ i k. Allows (Rule fits k) slots id m i (λ n. either (n == 0) 1 n)
+      (claim_told fits owners (step slots i 0 1 none) m) in
       subst (λ i. P i key) (sym (add-one p)) (subst (λ k. P (suc p) k) (sym is) (claims slots id p m idles inside part may))
 
   -- what the board answers
-  pub answers_won : (p word : ℕ) (m m' : Seated T) (key : List Owner) (h : Hold T) → owners ≡ key → m.0.hold ≡ h → Claimed fits owners p word m m' → word ≡ 0 → Claims key p h m'.0.hold Won
+  pub answers_won : (p word : ℕ) (m m' : Seated T) (key : List Owner) (h : Hold T) → owners ≡ key → m.0.hold ≡ h → Claimed fits owners p word m m'
+      → word ≡ 0 → Claims key p h m'.0.hold Won
   answers_won p word m m' key h is same told hit =
       let won_it = told.at_once hit in
       let after = ap (λ v. v.hold) won_it.0 in
@@ -244,10 +271,18 @@ module _ {T : Type 0} (fits : ℕ → T → Type 0) (owners : List Owner) where
       subst (λ o. P o h) is (subst (λ b. P owners b) same
       (after, won_it.1, ap (λ b. record_of b.places p) after ∙ noted_here m.0.hold.places p (claimed (record_of m.0.hold.places p))))
 
-  pub answers_taken : (p word : ℕ) (m m' : Seated T) (key : List Owner) (h : Hold T) → owners ≡ key → m.0.hold ≡ h → Claimed fits owners p word m m' → word ≢ 0 → Claims key p h m'.0.hold (Taken word)
+  pub answers_taken : (p word : ℕ) (m m' : Seated T) (key : List Owner) (h : Hold T) → owners ≡ key → m.0.hold ≡ h → Claimed fits owners p word m m'
+      → word ≢ 0 → Claims key p h m'.0.hold (Taken word)
   answers_taken p word m m' key h is same told miss =
       let lost_it = told.lost miss in
       let after = ap (λ v. v.hold) lost_it.0 in
       let P : List Owner → Hold T → Type 0 = λ o b. Claims o p b m'.0.hold (Taken word) in
-      subst (λ o. P o h) is (subst (λ b. P owners b) same
-      (after, ap (λ b. record_of b.places p) after ∙ noted_here m.0.hold.places p (read word (record_of m.0.hold.places p)), miss, told.small, lost_it.1, lost_it.2))
+      subst (λ o. P o h) is (subst (λ b. P owners b) same (
+        after,
+        ap (λ b. record_of b.places p) after
+            ∙ noted_here m.0.hold.places p (read word (record_of m.0.hold.places p)),
+        miss,
+        told.small,
+        lost_it.1,
+        lost_it.2,
+      ))

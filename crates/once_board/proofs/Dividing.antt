@@ -21,7 +21,8 @@ pub record Shares {T : Type 0} (l m : Seen T) (rights claims puts fills turns : 
 
 module _ {T : Type 0} (fits : ℕ → T → Type 0) (owners : List Owner) (s : Table T) (r : Rule fits owners s) where
   abbrev Passes : Seen T → Seen T → Type 0
-  Passes v l = (p : ℕ) → Knows owners p (word_of (r.contents p)) (value_of (r.contents p)) (at p v) → Knows owners p (word_of (r.contents p)) (value_of (r.contents p)) (at p l)
+  Passes v l = (p : ℕ) → Knows owners p (word_of (r.contents p)) (value_of (r.contents p)) (at p v) → Knows owners p (word_of (r.contents p))
+      (value_of (r.contents p)) (at p l)
 
   module _ (id : ℕ) (v l m : Seen T) (e : get_elem? s.views id ≡ some v) where
     abbrev Two : List (Seen T)
@@ -30,18 +31,21 @@ module _ {T : Type 0} (fits : ℕ → T → Type 0) (owners : List Owner) (s : T
     abbrev pub parted : Table T
     parted = record { words = s.words; homes = s.homes; views = Two }
 
-    each_of_two : (P : Seen T → Type 0) → ((j : ℕ) (u : Seen T) → get_elem? s.views j ≡ some u → P u) → P l → P m → (j : ℕ) (u : Seen T) → get_elem? Two j ≡ some u → P u
+    each_of_two : (P : Seen T → Type 0) → ((j : ℕ) (u : Seen T) → get_elem? s.views j ≡ some u → P u) → P l → P m → (j : ℕ) (u : Seen T)
+        → get_elem? Two j ≡ some u → P u
     each_of_two P old first second j u d = ⊎_elim
         (λ here. ⊎_elim (λ t. subst P t.1 first) (λ t. old j u t.1) (at_set s.views id j l u here))
         (λ is. subst P is second)
         (at_snoc (set s.views id l) m u j d)
 
-    pub splits_well : Shares l m (λ x. times x v.hold.rights) (λ p. (at p v).claims) (λ p. (at p v).puts) (λ p. (at p v).fills_it) (λ p. one_if_some (at p v).turn) v.hold.parts
+    pub splits_well : Shares l m (λ x. times x v.hold.rights) (λ p. (at p v).claims) (λ p. (at p v).puts) (λ p. (at p v).fills_it)
+        (λ p. one_if_some (at p v).turn) v.hold.parts
         → Passes v l → Passes v m → SeatOk owners l → SeatOk owners m → Rule fits owners parted
     splits_well sums first second first_ok second_ok = record {
       contents = r.contents;
       word_each = r.word_each;
-      right_once = λ x. let t = total_split (λ (u : Seen T). times x u.hold.rights) s.views id v l m e (sums.same_rights x) in let o = r.right_once x in omega arith;
+      right_once = λ x. let t = total_split (λ (u : Seen T). times x u.hold.rights) s.views id v l m e (sums.same_rights x) in let o = r.right_once x in
+          omega arith;
       right_each = λ x h. total_split (λ u. times x u.hold.rights) s.views id v l m e (sums.same_rights x) ∙ r.right_each x h;
       all_the_parts = total_split (λ u. u.hold.parts) s.views id v l m e sums.same_parts ∙ r.all_the_parts;
       place_each = λ p. let ok = r.place_each p in record {
@@ -52,19 +56,22 @@ module _ {T : Type 0} (fits : ℕ → T → Type 0) (owners : List Owner) (s : T
         turned_by = total_split (λ u. one_if_some (at p u).turn) s.views id v l m e (sums.same_turns p) ∙ ok.turned_by;
         home = ok.home;
         may_stand = ok.may_stand;
-        knowers = each_of_two (λ u. Knows owners p (word_of (r.contents p)) (value_of (r.contents p)) (at p u)) ok.knowers (first p (ok.knowers id v e)) (second p (ok.knowers id v e));
+        knowers = each_of_two (λ u. Knows owners p (word_of (r.contents p)) (value_of (r.contents p)) (at p u)) ok.knowers (first p (ok.knowers id v e))
+            (second p (ok.knowers id v e));
       };
       seat_each = each_of_two (SeatOk owners) r.seat_each first_ok second_ok;
     }
 
-  module _ (id other : ℕ) (v w both left : Seen T) (e : get_elem? s.views id ≡ some v) (apart : other ≢ id) (d : get_elem? (set s.views id both) other ≡ some w) where
+  module _ (id other : ℕ) (v w both left : Seen T) (e : get_elem? s.views id ≡ some v) (apart : other ≢ id)
+      (d : get_elem? (set s.views id both) other ≡ some w) where
     abbrev One : List (Seen T)
     One = set (set s.views id both) other left
 
     abbrev pub merged : Table T
     merged = record { words = s.words; homes = s.homes; views = One }
 
-    each_of_one : (P : Seen T → Type 0) → ((j : ℕ) (u : Seen T) → get_elem? s.views j ≡ some u → P u) → P both → P left → (j : ℕ) (u : Seen T) → get_elem? One j ≡ some u → P u
+    each_of_one : (P : Seen T → Type 0) → ((j : ℕ) (u : Seen T) → get_elem? s.views j ≡ some u → P u) → P both → P left → (j : ℕ) (u : Seen T)
+        → get_elem? One j ≡ some u → P u
     each_of_one P old first second j u k = ⊎_elim
         (λ t. subst P t.1 second)
         (λ t. ⊎_elim (λ z. subst P z.1 first) (λ z. old j u z.1) (at_set s.views id j both u t.1))
@@ -73,15 +80,18 @@ module _ {T : Type 0} (fits : ℕ → T → Type 0) (owners : List Owner) (s : T
     pub other_was : get_elem? s.views other ≡ some w
     other_was = ⊎_elim (λ t. absurd (apart t.0)) (λ t. t.1) (at_set s.views id other both w d)
 
-    pub joins_well : Shares both left (λ x. times x v.hold.rights + times x w.hold.rights) (λ p. (at p v).claims + (at p w).claims) (λ p. (at p v).puts + (at p w).puts)
+    pub joins_well : Shares both left (λ x. times x v.hold.rights + times x w.hold.rights) (λ p. (at p v).claims + (at p w).claims)
+        (λ p. (at p v).puts + (at p w).puts)
         (λ p. (at p v).fills_it + (at p w).fills_it) (λ p. one_if_some (at p v).turn + one_if_some (at p w).turn) (v.hold.parts + w.hold.parts)
-        → ((p : ℕ) → Knows owners p (word_of (r.contents p)) (value_of (r.contents p)) (at p v) → Knows owners p (word_of (r.contents p)) (value_of (r.contents p)) (at p w)
+        → ((p : ℕ) → Knows owners p (word_of (r.contents p)) (value_of (r.contents p)) (at p v) → Knows owners p (word_of (r.contents p))
+        (value_of (r.contents p)) (at p w)
         → Knows owners p (word_of (r.contents p)) (value_of (r.contents p)) (at p both))
         → Passes w left → SeatOk owners both → SeatOk owners left → Rule fits owners merged
     joins_well sums first second first_ok second_ok = record {
       contents = r.contents;
       word_each = r.word_each;
-      right_once = λ x. let t = total_join (λ (u : Seen T). times x u.hold.rights) s.views id other v w both left e d (sums.same_rights x) in let o = r.right_once x in omega arith;
+      right_once = λ x. let t = total_join (λ (u : Seen T). times x u.hold.rights) s.views id other v w both left e d (sums.same_rights x) in
+          let o = r.right_once x in omega arith;
       right_each = λ x h. total_join (λ u. times x u.hold.rights) s.views id other v w both left e d (sums.same_rights x) ∙ r.right_each x h;
       all_the_parts = total_join (λ u. u.hold.parts) s.views id other v w both left e d sums.same_parts ∙ r.all_the_parts;
       place_each = λ p. let ok = r.place_each p in record {

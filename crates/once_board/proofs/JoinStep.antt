@@ -16,7 +16,7 @@ use Rattle.once_board.specs.Numbers.{times}
 use Rattle.once_board.specs.Places.{record_of, met, either_value, Grows}
 use Rattle.once_board.specs.Holds.{nothing, joined}
 use Rattle.once_board.specs.Rule.{word_of, value_of, fills, turn_of, one_if_some, at, Knows, Met, IsMet, SeatOk, Rule}
-use Rattle.once_board.specs.Told.{Seated, idle, meeting, settle_told}
+use Rattle.once_board.specs.Told.{Seated, idle, seats_joined, settle_told}
 use Rattle.once_board.proofs.Sums.{times-append, total_same}
 use Rattle.once_board.proofs.Records.{record_of-together}
 use Rattle.once_board.proofs.Changes.{at_same}
@@ -81,7 +81,15 @@ module _ {T : Type 0} (owners : List Owner) where
     abbrev kw : ℕ → Known T
     kw p = record_of w.hold.places p
 
-    both_at : (p : ℕ) → at p (meeting v w) ≡ record { claims = times p (v.hold.claims ++ w.hold.claims); puts = times p (v.hold.puts ++ w.hold.puts); fills_it = 0; turn = None; known = met (kv p) (kw p); rights = v.hold.rights ++ w.hold.rights }
+    both_at : (p : ℕ) → at p (seats_joined v w) ≡ record {
+      claims = times p (v.hold.claims ++ w.hold.claims);
+      puts = times p
+          (v.hold.puts ++ w.hold.puts);
+      fills_it = 0;
+      turn = None;
+      known = met (kv p) (kw p);
+      rights = v.hold.rights ++ w.hold.rights;
+    }
     both_at p = at_same _ _ refl refl refl refl (record_of-together v.hold.places w.hold.places p) refl
 
     module _ (p word : ℕ) (value : Option T) (k : Knows owners p word value (at p v)) (l : Knows owners p word value (at p w)) where
@@ -95,7 +103,8 @@ module _ {T : Type 0} (owners : List Owner) where
       both_value x is = ⊎_elim (λ a. k.true_value x a) (λ b. l.true_value x b) (either_from (kv p).value (kw p).value x is)
 
       both_open : (x : T) → either_value (kv p).value (kw p).value ≡ Some x → 2 ≤ max (kv p).word (kw p).word
-      both_open x is = ⊎_elim (λ a. let o = k.open_value x a in omega arith) (λ b. let o = l.open_value x b in omega arith) (either_from (kv p).value (kw p).value x is)
+      both_open x is = ⊎_elim (λ a. let o = k.open_value x a in omega arith) (λ b. let o = l.open_value x b in
+          omega arith) (either_from (kv p).value (kw p).value x is)
 
       pub either_claimed : 1 ≤ max (kv p).word (kw p).word → 1 ≤ word
       either_claimed h = ⊎_elim k.was_claimed l.was_claimed (max_from 1 (kv p).word (kw p).word h)
@@ -106,7 +115,7 @@ module _ {T : Type 0} (owners : List Owner) where
           (λ b. either_other (kv p).value (kw p).value x (λ y it. one_value x y it is) (l.own_value b x is))
           (times_from p v.hold.claims w.hold.claims h)
 
-      both_knows : Knows owners p word value (at p (meeting v w))
+      both_knows : Knows owners p word value (at p (seats_joined v w))
       both_knows = subst (λ a. Knows owners p word value a) (sym (both_at p)) (record {
         true_value = both_value;
         open_value = both_open;
@@ -114,7 +123,8 @@ module _ {T : Type 0} (owners : List Owner) where
         was_open = λ h. ⊎_elim k.was_open l.was_open (max_from 2 (kv p).word (kw p).word h);
         shown = λ h. ⊎_elim (λ a. let o = k.shown a in omega arith) (λ b. let o = l.shown b in omega arith) (times_from p v.hold.claims w.hold.claims h);
         own_value = both_own;
-        put_claimed = (let a = k.put_claimed in let b = l.put_claimed in let t = times-append p v.hold.puts w.hold.puts in let u = times-append p v.hold.claims w.hold.claims in omega arith);
+        put_claimed = (let a = k.put_claimed in let b = l.put_claimed in let t = times-append p v.hold.puts w.hold.puts in
+            let u = times-append p v.hold.claims w.hold.claims in omega arith);
         fill_claimed = omega arith;
         has_turn = λ x h. absurd (cc);
         own_place = λ right private mine h. ⊎_elim
@@ -141,19 +151,21 @@ module _ {T : Type 0} (owners : List Owner) where
       claimed_there h = either_claimed (subst (λ (z : Known T). 1 ≤ z.word) (record_of-together v.hold.places w.hold.places p) h)
 
 module _ {T : Type 0} (fits : ℕ → T → Type 0) (owners : List Owner) where
-  pub meets : (id : ℕ) (v : Seen T) (other : ℕ) (w : Seen T) → v.stage ≡ Idle → w.stage ≡ Idle → Joins (Rule fits owners) id v other w (meeting v w) (idle nothing)
-  meets id v other w idles rests s r e apart d =
-      let was = other_was fits owners s r id other v w (meeting v w) (idle nothing) e apart d in
+  pub joins_seats : (id : ℕ) (v : Seen T) (other : ℕ) (w : Seen T) → v.stage ≡ Idle → w.stage ≡ Idle
+      → Joins (Rule fits owners) id v other w (seats_joined v w) (idle nothing)
+  joins_seats id v other w idles rests s r e apart d =
+      let was = other_was fits owners s r id other v w (seats_joined v w) (idle nothing) e apart d in
       let k = λ (p : ℕ). (r.place_each p).knowers id v e in
       let l = λ (p : ℕ). (r.place_each p).knowers other w was in
-      joins_well fits owners s r id other v w (meeting v w) (idle nothing) e apart d
+      joins_well fits owners s r id other v w (seats_joined v w) (idle nothing) e apart d
       (record {
         same_rights = λ x. let t = times-append x v.hold.rights w.hold.rights in omega arith;
         same_parts = omega arith;
         same_claims = λ p. let t = times-append p v.hold.claims w.hold.claims in omega arith;
         same_puts = λ p. let t = times-append p v.hold.puts w.hold.puts in omega arith;
         same_fills = λ p. let a : fills p v.stage ≡ 0 = ap (fills p) idles in let b : fills p w.stage ≡ 0 = ap (fills p) rests in omega arith;
-        same_turns = λ p. let a : one_if_some (turn_of p v.stage) ≡ 0 = ap (λ st. one_if_some (turn_of p st)) idles in let b : one_if_some (turn_of p w.stage) ≡ 0 = ap (λ st. one_if_some (turn_of p st)) rests in omega arith;
+        same_turns = λ p. let a : one_if_some (turn_of p v.stage) ≡ 0 = ap (λ st. one_if_some (turn_of p st)) idles in
+            let b : one_if_some (turn_of p w.stage) ≡ 0 = ap (λ st. one_if_some (turn_of p st)) rests in omega arith;
       })
       (λ p a b. both_knows owners v w p _ _ a b)
       (λ p b. spent_at owners p _ _)
@@ -173,7 +185,8 @@ module _ {T : Type 0} (fits : ℕ → T → Type 0) (owners : List Owner) where
       (spent_ok owners)
 
   -- a load on the word beside the places, by a seat that was joined
-  module _ (s : Table T) (r : Rule fits owners s) (id : ℕ) (v : Seen T) (a b : Hold T) (met_them : v.stage ≡ Joined a b) (e : get_elem? s.views id ≡ some v) where
+  module _ (s : Table T) (r : Rule fits owners s) (id : ℕ) (v : Seen T) (a b : Hold T) (met_them : v.stage ≡ Joined a b)
+      (e : get_elem? s.views id ≡ some v) where
     abbrev settled : Seen T
     settled = idle v.hold
 

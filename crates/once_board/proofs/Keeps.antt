@@ -1,5 +1,6 @@
 -- A step at one place keeps all that concerns the others, and what the rule says of a seat by itself.
-use Rattle.std.proofs.Common.{◌≡◌, ◌≢◌, ℕ, zero, suc, ◌+◌, ◌<◌, ◌≤◌, ◌==◌, ⊎_elim, eq-eqb, ne_eqb, if◌then◌else◌, List, length, set, sym, refl, ap, subst, ◌∙◌, arith, Option, Some}
+use Rattle.std.proofs.Common.{◌≡◌, ◌≢◌, ℕ, zero, suc, ◌+◌, ◌<◌, ◌≤◌, ◌==◌, ⊎_elim, eq-eqb, ne_eqb, if◌then◌else◌, List, length, set, sym, refl, ap, subst}
+use Rattle.std.proofs.Common.{◌∙◌, arith, Option, Some}
 use Rattle.std.proofs.lemmas.List.{get_or-set_same, get_or-set_other}
 use lib.ListN.{get_elem?, length-set}
 use mathlib.Core.Option.{some}
@@ -10,13 +11,14 @@ use Rattle.atomic_table.specs.Table.{State}
 use Rattle.atomic_table.proofs.Lists.{at_set}
 use Rattle.once_board.specs.declared.holds.Seen.{Seen}
 use Rattle.once_board.specs.declared.owners.Owner.{Owner}
-use Rattle.once_board.specs.Numbers.{times}
+use Rattle.once_board.specs.Numbers.{times, total}
 use Rattle.once_board.specs.Places.{record_of}
 use Rattle.once_board.specs.Holds.{AwaitsPuts}
-use Rattle.once_board.specs.Rule.{Content, vacant, awaited, filling, ready, lent, total, word_of, value_of, claim_count, put_count, fill_count, turn_count, one_if_some, IsHome, at, Knows, PlaceOk, SeatOk, Rule}
+use Rattle.once_board.specs.Rule.{Content, vacant, awaited, filling, ready, lent, word_of, value_of, claim_count, put_count, fill_count, turn_count}
+use Rattle.once_board.specs.Rule.{one_if_some, IsHome, at, Knows, PlaceOk, SeatOk, Rule}
 use Rattle.once_board.specs.Told.{IsSound}
 use Rattle.once_board.proofs.Changes.{none_of}
-use Rattle.once_board.proofs.Sums.{total_set, total_same, total_one, total_two, total_alone}
+use Rattle.once_board.proofs.Sums.{parts_are, total_set, total_same, total_one, total_two, total_alone}
 
 abbrev pub Table : Type 0 → Type 0
 Table T = State (Option T) (Seen T)
@@ -76,7 +78,8 @@ module _ {T : Type 0} (fits : ℕ → T → Type 0) (owners : List Owner) where
         let claims = ok.claimed_by in
         let alone : total (λ (u : Seen T). (at p u).puts) s.views ≡ times p v.hold.puts =
         total_alone (λ (u : Seen T). (at p u).puts) s.views id v e (λ j w n d.
-        let two : times p v.hold.claims + times p w.hold.claims ≤ total (λ (u : Seen T). (at p u).claims) s.views = total_two (λ (u : Seen T). (at p u).claims) s.views id j v w n e d in
+        let two : times p v.hold.claims + times p w.hold.claims ≤ total (λ (u : Seen T). (at p u).claims) s.views = total_two
+        (λ (u : Seen T). (at p u).claims) s.views id j v w n e d in
         let few : times p w.hold.puts ≤ times p w.hold.claims = (ok.knowers j w d).put_claimed in
         let single = one.1 in
         omega arith) in
@@ -87,10 +90,11 @@ module _ {T : Type 0} (fits : ℕ → T → Type 0) (owners : List Owner) where
     sound_of id v e = record {
       lawful = λ p x k. ((r.place_each p).knowers id v e).open_value x k;
       may_stand = λ p x k. (r.place_each p).may_stand x (((r.place_each p).knowers id v e).true_value x k);
-      has_parts = let one = total_one (λ (u : Seen T). u.hold.parts) s.views id v e in let sum = r.all_the_parts in omega arith;
+      has_parts = let one = total_one (λ (u : Seen T). u.hold.parts) s.views id v e in let sum = r.all_the_parts in let n = parts_are in omega arith;
       rights_once = λ right. let one = total_one (λ (u : Seen T). times right u.hold.rights) s.views id v e in let most = r.right_once right in omega arith;
       once = λ p. (
-        (let one = total_one (λ (u : Seen T). (at p u).claims) s.views id v e in let is = (r.place_each p).claimed_by in let few = one_claim (r.contents p) in omega arith),
+        (let one = total_one (λ (u : Seen T). (at p u).claims) s.views id v e in let is = (r.place_each p).claimed_by in
+            let few = one_claim (r.contents p) in omega arith),
         ((r.place_each p).knowers id v e).put_claimed,
       );
       awaits_puts = λ p claim unput. unput_unknown id v e p claim unput;
@@ -104,8 +108,10 @@ module _ {T : Type 0} (fits : ℕ → T → Type 0) (owners : List Owner) where
           let one : claim_count c ≡ 1 = claim_known c (((r.place_each p).knowers id v e).was_claimed h) in
           let alone : total (λ (u : Seen T). (at p u).claims) s.views ≡ times p v.hold.claims =
           total_alone (λ (u : Seen T). (at p u).claims) s.views id v e (λ j w n d.
-          let two : v.hold.parts + w.hold.parts ≤ total (λ (u : Seen T). u.hold.parts) s.views = total_two (λ (u : Seen T). u.hold.parts) s.views id j v w n e d in
+          let two : v.hold.parts + w.hold.parts ≤ total (λ (u : Seen T). u.hold.parts) s.views = total_two
+          (λ (u : Seen T). u.hold.parts) s.views id j v w n e d in
           let sum = r.all_the_parts in
+          let number = parts_are in
           (r.seat_each j w d).claims_need_a_part (omega arith) p) in
           omega arith;
     }
@@ -140,7 +146,8 @@ module _ {T : Type 0} (fits : ℕ → T → Type 0) (owners : List Owner) where
           → IsHome homes p d
           → ((x : T) → value_of d ≡ Some x → fits p x)
           → Knows owners p (word_of d) (value_of d) (at p w)
-          → ((j : ℕ) (u : Seen T) → j ≢ id → get_elem? s.views j ≡ some u → Knows owners p (word_of c) (value_of c) (at p u) → Knows owners p (word_of d) (value_of d) (at p u))
+          → ((j : ℕ) (u : Seen T) → j ≢ id → get_elem? s.views j ≡ some u → Knows owners p (word_of c) (value_of c) (at p u) → Knows owners p (word_of d)
+          (value_of d) (at p u))
           → PlaceOk fits owners (changed s p n homes id w) p d
       here c d ok inside is claims puts fill turn home stand mine others = record {
         word = let long = r.word_each in get_or-set_same s.words (suc p) n 0 (omega arith) ∙ is;
@@ -163,11 +170,13 @@ module _ {T : Type 0} (fits : ℕ → T → Type 0) (owners : List Owner) where
       keeps d off rights parts long home seat there = record {
         contents = λ q. if q == p then d else r.contents q;
         word_each = length-set s.words (suc p) n ∙ (r.word_each ∙ ap suc (sym long));
-        right_once = λ x. let t = total_same (λ (u : Seen T). times x u.hold.rights) s.views id v w e (ap (times x) rights) in let o = r.right_once x in omega arith;
+        right_once = λ x. let t = total_same (λ (u : Seen T). times x u.hold.rights) s.views id v w e (ap (times x) rights) in let o = r.right_once x in
+            omega arith;
         right_each = λ x h. total_same (λ u. times x u.hold.rights) s.views id v w e (ap (times x) rights) ∙ r.right_each x h;
         all_the_parts = total_same (λ u. u.hold.parts) s.views id v w e parts ∙ r.all_the_parts;
         place_each = λ q. dite (ℕ_discrete q p)
-            (λ is. let there_is : PlaceOk fits owners (changed s p n homes id w) q d = subst (λ z. PlaceOk fits owners (changed s p n homes id w) z d) (sym is) there in rw (eq-eqb q p is) there_is)
+            (λ is. let there_is : PlaceOk fits owners (changed s p n homes id w) q d = subst (λ z. PlaceOk fits owners (changed s p n homes id w) z d)
+            (sym is) there in rw (eq-eqb q p is) there_is)
             (λ ne. rw (ne_eqb q p ne) (off_place q (r.contents q) ne (off q ne) long (home q ne) (r.place_each q)));
         seat_each = λ j u k. ⊎_elim (λ t. subst (SeatOk owners) t.1 seat) (λ t. r.seat_each j u t.1) (at_set s.views id j w u k);
       }

@@ -1,5 +1,6 @@
 -- A put: a load that takes the empty slot of a place, and a store of 2 that brings the value home.
-use Rattle.std.proofs.Common.{◌≡◌, ◌≢◌, ℕ, suc, ◌+◌, ◌<◌, ◌≤◌, List, [], ◌∷◌, length, get_or, set, sym, refl, ap, subst, ◌∙◌, arith, add-one, Option, Some, None}
+use Rattle.std.proofs.Common.{◌≡◌, ◌≢◌, ℕ, suc, ◌+◌, ◌<◌, ◌≤◌, List, [], ◌∷◌, length, get_or, set, sym, refl, ap, subst, ◌∙◌, arith, add-one, Option, Some}
+use Rattle.std.proofs.Common.{None}
 use mathlib.Core.Option.{some, none, some-injective}
 use mathlib.Core.Option as maybe
 use mathlib.Core.Logic.{dite}
@@ -11,10 +12,11 @@ use Rattle.once_board.specs.declared.holds.Stage.TheVariants.{Idle, Filling}
 use Rattle.once_board.specs.declared.holds.Hold.{Hold}
 use Rattle.once_board.specs.declared.holds.Seen.{Seen}
 use Rattle.once_board.specs.declared.owners.Owner.{Owner}
-use Rattle.once_board.specs.Numbers.{times}
+use Rattle.once_board.specs.Numbers.{times, total}
 use Rattle.once_board.specs.Places.{record_of, opened}
 use Rattle.once_board.specs.Holds.{put_at, Extends}
-use Rattle.once_board.specs.Rule.{Content, vacant, awaited, filling, ready, lent, total, word_of, value_of, fills, turn_of, At, at, Knows, PlaceOk, SeatOk, Rule}
+use Rattle.once_board.specs.Rule.{Content, vacant, awaited, filling, ready, lent, word_of, value_of, fills, turn_of, At, at, Knows, PlaceOk, SeatOk, Rule}
+use Rattle.once_board.specs.Rule.{one_if_some}
 use Rattle.once_board.specs.Told.{IsSound, Seated, seen, idle, fill_told, put_told}
 use Rattle.once_board.proofs.Sums.{set_there, total_one, total_two, total_some, times_here}
 use Rattle.once_board.proofs.Records.{noted_here, noted_else, extends_at}
@@ -38,12 +40,21 @@ pub in_hand : {T : Type 0} (m : Seated T) (p : ℕ) (a : Option T) (xs : List (�
 in_hand m p a xs has = has ∙ (λ i. (p, a) ∷ sym (ap rest has) i)
 
 module _ {T : Type 0} (fits : ℕ → T → Type 0) (owners : List Owner) where
-  module _ (s : Table T) (r : Rule fits owners s) (id p : ℕ) (v : Seen T) (idles : v.stage ≡ Idle) (e : get_elem? s.views id ≡ some v) (inside : p < length s.homes)
+  module _ (s : Table T) (r : Rule fits owners s) (id p : ℕ) (v : Seen T) (idles : v.stage ≡ Idle) (e : get_elem? s.views id ≡ some v)
+      (inside : p < length s.homes)
       (claim : 1 ≤ times p v.hold.claims) (unfilled : (record_of v.hold.places p).value ≡ None) where
     abbrev filler : Seen T
     filler = seen v.hold (Filling p)
 
-    fill_at : at p filler ≡ record { claims = times p v.hold.claims; puts = times p v.hold.puts; fills_it = 1; turn = None; known = record_of v.hold.places p; rights = v.hold.rights }
+    fill_at : at p filler ≡ record {
+      claims = times p v.hold.claims;
+      puts = times p v.hold.puts;
+      fills_it = 1;
+      turn = None;
+      known
+          = record_of v.hold.places p;
+      rights = v.hold.rights;
+    }
     fill_at = at_same _ _ refl refl (fills_here T p) refl refl refl
 
     fill_off : OffSame fits owners p v filler
@@ -93,7 +104,7 @@ module _ {T : Type 0} (fits : ℕ → T → Type 0) (owners : List Owner) where
           (record { claims_need_a_part = (r.seat_each id v e).claims_need_a_part; joined_well = tt })
           (here fits owners s r id v filler p (get_or s.words (suc p) 0) (set s.homes p none) e awaited filling ok inside ok.word refl refl
           (let f = fills_here T p in let g : fills p v.stage ≡ 0 = ap (fills p) idles in omega arith)
-          (ap (λ st. Rattle.once_board.specs.Rule.one_if_some (turn_of p st) + 0) (sym idles))
+          (ap (λ st. one_if_some (turn_of p st) + 0) (sym idles))
           tt (λ x k. absurd (cc)) (fill_knows (ok.knowers id v e)) (λ j u ne d k. k)),
     )
     taken filling ok = absurd (one_filler ok)
@@ -111,15 +122,25 @@ module _ {T : Type 0} (fits : ℕ → T → Type 0) (owners : List Owner) where
         (λ q same. let there : p ≡ q = omega arith in (ap (λ z. (z, None) ∷ m.1) there, ap (λ z. seen m.0.hold (Filling z)) there)),
       )
 
-  module _ (s : Table T) (r : Rule fits owners s) (id p : ℕ) (x : T) (v : Seen T) (at_it : v.stage ≡ Filling p) (e : get_elem? s.views id ≡ some v) (inside : p < length s.homes) (fit : fits p x) where
+  module _ (s : Table T) (r : Rule fits owners s) (id p : ℕ) (x : T) (v : Seen T) (at_it : v.stage ≡ Filling p) (e : get_elem? s.views id ≡ some v)
+      (inside : p < length s.homes) (fit : fits p x) where
     abbrev putter : Seen T
     putter = idle (put_at p x v.hold)
 
-    put_is : at p putter ≡ record { claims = times p v.hold.claims; puts = suc (times p v.hold.puts); fills_it = 0; turn = None; known = opened x (record_of v.hold.places p); rights = v.hold.rights }
+    put_is : at p putter ≡ record {
+      claims = times p v.hold.claims;
+      puts = suc (times p v.hold.puts);
+      fills_it = 0;
+      turn = None;
+      known = opened x
+          (record_of v.hold.places p);
+      rights = v.hold.rights;
+    }
     put_is = at_same _ _ refl (times_here p v.hold.puts) refl refl (noted_here v.hold.places p (opened x (record_of v.hold.places p))) refl
 
     put_off : OffSame fits owners p v putter
-    put_off q ne = at_same _ _ refl (other_claims p q v.hold.puts ne) (sym (ap (fills q) at_it ∙ fills_else T p q ne)) (ap (turn_of q) (sym at_it)) (noted_else v.hold.places p q (opened x (record_of v.hold.places p)) ne) refl
+    put_off q ne = at_same _ _ refl (other_claims p q v.hold.puts ne) (sym (ap (fills q) at_it ∙ fills_else T p q ne)) (ap (turn_of q) (sym at_it))
+        (noted_else v.hold.places p q (opened x (record_of v.hold.places p)) ne) refl
 
     fills_one : (at p v).fills_it ≡ 1
     fills_one = ap (fills p) at_it ∙ fills_here T p
@@ -138,7 +159,8 @@ module _ {T : Type 0} (fits : ℕ → T → Type 0) (owners : List Owner) where
       own_place = λ right private mine h. omega arith;
     })
 
-    put_other : PlaceOk fits owners s p filling → 1 ≤ times p v.hold.claims → (j : ℕ) (u : Seen T) → j ≢ id → get_elem? s.views j ≡ some u → Knows owners p 1 None (at p u) → Knows owners p 2 (Some x) (at p u)
+    put_other : PlaceOk fits owners s p filling → 1 ≤ times p v.hold.claims → (j : ℕ) (u : Seen T) → j ≢ id → get_elem? s.views j ≡ some u
+        → Knows owners p 1 None (at p u) → Knows owners p 2 (Some x) (at p u)
     put_other ok claim j u ne d k = record {
       true_value = λ y h. absurd (let t = k.true_value y h in cc);
       open_value = k.open_value;
@@ -156,8 +178,10 @@ module _ {T : Type 0} (fits : ℕ → T → Type 0) (owners : List Owner) where
     home_again = set s.homes p (some (Some x))
 
     put_keeps : (c : Content T) → PlaceOk fits owners s p c → Rule fits owners (changed fits owners s p 2 home_again id putter)
-    put_keeps vacant ok = absurd (let few = total_one (λ (u : Seen T). (at p u).fills_it) s.views id v e in let sum = ok.filled_by in let one = fills_one in omega arith)
-    put_keeps awaited ok = absurd (let few = total_one (λ (u : Seen T). (at p u).fills_it) s.views id v e in let sum = ok.filled_by in let one = fills_one in omega arith)
+    put_keeps vacant ok = absurd (let few = total_one (λ (u : Seen T). (at p u).fills_it) s.views id v e in let sum = ok.filled_by in
+        let one = fills_one in omega arith)
+    put_keeps awaited ok = absurd (let few = total_one (λ (u : Seen T). (at p u).fills_it) s.views id v e in let sum = ok.filled_by in
+        let one = fills_one in omega arith)
     put_keeps filling ok =
         let k = ok.knowers id v e in
         let one = fills_one in
@@ -172,12 +196,14 @@ module _ {T : Type 0} (fits : ℕ → T → Type 0) (owners : List Owner) where
         (here fits owners s r id v putter p 2 home_again e filling (ready x) ok inside refl refl
         (let t = times_here p v.hold.puts in omega arith)
         (omega arith)
-        (ap (λ st. Rattle.once_board.specs.Rule.one_if_some (turn_of p st) + 0) (sym at_it))
+        (ap (λ st. one_if_some (turn_of p st) + 0) (sym at_it))
         (set_here s.homes p (some (Some x)) inside)
         (λ y h. let same : x ≡ y = (cc) in subst (fits p) same fit)
         (put_knows no_put claim) (put_other ok claim))
-    put_keeps (ready y) ok = absurd (let few = total_one (λ (u : Seen T). (at p u).fills_it) s.views id v e in let sum = ok.filled_by in let one = fills_one in omega arith)
-    put_keeps (lent y) ok = absurd (let few = total_one (λ (u : Seen T). (at p u).fills_it) s.views id v e in let sum = ok.filled_by in let one = fills_one in omega arith)
+    put_keeps (ready y) ok = absurd (let few = total_one (λ (u : Seen T). (at p u).fills_it) s.views id v e in let sum = ok.filled_by in
+        let one = fills_one in omega arith)
+    put_keeps (lent y) ok = absurd (let few = total_one (λ (u : Seen T). (at p u).fills_it) s.views id v e in let sum = ok.filled_by in
+        let one = fills_one in omega arith)
 
     pub put_rule : Rule fits owners (changed fits owners s p 2 home_again id putter)
     put_rule = put_keeps (r.contents p) (r.place_each p)
@@ -203,19 +229,22 @@ module _ {T : Type 0} (fits : ℕ → T → Type 0) (owners : List Owner) where
   pub opens : (slots id p : ℕ) (x : T) (m : Seated T) → m.0.stage ≡ Filling p → m.1 ≡ (p, Some x) ∷ [] → p < slots → fits p x
       → Allows (Rule fits owners) slots id m (suc p) (λ _. 2) (λ _. put_told fits (step slots (suc p) 2 0 none) m 2)
   opens slots id p x m at_it has inside fit =
-      let P : List (ℕ × Option T) → Type 0 = λ slot. Allows (Rule fits owners) slots id (m.0, slot) (suc p) (λ _. 2) (λ _. put_told fits (step slots (suc p) 2 0 none) (m.0, slot) 2) in
+      let P : List (ℕ × Option T) → Type 0 = λ slot. Allows (Rule fits owners) slots id (m.0, slot) (suc p) (λ _. 2)
+      (λ _. put_told fits (step slots (suc p) 2 0 none) (m.0, slot) 2) in
       subst P (sym has) (brings slots id p x m.0 at_it inside fit)
 
   -- both in the words of the code
   pub takes_next : (slots id p : ℕ) (m : Seated T) → m.0.stage ≡ Idle → p < slots → 1 ≤ times p m.0.hold.claims → (record_of m.0.hold.places p).value ≡ None
       → Allows (Rule fits owners) slots id m (p + 1) (λ n. n) (fill_told (step slots (p + 1) 0 0 none) m)
   takes_next slots id p m idles inside claim unfilled =
-      subst (λ i. Allows (Rule fits owners) slots id m i (λ n. n) (fill_told (step slots i 0 0 none) m)) (sym (add-one p)) (takes_slot slots id p m idles inside claim unfilled)
+      subst (λ i. Allows (Rule fits owners) slots id m i (λ n. n) (fill_told (step slots i 0 0 none) m)) (sym (add-one p))
+      (takes_slot slots id p m idles inside claim unfilled)
 
   pub opens_next : (slots id p : ℕ) (x : T) (m : Seated T) → m.0.stage ≡ Filling p → m.1 ≡ (p, Some x) ∷ [] → p < slots → fits p x
       → Allows (Rule fits owners) slots id m (p + 1) (λ _. 2) (λ _. put_told fits (step slots (p + 1) 2 0 none) m 2)
   opens_next slots id p x m at_it has inside fit =
-      subst (λ i. Allows (Rule fits owners) slots id m i (λ _. 2) (λ _. put_told fits (step slots i 2 0 none) m 2)) (sym (add-one p)) (opens slots id p x m at_it has inside fit)
+      subst (λ i. Allows (Rule fits owners) slots id m i (λ _. 2) (λ _. put_told fits (step slots i 2 0 none) m 2)) (sym (add-one p))
+      (opens slots id p x m at_it has inside fit)
 
 -- a put loses nothing
 pub put_extends : {T : Type 0} (p : ℕ) (x : T) (h : Hold T) → (record_of h.places p).value ≡ None → Extends h (put_at p x h)

@@ -1,5 +1,6 @@
 -- A seat is split off: with a right or none, or with all rights and what is known.
-use Rattle.std.proofs.Common.{◌≡◌, ℕ, zero, suc, ◌+◌, ◌-◌, ◌≤◌, nat_le, List, [], ◌∷◌, ◌++◌, set, map, sym, refl, ap, subst, ◌∙◌, arith, Bool, true, false, Option, Some, None}
+use Rattle.std.proofs.Common.{◌≡◌, ℕ, zero, suc, ◌+◌, ◌-◌, ◌≤◌, nat_le, List, [], ◌∷◌, ◌++◌, set, map, sym, refl, ap, subst, ◌∙◌, arith, Bool, true, false}
+use Rattle.std.proofs.Common.{Option, Some, None}
 use lib.ListN.{get_elem?}
 use mathlib.Core.Option.{some}
 use native.Mathlib.Decide.{ℕ_discrete}
@@ -13,18 +14,20 @@ use Rattle.once_board.specs.Numbers.{times, without, given, kept, part_given}
 use Rattle.once_board.specs.Places.{record_of, unread}
 use Rattle.once_board.specs.Holds.{split_kept, split_off}
 use Rattle.once_board.specs.Rule.{fills, turn_of, one_if_some, at, Knows, Rule}
-use Rattle.once_board.specs.Told.{IsSound, idle, cut_kept, cut_off, silent_kept, voice_off}
-use Rattle.once_board.proofs.Sums.{times-without, times-without_other, times-without_few, times_single, times_else, times_here, parts_are}
+use Rattle.once_board.specs.Told.{IsSound, idle, cut_kept, cut_off, rights_split, rights_off}
+use Rattle.once_board.proofs.Sums.{times-without, times-without_other, times-without_few, times_single, times_else, times_here}
 use Rattle.once_board.proofs.Records.{record_of-unread}
 use Rattle.once_board.proofs.Changes.{at_same}
 use Rattle.once_board.proofs.Keeps.{Table}
 use Rattle.once_board.proofs.Dividing.{Shares, splits_well}
 
 one_right : (y x : ℕ) (rights : List ℕ) → 1 ≤ times y rights → Dec (x ≡ y) → times x (without y rights) + times x (y ∷ []) ≡ times x rights
-one_right y x rights has (yes e) = let w = times-without y rights has in let h = times_here y [] in subst (λ z. times z (without y rights) + times z (y ∷ []) ≡ times z rights) (sym e) (omega arith)
+one_right y x rights has (yes e) = let w = times-without y rights has in let h = times_here y [] in
+    subst (λ z. times z (without y rights) + times z (y ∷ []) ≡ times z rights) (sym e) (omega arith)
 one_right y x rights has (no n) = let w = times-without_other y x rights n in let h = times_else x y [] (λ e. n (sym e)) in omega arith
 
-pub kept_given : (right : Option ℕ) (rights : List ℕ) → ((x : ℕ) → right ≡ Some x → 1 ≤ times x rights) → (x : ℕ) → times x (kept right rights) + times x (given right) ≡ times x rights
+pub kept_given : (right : Option ℕ) (rights : List ℕ) → ((x : ℕ) → right ≡ Some x → 1 ≤ times x rights) → (x : ℕ)
+    → times x (kept right rights) + times x (given right) ≡ times x rights
 kept_given None rights has x = omega arith
 kept_given (Some y) rights has x = one_right y x rights (has y refl) (ℕ_discrete x y)
 
@@ -49,7 +52,8 @@ nonzero (suc n) h = omega arith
 
 module _ {T : Type 0} (fits : ℕ → T → Type 0) (owners : List Owner) where
   -- any cut that leaves the claims where they are: these rights and parts stay, and those go
-  module _ (v : Seen T) (idles : v.stage ≡ Idle) (stay go : List ℕ) (few more : ℕ) (rights : (x : ℕ) → times x stay + times x go ≡ times x v.hold.rights) (parts : few + more ≡ v.hold.parts)
+  module _ (v : Seen T) (idles : v.stage ≡ Idle) (stay go : List ℕ) (few more : ℕ) (rights : (x : ℕ) → times x stay + times x go ≡ times x v.hold.rights)
+      (parts : few + more ≡ v.hold.parts)
       (enough : few ≡ 0 → v.hold.parts ≡ 0) where
     abbrev pub staying : Seen T
     staying = idle (record { rights = stay; parts = few; claims = v.hold.claims; puts = v.hold.puts; places = v.hold.places })
@@ -57,7 +61,8 @@ module _ {T : Type 0} (fits : ℕ → T → Type 0) (owners : List Owner) where
     abbrev pub going : Seen T
     going = idle (record { rights = go; parts = more; claims = []; puts = []; places = map unread v.hold.places })
 
-    cut_shares : Shares staying going (λ x. times x v.hold.rights) (λ p. (at p v).claims) (λ p. (at p v).puts) (λ p. (at p v).fills_it) (λ p. one_if_some (at p v).turn) v.hold.parts
+    cut_shares : Shares staying going (λ x. times x v.hold.rights) (λ p. (at p v).claims) (λ p. (at p v).puts) (λ p. (at p v).fills_it)
+        (λ p. one_if_some (at p v).turn) v.hold.parts
     cut_shares = record {
       same_rights = rights;
       same_parts = parts;
@@ -112,8 +117,8 @@ module _ {T : Type 0} (fits : ℕ → T → Type 0) (owners : List Owner) where
       cut_rule v idles (kept right v.hold.rights) (given right) (v.hold.parts - part_given v.hold.parts) (part_given v.hold.parts)
       (kept_given right v.hold.rights has) (let few = parts.0 in omega arith) parts.1 s r id e
 
-  pub voices : (id : ℕ) (v : Seen T) → v.stage ≡ Idle → Splits (Rule fits owners) id v (silent_kept v) (voice_off v)
-  voices id v idles s r e = cut_rule v idles [] v.hold.rights v.hold.parts 0 (λ x. omega arith) (omega arith) (λ none. none) s r id e
+  pub splits_rights : (id : ℕ) (v : Seen T) → v.stage ≡ Idle → Splits (Rule fits owners) id v (rights_split v) (rights_off v)
+  splits_rights id v idles s r e = cut_rule v idles [] v.hold.rights v.hold.parts 0 (λ x. omega arith) (omega arith) (λ none. none) s r id e
 
   -- both seats are sound
   pub kept_sound : (right : Option ℕ) (h : Hold T) → IsSound fits h → IsSound fits (split_kept right h)
@@ -124,7 +129,8 @@ module _ {T : Type 0} (fits : ℕ → T → Type 0) (owners : List Owner) where
     rights_once = λ x. let few = kept_few right h.rights x in let most = sound.rights_once x in omega arith;
     once = sound.once;
     awaits_puts = sound.awaits_puts;
-    shows_claims = λ p claim. let old = sound.shows_claims p claim in let parts = part_facts h.parts in (old.0, nonzero (h.parts - part_given h.parts) (λ none. let z = parts.1 none in let o = old.1 in omega arith));
+    shows_claims = λ p claim. let old = sound.shows_claims p claim in let parts = part_facts h.parts in
+        (old.0, nonzero (h.parts - part_given h.parts) (λ none. let z = parts.1 none in let o = old.1 in omega arith));
     claims_all = λ all. sound.claims_all (let most = sound.has_parts in let parts = part_facts h.parts in omega arith);
   }
 
@@ -132,10 +138,10 @@ module _ {T : Type 0} (fits : ℕ → T → Type 0) (owners : List Owner) where
   off_sound right h sound = record {
     lawful = λ p x is. let k = record_of-unread h.places p in subst (λ (z : _). 2 ≤ z.word) (sym k) (sound.lawful p x (ap (λ z. z.value) (sym k) ∙ is));
     may_stand = λ p x is. let k = record_of-unread h.places p in sound.may_stand p x (ap (λ z. z.value) (sym k) ∙ is);
-    has_parts = let parts = part_facts h.parts in let n = parts_are in omega arith;
+    has_parts = let parts = part_facts h.parts in omega arith;
     rights_once = given_once right;
     once = λ p. (omega arith, omega arith);
     awaits_puts = λ p claim unput. absurd (omega arith);
     shows_claims = λ p claim. absurd (omega arith);
-    claims_all = λ all. absurd (let parts = part_facts h.parts in let n = parts_are in omega arith);
+    claims_all = λ all. absurd (let parts = part_facts h.parts in omega arith);
   }

@@ -1,5 +1,6 @@
 -- A new board keeps the rule.
-use Rattle.std.proofs.Common.{◌≡◌, ℕ, zero, suc, ◌+◌, ◌<◌, List, [], ◌∷◌, length, map, replicate, get_or, sym, refl, ap, subst, ◌∙◌, arith, add-one, add-zero, Option, None}
+use Rattle.std.proofs.Common.{◌≡◌, ℕ, zero, suc, ◌+◌, ◌<◌, List, [], ◌∷◌, length, map, replicate, get_or, sym, refl, ap, subst, ◌∙◌, arith, add-one, add-zero}
+use Rattle.std.proofs.Common.{Option, None}
 use lib.ListN.{get_elem?, length-replicate}
 use mathlib.Core.Option.{some, some-injective, some-ne-none}
 use Rattle.atomic_table.specs.Table.{opening}
@@ -49,7 +50,8 @@ module _ {T : Type 0} (fits : ℕ → T → Type 0) (owners : List Owner) where
     own_place = λ right private mine h. h;
   }
 
-  pub starts : (n : ℕ) (words : List ℕ) → length words ≡ suc n → ((i : ℕ) → get_or words i 0 ≡ 0) → Rule fits owners (opening words (replicate n None) (idle (first {T = T})))
+  pub starts : (n : ℕ) (words : List ℕ) → length words ≡ suc n → ((i : ℕ) → get_or words i 0 ≡ 0) → Rule fits owners
+      (opening words (replicate n None) (idle (first {T = T})))
   starts n words long empty = record {
     contents = λ p. vacant;
     word_each = long ∙ ap suc (sym (as_many T n));
@@ -73,7 +75,7 @@ module _ {T : Type 0} (fits : ℕ → T → Type 0) (owners : List Owner) where
   first_sound = record {
     lawful = λ p x h. absurd (cc);
     may_stand = λ p x h. absurd (cc);
-    has_parts = omega arith;
+    has_parts = let n = parts_are in omega arith;
     rights_once = every_right_at_most_once;
     once = λ p. (omega arith, omega arith);
     awaits_puts = λ p claim unput. refl;

@@ -4,9 +4,9 @@ use mathlib.Core.Option.{some}
 use lib.ListN.{get_elem?}
 use Rattle.once_board.specs.declared.holds.Seen.{Seen}
 use Rattle.once_board.specs.declared.owners.Owner.{Owner}
-use Rattle.once_board.specs.Numbers.{times}
+use Rattle.once_board.specs.Numbers.{times, total}
 use Rattle.once_board.specs.Places.{record_of}
-use Rattle.once_board.specs.Rule.{Content, vacant, awaited, filling, ready, lent, total, word_of, turn_of, one_if_some, at, PlaceOk, Rule}
+use Rattle.once_board.specs.Rule.{Content, vacant, awaited, filling, ready, lent, word_of, turn_of, one_if_some, at, PlaceOk, Rule, value_of}
 use Rattle.once_board.specs.Stated.{place_word, claims_of, turns_of, NoneKnows, AllAgree, Stated}
 use Rattle.once_board.proofs.Sums.{parts_are, total_one}
 use Rattle.once_board.proofs.Changes.{none_of}
@@ -14,7 +14,7 @@ use Rattle.once_board.proofs.ClaimStep.{small_word}
 use Rattle.once_board.proofs.Keeps.{Table, claim_known, part_of}
 
 module _ {T : Type 0} (fits : ℕ → T → Type 0) (owners : List Owner) (s : Table T) (r : Rule fits owners s) where
-  none_with : (p : ℕ) (c : Content T) → PlaceOk fits owners s p c → ((x : T) → Rattle.once_board.specs.Rule.value_of c ≡ Some x → ⊥) → NoneKnows s p
+  none_with : (p : ℕ) (c : Content T) → PlaceOk fits owners s p c → ((x : T) → value_of c ≡ Some x → ⊥) → NoneKnows s p
   none_with p c ok none_here seat v e = none_of (record_of v.hold.places p).value (λ x known. none_here x ((ok.knowers seat v e).true_value x known))
 
   free_of : (p : ℕ) (c : Content T) → PlaceOk fits owners s p c → word_of c ≡ 0 → (claims_of s p ≡ 0) × NoneKnows s p
@@ -45,7 +45,8 @@ module _ {T : Type 0} (fits : ℕ → T → Type 0) (owners : List Owner) (s : T
   value_there p (ready x) ok is = (x, ok.may_stand x refl, (λ seat v y e known. let t = (ok.knowers seat v e).true_value y known in cc))
   value_there p (lent x) ok is = (x, ok.may_stand x refl, (λ seat v y e known. let t = (ok.knowers seat v e).true_value y known in cc))
 
-  home_of : (p : ℕ) (c : Content T) → PlaceOk fits owners s p c → p < length s.homes → word_of c ≡ 2 → (x : T) × (get_elem? s.homes p ≡ some (some (Some x))) × fits p x × AllAgree s p x
+  home_of : (p : ℕ) (c : Content T) → PlaceOk fits owners s p c → p < length s.homes → word_of c ≡ 2
+      → (x : T) × (get_elem? s.homes p ≡ some (some (Some x))) × fits p x × AllAgree s p x
   home_of p vacant ok inside is = absurd (omega arith)
   home_of p awaited ok inside is = absurd (omega arith)
   home_of p filling ok inside is = absurd (omega arith)
@@ -66,7 +67,8 @@ module _ {T : Type 0} (fits : ℕ → T → Type 0) (owners : List Owner) (s : T
       let one : one_if_some (turn_of p v.stage) ≡ 1 = ap one_if_some turn in
       omega arith
 
-  hand_of : (p seat : ℕ) (v : Seen T) (x : T) (c : Content T) → PlaceOk fits owners s p c → get_elem? s.views seat ≡ some v → turn_of p v.stage ≡ Some x → (word_of c ≡ 3) × fits p x × AllAgree s p x
+  hand_of : (p seat : ℕ) (v : Seen T) (x : T) (c : Content T) → PlaceOk fits owners s p c → get_elem? s.views seat ≡ some v → turn_of p v.stage ≡ Some x
+      → (word_of c ≡ 3) × fits p x × AllAgree s p x
   hand_of p seat v x vacant ok e turn = absurd (no_turn_at p seat v x 0 e turn ok.turned_by refl)
   hand_of p seat v x awaited ok e turn = absurd (no_turn_at p seat v x 0 e turn ok.turned_by refl)
   hand_of p seat v x filling ok e turn = absurd (no_turn_at p seat v x 0 e turn ok.turned_by refl)
@@ -100,6 +102,8 @@ module _ {T : Type 0} (fits : ℕ → T → Type 0) (owners : List Owner) (s : T
     shown = λ seat v p right e private mine busy.
         let w : place_word s p ≡ word_of (r.contents p) = word_at p in
         ((r.place_each p).knowers seat v e).own_place right private mine (let b = busy in omega arith);
-    stays_claimed = λ seat v p e h. let w : place_word s p ≡ word_of (r.contents p) = word_at p in let k = ((r.place_each p).knowers seat v e).was_claimed h in omega arith;
-    stays_open = λ seat v p e h. let w : place_word s p ≡ word_of (r.contents p) = word_at p in let k = ((r.place_each p).knowers seat v e).was_open h in omega arith;
+    stays_claimed = λ seat v p e h. let w : place_word s p ≡ word_of (r.contents p) = word_at p in
+        let k = ((r.place_each p).knowers seat v e).was_claimed h in omega arith;
+    stays_open = λ seat v p e h. let w : place_word s p ≡ word_of (r.contents p) = word_at p in let k = ((r.place_each p).knowers seat v e).was_open h in
+        omega arith;
   }

@@ -3,8 +3,7 @@ use Rattle.std.proofs.Common.{◌≡◌, ◌≢◌, ℕ, zero, suc, ◌+◌, ◌
 use mathlib.Core.Option.{some, some-injective, some-ne-none}
 use native.Mathlib.Decide.{ℕ_discrete, dec_lt}
 use lib.ListN.{get_elem?}
-use Rattle.once_board.specs.Numbers.{times, without, below, every_right, all_parts}
-use Rattle.once_board.specs.Rule.{total}
+use Rattle.once_board.specs.Numbers.{times, without, below, every_right, all_parts, total}
 
 module _ {V : Type 0} where
   pub total_set : (f : V → ℕ) (l : List V) (i : ℕ) (v w : V) → get_elem? l i ≡ some v → total f (set l i w) + f v ≡ total f l + f w
@@ -42,22 +41,27 @@ module _ {V : Type 0} where
   total_none f (x ∷ xs) none = let is : f x ≡ 0 = none zero x refl in let r = total_none f xs (λ j w d. none (suc j) w d) in omega arith
 
   -- where only one view has a number, that is the sum
-  pub total_alone : (f : V → ℕ) (l : List V) (i : ℕ) (v : V) → get_elem? l i ≡ some v → ((j : ℕ) (w : V) → j ≢ i → get_elem? l j ≡ some w → f w ≡ 0) → total f l ≡ f v
+  pub total_alone : (f : V → ℕ) (l : List V) (i : ℕ) (v : V) → get_elem? l i ≡ some v → ((j : ℕ) (w : V) → j ≢ i → get_elem? l j ≡ some w → f w ≡ 0)
+      → total f l ≡ f v
   total_alone f [] i v e others = absurd (some-ne-none v (sym e))
-  total_alone f (x ∷ xs) zero v e others = let is : f x ≡ f v = ap f (some-injective x v e) in let r = total_none f xs (λ j w d. others (suc j) w (λ s. omega arith) d) in omega arith
-  total_alone f (x ∷ xs) (suc i) v e others = let is : f x ≡ 0 = others zero x (λ s. omega arith) refl in let r = total_alone f xs i v e (λ j w n d. others (suc j) w (λ s. n (omega arith)) d) in omega arith
+  total_alone f (x ∷ xs) zero v e others = let is : f x ≡ f v = ap f (some-injective x v e) in
+      let r = total_none f xs (λ j w d. others (suc j) w (λ s. omega arith) d) in omega arith
+  total_alone f (x ∷ xs) (suc i) v e others = let is : f x ≡ 0 = others zero x (λ s. omega arith) refl in
+      let r = total_alone f xs i v e (λ j w n d. others (suc j) w (λ s. n (omega arith)) d) in omega arith
 
   -- one view is cut in two
   pub total_split : (f : V → ℕ) (l : List V) (i : ℕ) (v a b : V) → get_elem? l i ≡ some v → f a + f b ≡ f v → total f (set l i a ++ b ∷ []) ≡ total f l
   total_split f l i v a b e sum = let t = total_set f l i v a e in let u = total_end f (set l i a) b in omega arith
 
   -- two views become one, and what is left of the other
-  pub total_join : (f : V → ℕ) (l : List V) (i j : ℕ) (v w both rest : V) → get_elem? l i ≡ some v → get_elem? (set l i both) j ≡ some w → f both + f rest ≡ f v + f w
+  pub total_join : (f : V → ℕ) (l : List V) (i j : ℕ) (v w both rest : V) → get_elem? l i ≡ some v → get_elem? (set l i both) j ≡ some w
+      → f both + f rest ≡ f v + f w
       → total f (set (set l i both) j rest) ≡ total f l
   total_join f l i j v w both rest e d sum = let t = total_set f l i v both e in let u = total_set f (set l i both) j w rest d in omega arith
 
   -- a sum that isn't 0 has a view whose number isn't
-  some_from : (f : V → ℕ) (x : V) (xs : List V) → 0 < total f (x ∷ xs) → Dec (f x ≡ 0) → (0 < total f xs → (i : ℕ) × (v : V) × (get_elem? xs i ≡ some v) × (0 < f v)) → (i : ℕ) × (v : V) × (get_elem? (x ∷ xs) i ≡ some v) × (0 < f v)
+  some_from : (f : V → ℕ) (x : V) (xs : List V) → 0 < total f (x ∷ xs) → Dec (f x ≡ 0)
+      → (0 < total f xs → (i : ℕ) × (v : V) × (get_elem? xs i ≡ some v) × (0 < f v)) → (i : ℕ) × (v : V) × (get_elem? (x ∷ xs) i ≡ some v) × (0 < f v)
   some_from f x xs p (yes z) rest = let r = rest (omega arith) in (suc r.0, r.1, r.2, r.3)
   some_from f x xs p (no n) rest = (zero, x, refl, omega arith)
 
@@ -77,9 +81,11 @@ pub times-append : (x : ℕ) (xs ys : List ℕ) → times x (xs ++ ys) ≡ times
 times-append x [] ys = omega arith
 times-append x (z ∷ zs) ys = let r = times-append x zs ys in omega arith
 
-without_from : (x y : ℕ) (ys : List ℕ) → 1 ≤ times x (y ∷ ys) → Dec (y ≡ x) → (1 ≤ times x ys → suc (times x (without x ys)) ≡ times x ys) → suc (times x (without x (y ∷ ys))) ≡ times x (y ∷ ys)
+without_from : (x y : ℕ) (ys : List ℕ) → 1 ≤ times x (y ∷ ys) → Dec (y ≡ x) → (1 ≤ times x ys → suc (times x (without x ys)) ≡ times x ys)
+    → suc (times x (without x (y ∷ ys))) ≡ times x (y ∷ ys)
 without_from x y ys h (yes e) rest = rw (eq-eqb y x e) (omega arith)
-without_from x y ys h (no n) rest = let t = times_else x y ys n in let r = rest (omega arith) in rw (ne_eqb y x n) (omega (arith, times_else x y (without x ys) n))
+without_from x y ys h (no n) rest = let t = times_else x y ys n in let r = rest (omega arith) in
+    rw (ne_eqb y x n) (omega (arith, times_else x y (without x ys) n))
 
 -- one is taken out
 pub times-without : (x : ℕ) (xs : List ℕ) → 1 ≤ times x xs → suc (times x (without x xs)) ≡ times x xs

@@ -14,12 +14,12 @@ use Rattle.once_board.specs.Holds.{won, saw, looked}
 use Rattle.once_board.specs.Told.{IsSound, Follows, WasNew, Seated}
 
 -- which board it is, and whose its places are
-pub record Frame : Type 0 where
+pub record BoardView : Type 0 where
   pub board : TableId
   pub owners : List Owner
 
 -- whose seat it is, and what it holds and knows
-pub record Sitting (T : Type 0) : Type 0 where
+pub record SeatView (T : Type 0) : Type 0 where
   pub board : TableId
   pub hold : Hold T
 
@@ -46,16 +46,19 @@ module _ {T : Type 0} where
       (after ≡ saw place word before) × (record_of after.places place ≡ read word (record_of before.places place))
       × (word ≢ 0) × (word < 4) × IsFree owners place × Follows word (record_of before.places place)
 
-  -- what a look makes of a seat, by its answer
-  abbrev pub Looks : (ℕ → T → Type 0) → ℕ → Hold T → Hold T → Looking T → Type 0
-  Looks fits place before after (Value x) =
+  -- a look that found this value: it fits, and it is what the seat knew, if it knew one. The seat knows it now
+  abbrev pub Finds : (ℕ → T → Type 0) → ℕ → Hold T → Hold T → T → Type 0
+  Finds fits place before after x =
       (after ≡ looked place x before) × (record_of after.places place ≡ opened x (read 2 (record_of before.places place)))
       × fits place x × ((y : T) → (record_of before.places place).value ≡ Some y → x ≡ y)
+
+  -- what a look makes of a seat, by its answer
+  abbrev pub Looks : (ℕ → T → Type 0) → ℕ → Hold T → Hold T → Looking T → Type 0
+  Looks fits place before after (Value x) = Finds fits place before after x
   Looks fits place before after (NotYet word) =
       (after ≡ saw place word before) × (record_of after.places place ≡ read word (record_of before.places place))
       × (word < 2) × ((record_of before.places place).value ≡ None) × (word ≡ 0 → times place before.claims ≡ 0)
       × Follows word (record_of before.places place)
   Looks fits place before after (Busy word) =
       (after ≡ saw place word before) × (record_of after.places place ≡ read word (record_of before.places place)) × (word ≡ 3)
-  Looks fits place before after OutOfMemory =
-      (after ≡ saw place 2 before) × (record_of after.places place ≡ read 2 (record_of before.places place))
+  Looks fits place before after OutOfMemory = (x : T) × Finds fits place before after x

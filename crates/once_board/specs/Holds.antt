@@ -16,23 +16,58 @@ module _ {T : Type 0} where
 
   -- after the claim of a place was won
   abbrev pub won : ℕ → Hold T → Hold T
-  won place h = record { rights = h.rights; parts = h.parts; claims = place ∷ h.claims; puts = h.puts; places = noted h.places place (claimed (record_of h.places place)) }
+  won place h = record {
+    rights = h.rights;
+    parts = h.parts;
+    claims = place ∷ h.claims;
+    puts = h.puts;
+    places = noted h.places place
+        (claimed (record_of h.places place));
+  }
 
   -- after a word was read at a place
   abbrev pub saw : ℕ → ℕ → Hold T → Hold T
-  saw place word h = record { rights = h.rights; parts = h.parts; claims = h.claims; puts = h.puts; places = noted h.places place (read word (record_of h.places place)) }
+  saw place word h = record {
+    rights = h.rights;
+    parts = h.parts;
+    claims = h.claims;
+    puts = h.puts;
+    places = noted h.places place
+        (read word (record_of h.places place));
+  }
 
   -- after a value was put at a place
   abbrev pub put_at : ℕ → T → Hold T → Hold T
-  put_at place x h = record { rights = h.rights; parts = h.parts; claims = h.claims; puts = place ∷ h.puts; places = noted h.places place (opened x (record_of h.places place)) }
+  put_at place x h = record {
+    rights = h.rights;
+    parts = h.parts;
+    claims = h.claims;
+    puts = place ∷ h.puts;
+    places = noted h.places place
+        (opened x (record_of h.places place));
+  }
 
   -- after the value of a place became known
   abbrev pub learned : ℕ → T → Hold T → Hold T
-  learned place x h = record { rights = h.rights; parts = h.parts; claims = h.claims; puts = h.puts; places = noted h.places place (opened x (record_of h.places place)) }
+  learned place x h = record {
+    rights = h.rights;
+    parts = h.parts;
+    claims = h.claims;
+    puts = h.puts;
+    places = noted h.places place
+        (opened x (record_of h.places place));
+  }
 
   -- after the value of a place was read, while its word was 2
   abbrev pub looked : ℕ → T → Hold T → Hold T
-  looked place x h = record { rights = h.rights; parts = h.parts; claims = h.claims; puts = h.puts; places = noted h.places place (opened x (read 2 (record_of h.places place))) }
+  looked place x h = record {
+    rights = h.rights;
+    parts = h.parts;
+    claims = h.claims;
+    puts = h.puts;
+    places = noted h.places place
+        (opened x (read 2 (record_of h.places place)));
+  }
 
   -- what a seat keeps when another is split off, with a right or none
   abbrev pub split_kept : Option ℕ → Hold T → Hold T
@@ -43,19 +78,26 @@ module _ {T : Type 0} where
   split_off right h = record { rights = given right; parts = part_given h.parts; claims = []; puts = []; places = map unread h.places }
 
   -- a seat without its rights, and its rights with what it knows
-  abbrev pub silent : Hold T → Hold T
-  silent h = record { rights = []; parts = h.parts; claims = h.claims; puts = h.puts; places = h.places }
+  abbrev pub without_rights : Hold T → Hold T
+  without_rights h = record { rights = []; parts = h.parts; claims = h.claims; puts = h.puts; places = h.places }
 
-  abbrev pub voice : Hold T → Hold T
-  voice h = record { rights = h.rights; parts = 0; claims = []; puts = []; places = map unread h.places }
+  abbrev pub rights_and_records : Hold T → Hold T
+  rights_and_records h = record { rights = h.rights; parts = 0; claims = []; puts = []; places = map unread h.places }
 
   -- a seat that gets these rights back
-  abbrev pub regained : Hold T → Hold T → Hold T
-  regained h other = record { rights = h.rights ++ other.rights; parts = h.parts; claims = h.claims; puts = h.puts; places = h.places }
+  abbrev pub with_rights : Hold T → Hold T → Hold T
+  with_rights h other = record { rights = h.rights ++ other.rights; parts = h.parts; claims = h.claims; puts = h.puts; places = h.places }
 
   -- two seats in one
   abbrev pub joined : Hold T → Hold T → Hold T
-  joined h other = record { rights = h.rights ++ other.rights; parts = h.parts + other.parts; claims = h.claims ++ other.claims; puts = h.puts ++ other.puts; places = together h.places other.places }
+  joined h other = record {
+    rights = h.rights ++ other.rights;
+    parts = h.parts + other.parts;
+    claims = h.claims ++ other.claims;
+    puts
+        = h.puts ++ other.puts;
+    places = together h.places other.places;
+  }
 
   -- a seat that was told what another knows
   abbrev pub told : Hold T → Hold T → Hold T
@@ -71,7 +113,8 @@ module _ {T : Type 0} where
 
   -- a place that is private to a right of the first is known as claimed or open to the second only where it was to the first
   abbrev pub OwnsAll : List Owner → Hold T → Hold T → Type 0
-  OwnsAll owners h after = (place right : ℕ) → IsPrivate owners place right → 1 ≤ times right h.rights → 1 ≤ (record_of after.places place).word → 1 ≤ (record_of h.places place).word
+  OwnsAll owners h after = (place right : ℕ) → IsPrivate owners place right → 1 ≤ times right h.rights → 1 ≤ (record_of after.places place).word → 1 ≤
+      (record_of h.places place).word
 
   -- a place whose value is known is known as open
   abbrev pub IsLawful : Hold T → Type 0
@@ -83,7 +126,7 @@ module _ {T : Type 0} where
 
   -- no seat has more parts than there are
   abbrev pub HasParts : Hold T → Type 0
-  HasParts h = h.parts ≤ all_parts
+  HasParts h = h.parts ≤ 4_294_967_296
 
   -- no right is held twice
   abbrev pub HasRightsOnce : Hold T → Type 0
@@ -103,7 +146,7 @@ module _ {T : Type 0} where
 
   -- with all parts, a place that is known as claimed or open is among the claims
   abbrev pub ClaimsAll : Hold T → Type 0
-  ClaimsAll h = h.parts ≡ all_parts → (place : ℕ) → 1 ≤ (record_of h.places place).word → times place h.claims ≡ 1
+  ClaimsAll h = h.parts ≡ 4_294_967_296 → (place : ℕ) → 1 ≤ (record_of h.places place).word → times place h.claims ≡ 1
 
   -- a free place that this seat didn't claim, or a place that is private to a right of its and not known as claimed
   abbrev pub MayClaim : List Owner → ℕ → Hold T → Type 0

@@ -1,3 +1,5 @@
+pub use Rattle.atomic_table.specs.Seated
+pub use Rattle.atomic_table.specs.Table
 pub mod Numbers
 pub mod Places
 pub mod Holds

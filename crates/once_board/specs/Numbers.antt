@@ -1,5 +1,10 @@
--- Lists of numbers, as rights and claims are kept: how often each number stands in them.
+-- Lists of numbers, as rights and claims are kept: how often each number stands in them, and sums over lists.
 use Rattle.std.specs.Prelude.{ℕ, zero, suc, ◌+◌, ◌==◌, nat_le, List, [], ◌∷◌, if◌then◌else◌, Option, Some, None}
+
+-- a number for each item, added up
+abbrev pub total : {V : Type 0} → (V → ℕ) → List V → ℕ
+total f [] = 0
+total f (v ∷ vs) = f v + total f vs
 
 -- how often a number stands in a list
 abbrev pub times : ℕ → List ℕ → ℕ

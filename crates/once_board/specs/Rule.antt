@@ -11,7 +11,7 @@ use Rattle.once_board.specs.declared.holds.Stage.{Stage}
 use Rattle.once_board.specs.declared.holds.Stage.TheVariants.{Idle, Filling, Turn, Joined}
 use Rattle.once_board.specs.declared.holds.Seen.{Seen}
 use Rattle.once_board.specs.declared.owners.Owner.{Owner}
-use Rattle.once_board.specs.Numbers.{times, all_parts}
+use Rattle.once_board.specs.Numbers.{times, total, all_parts}
 use Rattle.once_board.specs.Places.{IsPrivate, record_of}
 use Rattle.once_board.specs.Holds.{Agrees, Extends, OwnsAll}
 
@@ -23,11 +23,6 @@ pub data Content (T : Type 0) : Type 0 where
   filling : Content T
   ready : T → Content T
   lent : T → Content T
-
--- a number for each view, added up
-abbrev pub total : {V : Type 0} → (V → ℕ) → List V → ℕ
-total f [] = 0
-total f (v ∷ vs) = f v + total f vs
 
 module _ {T : Type 0} where
   abbrev pub word_of : Content T → ℕ

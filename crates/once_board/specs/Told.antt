@@ -10,7 +10,8 @@ use Rattle.once_board.specs.declared.owners.Owner.{Owner}
 use Rattle.once_board.specs.Numbers.{times}
 use Rattle.once_board.specs.Places.{IsFree, record_of}
 use Rattle.once_board.specs.Rule.{IsMet}
-use Rattle.once_board.specs.Holds.{AwaitsPuts, ClaimsAll, Extends, FitsAll, HasParts, HasRightsOnce, IsLawful, IsOnce, OwnsAll, ShowsClaims, joined, learned, nothing, put_at, regained, saw, silent, split_kept, split_off, voice, won}
+use Rattle.once_board.specs.Holds.{AwaitsPuts, ClaimsAll, Extends, FitsAll, HasParts, HasRightsOnce, IsLawful, IsOnce, OwnsAll, ShowsClaims, joined, learned}
+use Rattle.once_board.specs.Holds.{nothing, put_at, with_rights, saw, without_rights, split_kept, split_off, rights_and_records, won}
 
 -- what holds of each seat at every moment
 pub record IsSound {T : Type 0} (fits : ℕ → T → Type 0) (h : Hold T) : Type 0 where
@@ -65,7 +66,8 @@ module _ {T : Type 0} where
 
   -- a store of 2 that brings the value home
   abbrev pub put_told : (ℕ → T → Type 0) → Step (Option T) → Seated T → ℕ → Seated T → Type 0
-  put_told fits st m found m' = (place : ℕ) (x : T) → st.word ≡ suc place → m.1 ≡ (place, Some x) ∷ [] → (m'.1 ≡ []) × (m'.0 ≡ idle (put_at place x m.0.hold)) × IsSound fits m'.0.hold
+  put_told fits st m found m' = (place : ℕ) (x : T) → st.word ≡ suc place → m.1 ≡ (place, Some x) ∷ [] → (m'.1 ≡ [])
+      × (m'.0 ≡ idle (put_at place x m.0.hold)) × IsSound fits m'.0.hold
 
   -- how a seat is cut in two: with a right or none, and its rights with what it knows
   abbrev pub cut_kept : Option ℕ → Seen T → Seen T
@@ -74,11 +76,11 @@ module _ {T : Type 0} where
   abbrev pub cut_off : Option ℕ → Seen T → Seen T
   cut_off right v = idle (split_off right v.hold)
 
-  abbrev pub silent_kept : Seen T → Seen T
-  silent_kept v = idle (silent v.hold)
+  abbrev pub rights_split : Seen T → Seen T
+  rights_split v = idle (without_rights v.hold)
 
-  abbrev pub voice_off : Seen T → Seen T
-  voice_off v = idle (voice v.hold)
+  abbrev pub rights_off : Seen T → Seen T
+  rights_off v = idle (rights_and_records v.hold)
 
   -- the rights that came with the other seat go back
   abbrev pub back_kept : Stage T → Hold T → Seen T
@@ -94,11 +96,11 @@ module _ {T : Type 0} where
   back_off (Joined a b) = idle b
 
   -- how two seats become one
-  abbrev pub meeting : Seen T → Seen T → Seen T
-  meeting v w = seen (joined v.hold w.hold) (Joined v.hold w.hold)
+  abbrev pub seats_joined : Seen T → Seen T → Seen T
+  seats_joined v w = seen (joined v.hold w.hold) (Joined v.hold w.hold)
 
-  abbrev pub regaining : Seen T → Seen T → Seen T
-  regaining v w = idle (regained v.hold w.hold)
+  abbrev pub rights_joined : Seen T → Seen T → Seen T
+  rights_joined v w = idle (with_rights v.hold w.hold)
 
   -- a load that tells of two seats that were joined
   abbrev pub settle_told : (ℕ → T → Type 0) → List Owner → Step (Option T) → Seated T → ℕ → Seated T → Type 0
@@ -120,9 +122,7 @@ module _ {T : Type 0} where
   abbrev pub look_told : (ℕ → T → Type 0) → List Owner → Step (Option T) → Seated T → ℕ → Seated T → Type 0
   look_told fits owners st m found m' = (place : ℕ) → st.word ≡ suc place → Looked fits owners place found m m'
 
-  -- a store of 2 that brings the value home, by a seat that has a copy of it, and by one that has none
+  -- a store of 2 that brings the value home, by the seat that has its turn: it knows the value then
   abbrev pub learn_told : (ℕ → T → Type 0) → Step (Option T) → Seated T → ℕ → Seated T → Type 0
-  learn_told fits st m found m' = (place : ℕ) (x : T) → st.word ≡ suc place → m.0.stage ≡ Turn place x → (m'.0 ≡ idle (learned place x m.0.hold)) × (m'.1 ≡ rest m.1) × IsSound fits m'.0.hold
-
-  abbrev pub leave_told : (ℕ → T → Type 0) → Step (Option T) → Seated T → ℕ → Seated T → Type 0
-  leave_told fits st m found m' = (m'.0 ≡ idle m.0.hold) × (m'.1 ≡ rest m.1) × IsSound fits m'.0.hold
+  learn_told fits st m found m' = (place : ℕ) (x : T) → st.word ≡ suc place → m.0.stage ≡ Turn place x → (m'.0 ≡ idle (learned place x m.0.hold))
+      × (m'.1 ≡ rest m.1) × IsSound fits m'.0.hold

@@ -18,6 +18,7 @@ pub enum Looking<T> {
     NotYet(u64),
     /// Exactly where the word that was read is this one, 3: a seat has the turn of the place.
     Busy(u64),
-    /// The word that was read was 2, and there was no memory for a share of the value. It is at its place again.
+    /// The word that was read was 2, and there was no memory for a share of the value. The value is at its place again, and
+    /// the seat knows it.
     OutOfMemory,
 }

@@ -28,9 +28,9 @@ pub struct Board<T: Share> {
 
 impl<T: Share> Model for Board<T> {
     ghost use Rattle.std.specs.Prelude.{◌≡◌, suc, length};
-    ghost use Rattle.once_board.specs.Boards.{Frame};
+    ghost use Rattle.once_board.specs.Boards.{BoardView};
 
-    ghost Value = { Frame };
+    ghost Value = { BoardView };
 
     ghost view = { λ a. record { board = a.table.shared.table_id; owners = a.table.shared.key } };
 

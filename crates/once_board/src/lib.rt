@@ -8,26 +8,23 @@
 //! `moves` and `looks` have the steps, and `board` and `joining` the calls. `specs/Holds` says what each call makes of a
 //! seat, `specs/Boards` what it answers, and `specs/Stated` the rule in plain words. `specs/Numbers` and `specs/Places` are
 //! how rights, claims and records are kept, `specs/Told` is what each step tells its seat, and `specs/Worked` has seats that are
-//! worked out. `specs/Rows` and `specs/Gathered` are for the layers above.
+//! worked out. `specs/Rows` and `specs/Gathered` are for the crates above, and so are the lemmas in `proofs/Lemmas`.
 #![tactic(auto)]
 
 mod answers;
 mod board;
 mod holds;
 mod joining;
-mod laws;
+pub mod laws;
 mod looks;
 mod moves;
 mod owners;
 mod rule;
 mod seats;
 mod steps;
-#[cfg(test)]
-mod tests;
 
 pub use answers::{Claiming, Looking};
 pub use board::Board;
 pub use holds::{Hold, Known};
-pub use laws::{rule_in_words, worked_numbers, worked_records, worked_seats};
-pub use owners::Owner;
+pub use owners::{Owner, free_owners, row_owners};
 pub use seats::BoardSeat;

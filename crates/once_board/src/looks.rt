@@ -1,10 +1,10 @@
 //! How a seat of a board's table takes the turn of a place, shares the value and gives the turn back.
-ghost use Rattle.std.specs.Prelude.{◌≡◌, suc, ◌<◌, [], ◌∷◌, IfOk, IfErr, Some};
+ghost use Rattle.std.specs.Prelude.{◌≡◌, suc, ◌<◌, [], ◌∷◌, IfOk, Some};
 ghost use Rattle.once_board.specs.declared.holds.Stage.TheVariants.{Idle, Turn};
 ghost use Rattle.once_board.specs.Holds.{learned};
 ghost use Rattle.once_board.specs.Told.{Looked, IsSound, idle};
 
-use crate::rule::{Learns, Leaves, Looks, Owned};
+use crate::rule::{Learns, Looks, Owned};
 use crate::steps::{TableSeat, Words};
 use djvu_base::Share;
 use std::alloc::AllocError;
@@ -47,7 +47,8 @@ fn copy_value<T: Share>(
     copy
 }
 
-/// Shares the value whose turn the seat has, and gives the turn back.
+/// Shares the value whose turn the seat has, and gives the turn back. The seat knows the value then, also where the share
+/// was refused.
 pub(crate) fn share_value<T: Share>(
     table: &Words<T>,
     seat: &mut TableSeat<T>,
@@ -57,19 +58,10 @@ pub(crate) fn share_value<T: Share>(
     requires place { place < table.now.table_id.slots }
     requires turn { (x : T) × (seat.old.me.0.stage ≡ Turn place x) × (seat.old.me.1 ≡ (place, Some x) ∷ []) }
     ensures same { seat.new.table_id ≡ seat.old.table_id }
-    ensures copy { IfOk result (λ x. (seat.old.me.0.stage ≡ Turn place x) × (seat.new.me ≡ (idle (learned place x seat.old.me.0.hold), []))) }
-    ensures refused { IfErr result (λ _. seat.new.me ≡ (idle seat.old.me.0.hold, [])) }
+    ensures learned { (x : T) × (seat.old.me.0.stage ≡ Turn place x) × (seat.new.me ≡ (idle (learned place x seat.old.me.0.hold), [])) × IfOk result (λ copy. copy ≡ x) }
     ensures sound { IsSound T.fits seat.new.me.0.hold }
 {
-    let index = place as usize + 1;
-    match copy_value(table, seat, place) {
-        Ok(copy) => {
-            table.store::<Learns>(seat, index, 2);
-            Ok(copy)
-        }
-        Err(refused) => {
-            table.store::<Leaves>(seat, index, 2);
-            Err(refused)
-        }
-    }
+    let copy = copy_value(table, seat, place);
+    table.store::<Learns>(seat, place as usize + 1, 2);
+    copy
 }

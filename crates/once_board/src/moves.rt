@@ -2,11 +2,13 @@
 ghost use Rattle.std.specs.Prelude.{◌≡◌, ℕ, ◌≤◌, ◌<◌, [], Some};
 ghost use Rattle.once_board.specs.declared.holds.Stage.TheVariants.{Idle, Joined};
 ghost use Rattle.once_board.specs.Numbers.{times};
-ghost use Rattle.once_board.specs.Holds.{joined, voice, told, IsLawful};
+ghost use Rattle.once_board.specs.Holds.{joined, rights_and_records, told, IsLawful};
 ghost use Rattle.once_board.specs.Rule.{Met};
 ghost use Rattle.once_board.specs.Told.{IsSound, seen, idle, cut_kept, cut_off};
 
-use crate::rule::{Chosen, Cuts, Meets, Owned, Regains, Returns, Settles, Voices};
+use crate::rule::{
+    Chosen, Cuts, JoinsRights, JoinsSeats, Owned, Settles, SplitsRights, SplitsRightsBack,
+};
 use crate::steps::{TableSeat, Words};
 use djvu_base::Share;
 
@@ -42,24 +44,24 @@ pub(crate) fn join_seats<T: Share, O: Owned>(
     ensures met { Met O.owners seat.old.me.0.hold other.me.0.hold seat.new.me.0.hold }
     ensures sound { IsSound T.fits seat.new.me.0.hold }
 {
-    table.join_seat::<Meets>(seat, other);
+    table.join_seat::<JoinsSeats>(seat, other);
     table.load::<Settles<O>>(seat, 0);
 }
 
 /// Brings what one seat knows to another, with its rights, and takes the rights back.
-fn hear<T: Share>(table: &Words<T>, to: &mut TableSeat<T>, from: &mut TableSeat<T>)
+fn tell_under_rights<T: Share>(table: &Words<T>, to: &mut TableSeat<T>, from: &mut TableSeat<T>)
     requires board { (to.old.table_id ≡ table.now.table_id) × (from.old.table_id ≡ table.now.table_id) × (0 < table.now.table_id.words) }
     requires to { (to.old.me.0.stage ≡ Idle) × (to.old.me.1 ≡ []) }
     requires from { (from.old.me.0.stage ≡ Idle) × (from.old.me.1 ≡ []) }
     requires lawful { IsLawful from.old.me.0.hold }
     ensures same { (to.new.table_id ≡ to.old.table_id) × (from.new.table_id ≡ from.old.table_id) }
-    ensures to { to.new.me ≡ (seen (told to.old.me.0.hold from.old.me.0.hold) (Joined to.old.me.0.hold (voice from.old.me.0.hold)), []) }
+    ensures to { to.new.me ≡ (seen (told to.old.me.0.hold from.old.me.0.hold) (Joined to.old.me.0.hold (rights_and_records from.old.me.0.hold)), []) }
     ensures from { from.new.me ≡ (idle from.old.me.0.hold, []) }
 {
-    let voice = table.split_seat::<Voices>(from);
-    table.join_seat::<Meets>(to, voice);
-    let rights = table.split_seat::<Returns>(to);
-    table.join_seat::<Regains>(from, rights);
+    let rights = table.split_seat::<SplitsRights>(from);
+    table.join_seat::<JoinsSeats>(to, rights);
+    let back = table.split_seat::<SplitsRightsBack>(to);
+    table.join_seat::<JoinsRights>(from, back);
 }
 
 /// Tells one seat what another knows. Nothing else moves.
@@ -75,9 +77,9 @@ pub(crate) fn tell_seat<T: Share, O: Owned>(
     ensures same { (to.new.table_id ≡ to.old.table_id) × (from.new.table_id ≡ from.old.table_id) }
     ensures to { to.new.me ≡ (idle (told to.old.me.0.hold from.old.me.0.hold), []) }
     ensures from { from.new.me ≡ (idle from.old.me.0.hold, []) }
-    ensures met { Met O.owners to.old.me.0.hold (voice from.old.me.0.hold) to.new.me.0.hold }
+    ensures met { Met O.owners to.old.me.0.hold (rights_and_records from.old.me.0.hold) to.new.me.0.hold }
     ensures sound { IsSound T.fits to.new.me.0.hold }
 {
-    hear(table, to, from);
+    tell_under_rights(table, to, from);
     table.load::<Settles<O>>(to, 0);
 }

@@ -90,20 +90,20 @@ impl<T, C: Chosen> Split<Seen<T>> for Cuts<C> {
 }
 
 /// A seat is split off with all rights and all that is known.
-pub struct Voices;
+pub struct SplitsRights;
 
-impl<T> Split<Seen<T>> for Voices {
-    ghost use Rattle.once_board.specs.Told.{silent_kept, voice_off};
+impl<T> Split<Seen<T>> for SplitsRights {
+    ghost use Rattle.once_board.specs.Told.{rights_split, rights_off};
 
-    ghost left = { silent_kept };
+    ghost left = { rights_split };
 
-    ghost right = { voice_off };
+    ghost right = { rights_off };
 }
 
 /// The rights that came with a seat that was joined are split off again.
-pub struct Returns;
+pub struct SplitsRightsBack;
 
-impl<T> Split<Seen<T>> for Returns {
+impl<T> Split<Seen<T>> for SplitsRightsBack {
     ghost use Rattle.once_board.specs.Told.{back_kept, back_off};
 
     ghost left = { λ v. back_kept v.stage v.hold };
@@ -112,25 +112,25 @@ impl<T> Split<Seen<T>> for Returns {
 }
 
 /// Two seats become one.
-pub struct Meets;
+pub struct JoinsSeats;
 
-impl<T> Join<Seen<T>> for Meets {
+impl<T> Join<Seen<T>> for JoinsSeats {
     ghost use Rattle.once_board.specs.Holds.{nothing};
-    ghost use Rattle.once_board.specs.Told.{idle, meeting};
+    ghost use Rattle.once_board.specs.Told.{idle, seats_joined};
 
-    ghost both = { meeting };
+    ghost both = { seats_joined };
 
     ghost spent = { idle nothing };
 }
 
 /// A seat takes its rights again.
-pub struct Regains;
+pub struct JoinsRights;
 
-impl<T> Join<Seen<T>> for Regains {
+impl<T> Join<Seen<T>> for JoinsRights {
     ghost use Rattle.once_board.specs.Holds.{nothing};
-    ghost use Rattle.once_board.specs.Told.{idle, regaining};
+    ghost use Rattle.once_board.specs.Told.{idle, rights_joined};
 
-    ghost both = { regaining };
+    ghost both = { rights_joined };
 
     ghost spent = { idle nothing };
 }
@@ -157,20 +157,11 @@ impl<T: Share, O: Owned> Play<Option<T>, Seen<T>> for Looks<O> {
     ghost then = { look_told T.fits O.owners };
 }
 
-/// A store of 2 that brings the value home, by a seat that has a copy of it.
+/// A store of 2 that brings the value home, by the seat that has its turn.
 pub struct Learns;
 
 impl<T: Share> Play<Option<T>, Seen<T>> for Learns {
     ghost use Rattle.once_board.specs.Told.{learn_told};
 
     ghost then = { learn_told T.fits };
-}
-
-/// A store of 2 that brings the value home, by a seat that has no copy.
-pub struct Leaves;
-
-impl<T: Share> Play<Option<T>, Seen<T>> for Leaves {
-    ghost use Rattle.once_board.specs.Told.{leave_told};
-
-    ghost then = { leave_told T.fits };
 }

@@ -13,9 +13,9 @@ pub struct BoardSeat<T: Share> {
 }
 
 impl<T: Share> Model for BoardSeat<T> {
-    ghost use Rattle.once_board.specs.Boards.{Sitting, IsReady};
+    ghost use Rattle.once_board.specs.Boards.{SeatView, IsReady};
 
-    ghost Value = { Sitting T };
+    ghost Value = { SeatView T };
 
     ghost view = { λ a. record { board = a.seat.table_id; hold = a.seat.me.0.hold } };
 

@@ -1,5 +1,5 @@
 use Rattle.std.proofs.Common.{◌∙◌, ap}
-use Rattle.once_board.proofs.JoinStep.{meets, settles}
+use Rattle.once_board.proofs.JoinStep.{joins_seats, settles}
 use Rattle.once_board.proofs.moves.join_seats.Goals as goal
 
 pub join_seat-requires : goal.join_seat-requires
@@ -8,7 +8,7 @@ join_seat-requires g c = (
   c.requires.board.1,
   c.requires.other.1,
   c.requires.board.2,
-  meets _ _ _ _ _ _ c.requires.idle.0 c.requires.other.0,
+  joins_seats _ _ _ _ _ _ c.requires.idle.0 c.requires.other.0,
 )
 
 pub load-requires : goal.load-requires

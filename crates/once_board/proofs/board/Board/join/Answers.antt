@@ -32,18 +32,22 @@ returns-clause-puts g c = λ place.
 pub returns-clause-one_holder : goal.returns-clause-one_holder
 returns-clause-one_holder g c = λ right.
     let one : times right c.join_seats.new.seat.me.0.hold.rights ≤ 1 = c.join_seats.ensures.sound.rights_once right in
-    let sum : times right c.join_seats.new.seat.me.0.hold.rights ≡ times right c.args.seat.now.hold.rights + times right c.args.other.hold.rights = returns-clause-rights g c right in
+    let sum : times right c.join_seats.new.seat.me.0.hold.rights ≡ times right c.args.seat.now.hold.rights + times right c.args.other.hold.rights
+    = returns-clause-rights g c right in
     omega arith
 
 pub returns-clause-apart : goal.returns-clause-apart
 returns-clause-apart g c = λ place.
     let one : times place c.join_seats.new.seat.me.0.hold.claims ≤ 1 = (c.join_seats.ensures.sound.once place).0 in
-    let sum : times place c.join_seats.new.seat.me.0.hold.claims ≡ times place c.args.seat.now.hold.claims + times place c.args.other.hold.claims = returns-clause-claims g c place in
+    let sum : times place c.join_seats.new.seat.me.0.hold.claims ≡ times place c.args.seat.now.hold.claims + times place c.args.other.hold.claims
+    = returns-clause-claims g c place in
     omega arith
 
 pub returns-clause-put_once : goal.returns-clause-put_once
 returns-clause-put_once g c = λ place.
     let one : times place c.join_seats.new.seat.me.0.hold.claims ≤ 1 = (c.join_seats.ensures.sound.once place).0 in
-    let few : times place c.join_seats.new.seat.me.0.hold.puts ≤ times place c.join_seats.new.seat.me.0.hold.claims = (c.join_seats.ensures.sound.once place).1 in
-    let sum : times place c.join_seats.new.seat.me.0.hold.puts ≡ times place c.args.seat.now.hold.puts + times place c.args.other.hold.puts = returns-clause-puts g c place in
+    let few : times place c.join_seats.new.seat.me.0.hold.puts ≤ times place c.join_seats.new.seat.me.0.hold.claims =
+    (c.join_seats.ensures.sound.once place).1 in
+    let sum : times place c.join_seats.new.seat.me.0.hold.puts ≡ times place c.args.seat.now.hold.puts + times place c.args.other.hold.puts
+    = returns-clause-puts g c place in
     omega arith

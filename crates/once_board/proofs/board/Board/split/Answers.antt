@@ -17,13 +17,23 @@ pub invariant_of-result : goal.invariant_of-result
 invariant_of-result g c =
     let off = c.split_seat-seat.ensures.off in
     subst (λ m. IsReady g.T.Share.fits m) (sym off)
-    (record { idles = refl; no_slot = refl; sound = off_sound g.T.Share.fits c.self.inside.table.shared.key c.args.right c.seat.inside.seat.me.0.hold c.seat.invariant.sound })
+    (record {
+      idles = refl;
+      no_slot = refl;
+      sound
+          = off_sound g.T.Share.fits c.self.inside.table.shared.key c.args.right c.seat.inside.seat.me.0.hold c.seat.invariant.sound;
+    })
 
 pub invariant_of-seat : goal.invariant_of-seat
 invariant_of-seat g c =
     let kept = c.split_seat-seat.ensures.kept in
     subst (λ m. IsReady g.T.Share.fits m) (sym kept)
-    (record { idles = refl; no_slot = refl; sound = kept_sound g.T.Share.fits c.self.inside.table.shared.key c.args.right c.seat.inside.seat.me.0.hold c.seat.invariant.sound })
+    (record {
+      idles = refl;
+      no_slot = refl;
+      sound
+          = kept_sound g.T.Share.fits c.self.inside.table.shared.key c.args.right c.seat.inside.seat.me.0.hold c.seat.invariant.sound;
+    })
 
 pub returns-clause-places : goal.returns-clause-places
 returns-clause-places g c = λ place.
@@ -32,6 +42,8 @@ returns-clause-places g c = λ place.
 
 pub returns-clause-sound : goal.returns-clause-sound
 returns-clause-sound g c = (
-  subst (λ m. IsSound g.T.Share.fits m.0.hold) (sym c.split_seat-seat.ensures.kept) (kept_sound g.T.Share.fits c.self.inside.table.shared.key c.args.right c.seat.inside.seat.me.0.hold c.seat.invariant.sound),
-  subst (λ m. IsSound g.T.Share.fits m.0.hold) (sym c.split_seat-seat.ensures.off) (off_sound g.T.Share.fits c.self.inside.table.shared.key c.args.right c.seat.inside.seat.me.0.hold c.seat.invariant.sound),
+  subst (λ m. IsSound g.T.Share.fits m.0.hold) (sym c.split_seat-seat.ensures.kept)
+      (kept_sound g.T.Share.fits c.self.inside.table.shared.key c.args.right c.seat.inside.seat.me.0.hold c.seat.invariant.sound),
+  subst (λ m. IsSound g.T.Share.fits m.0.hold) (sym c.split_seat-seat.ensures.off)
+      (off_sound g.T.Share.fits c.self.inside.table.shared.key c.args.right c.seat.inside.seat.me.0.hold c.seat.invariant.sound),
 )

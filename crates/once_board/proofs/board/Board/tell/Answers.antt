@@ -27,6 +27,9 @@ returns-clause-extends g c = (
 
 pub returns-clause-owns : goal.returns-clause-owns
 returns-clause-owns g c = (
-  subst (λ b. OwnsAll b.owners c.args.to.now.hold c.tell_seat.new.to.me.0.hold) c.self.view_is (subst (λ s. OwnsAll c.self.inside.table.shared.key s.hold c.tell_seat.new.to.me.0.hold) c.to.view_is c.tell_seat.ensures.met.owns_first),
-  subst (λ b. OwnsAll b.owners c.args.from.now.hold c.tell_seat.new.to.me.0.hold) c.self.view_is (subst (λ s. OwnsAll c.self.inside.table.shared.key s.hold c.tell_seat.new.to.me.0.hold) c.from.view_is (told_owns _ _ c.from.inside.seat.me.0.hold _ c.tell_seat.ensures.met)),
+  subst (λ b. OwnsAll b.owners c.args.to.now.hold c.tell_seat.new.to.me.0.hold) c.self.view_is
+      (subst (λ s. OwnsAll c.self.inside.table.shared.key s.hold c.tell_seat.new.to.me.0.hold) c.to.view_is c.tell_seat.ensures.met.owns_first),
+  subst (λ b. OwnsAll b.owners c.args.from.now.hold c.tell_seat.new.to.me.0.hold) c.self.view_is
+      (subst (λ s. OwnsAll c.self.inside.table.shared.key s.hold c.tell_seat.new.to.me.0.hold) c.from.view_is
+      (told_owns _ _ c.from.inside.seat.me.0.hold _ c.tell_seat.ensures.met)),
 )

@@ -12,8 +12,8 @@ use Rattle.once_board.specs.declared.owners.Owner.{Owner}
 use Rattle.once_board.specs.Numbers.{times, total}
 use Rattle.once_board.specs.Places.{record_of, read, claimed, IsFree, Grows}
 use Rattle.once_board.specs.Holds.{won, saw, MayClaim, Extends}
-use Rattle.once_board.specs.Rule.{Content, vacant, awaited, filling, ready, lent, word_of, value_of, claim_count, fills, turn_of, one_if_some, IsHome, At, at}
-use Rattle.once_board.specs.Rule.{Knows, PlaceOk, SeatOk, Rule, fill_count, turn_count}
+use Rattle.once_board.specs.Rule.{Content, vacant, awaited, filling, ready, lent, word_of, value_of, fills, turn_of, one_if_some, at}
+use Rattle.once_board.specs.Rule.{Knows, PlaceOk, Rule, fill_count, turn_count}
 use Rattle.once_board.specs.Told.{IsSound, Follows, WasNew, Seated, idle, Claimed, claim_told}
 use Rattle.once_board.specs.declared.answers.Claiming.TheVariants.{Won, Taken}
 use Rattle.once_board.specs.Boards.{Claims}

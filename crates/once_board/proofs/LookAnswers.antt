@@ -10,7 +10,7 @@ use Rattle.once_board.specs.declared.answers.Looking.{Looking}
 use Rattle.once_board.specs.declared.answers.Looking.TheVariants.{Value, NotYet, Busy, OutOfMemory}
 use Rattle.once_board.specs.Boards.{Finds, Looks}
 use Rattle.once_board.specs.Places.{record_of, noted, read, opened}
-use Rattle.once_board.specs.Holds.{saw, learned, OwnsAll, Extends, looked}
+use Rattle.once_board.specs.Holds.{saw, learned, OwnsAll, Extends, SameHoldings, looked}
 use Rattle.once_board.specs.Told.{Seated, Looked}
 use Rattle.once_board.proofs.Records.{noted_here, noted_else, noted_twice, extends_at}
 use Rattle.once_board.proofs.Changes.{none_of}
@@ -18,10 +18,7 @@ use Rattle.once_board.proofs.LookStep.{same_turn}
 
 module _ {T : Type 0} where
   -- no answer of a look moves what the seat holds
-  abbrev pub Held : Hold T → Hold T → Type 0
-  Held h after = (after.rights ≡ h.rights) × (after.parts ≡ h.parts) × (after.claims ≡ h.claims) × (after.puts ≡ h.puts)
-
-  found_held : (fits : ℕ → T → Type 0) (p : ℕ) (h after : Hold T) (x : T) → Finds fits p h after x → Held h after
+  found_held : (fits : ℕ → T → Type 0) (p : ℕ) (h after : Hold T) (x : T) → Finds fits p h after x → SameHoldings h after
   found_held fits p h after x told = (
     ap (λ (s : Hold T). s.rights) told.0,
     ap (λ (s : Hold T). s.parts) told.0,
@@ -30,7 +27,7 @@ module _ {T : Type 0} where
         (λ (s : Hold T). s.puts) told.0,
   )
 
-  pub same_held : (fits : ℕ → T → Type 0) (p : ℕ) (h after : Hold T) (answer : Looking T) → Looks fits p h after answer → Held h after
+  pub same_held : (fits : ℕ → T → Type 0) (p : ℕ) (h after : Hold T) (answer : Looking T) → Looks fits p h after answer → SameHoldings h after
   same_held fits p h after (Value x) told = found_held fits p h after x told
   same_held fits p h after (NotYet word) told =
       (ap (λ (s : Hold T). s.rights) told.0, ap (λ (s : Hold T). s.parts) told.0, ap (λ (s : Hold T). s.claims) told.0, ap (λ (s : Hold T). s.puts) told.0)

@@ -16,8 +16,8 @@ use Rattle.once_board.specs.declared.owners.Owner.{Owner}
 use Rattle.once_board.specs.Numbers.{times, total}
 use Rattle.once_board.specs.Places.{record_of, noted, read, opened, IsPrivate}
 use Rattle.once_board.specs.Holds.{saw, learned, OwnsAll, Extends}
-use Rattle.once_board.specs.Rule.{Content, vacant, awaited, filling, ready, lent, word_of, value_of, claim_count, fill_count, put_count, turn_count, fills}
-use Rattle.once_board.specs.Rule.{turn_of, one_if_some, IsHome, At, at, Knows, PlaceOk, SeatOk, Rule, IsMet}
+use Rattle.once_board.specs.Rule.{Content, vacant, awaited, filling, ready, lent, word_of, value_of, turn_count, fills}
+use Rattle.once_board.specs.Rule.{turn_of, one_if_some, at, Knows, PlaceOk, Rule, IsMet}
 use Rattle.once_board.specs.Told.{IsSound, Seated, seen, idle, Looked, look_told, learn_told}
 use Rattle.once_board.proofs.Sums.{set_there, total_one}
 use Rattle.once_board.proofs.Records.{noted_here, noted_else}

@@ -1,5 +1,5 @@
 -- Owners of rows whose rights go round, and owners that are all free.
-use Rattle.std.proofs.Common.{◌≡◌, ℕ, zero, suc, ◌+◌, ◌*◌, ◌/◌, ◌%◌, ◌<◌, ◌≤◌, List, [], ◌∷◌, ◌++◌, length, length-append, replicate, refl, sym, ap, subst}
+use Rattle.std.proofs.Common.{◌≡◌, ℕ, zero, suc, ◌+◌, ◌*◌, ◌/◌, ◌%◌, ◌<◌, List, [], ◌∷◌, ◌++◌, length, length-append, replicate, refl, sym, ap, subst}
 use Rattle.std.proofs.Common.{◌∙◌, arith}
 use Rattle.std.proofs.lemmas.Nat.{div-mul-add, mul-add-lt}
 use Rattle.std.proofs.Math.Nat.{mul_comm}
@@ -8,7 +8,7 @@ use native.Mathlib.Decide.{ℕ_discrete}
 use Rattle.once_board.specs.declared.owners.Owner.{Owner}
 use Rattle.once_board.specs.declared.owners.Owner.TheVariants.{Free, Private}
 use Rattle.once_board.specs.Places.{owner_of, IsFree}
-use Rattle.once_board.specs.Rows.{Rows, IsLaid, rows_in_turn, place_in}
+use Rattle.once_board.specs.Rows.{IsLaid, rows_in_turn}
 
 pub all_free : (n place : ℕ) → IsFree (replicate n Free) place
 all_free zero place = refl

@@ -15,7 +15,7 @@ use Rattle.once_board.specs.declared.owners.Owner.{Owner}
 use Rattle.once_board.specs.Numbers.{times, total}
 use Rattle.once_board.specs.Places.{record_of, opened}
 use Rattle.once_board.specs.Holds.{put_at, Extends}
-use Rattle.once_board.specs.Rule.{Content, vacant, awaited, filling, ready, lent, word_of, value_of, fills, turn_of, At, at, Knows, PlaceOk, SeatOk, Rule}
+use Rattle.once_board.specs.Rule.{Content, vacant, awaited, filling, ready, lent, fills, turn_of, at, Knows, PlaceOk, Rule}
 use Rattle.once_board.specs.Rule.{one_if_some}
 use Rattle.once_board.specs.Told.{IsSound, Seated, seen, idle, fill_told, put_told}
 use Rattle.once_board.proofs.Sums.{set_there, total_one, total_two, total_some, times_here}

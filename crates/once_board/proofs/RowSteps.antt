@@ -1,5 +1,5 @@
 -- What each call of a board does to rows of places.
-use Rattle.std.proofs.Common.{◌≡◌, ◌≢◌, ℕ, zero, suc, ◌+◌, ◌*◌, ◌<◌, ◌≤◌, eq-eqb, ne_eqb, ⊎_elim, inr, List, [], ◌∷◌, ◌++◌, length, sym, refl, ap, subst, ◌∙◌}
+use Rattle.std.proofs.Common.{◌≡◌, ◌≢◌, ℕ, zero, suc, ◌+◌, ◌*◌, ◌<◌, ◌≤◌, eq-eqb, ne_eqb, ⊎_elim, inr, List, length, sym, refl, ap, subst, ◌∙◌}
 use Rattle.std.proofs.Common.{arith, Option, Some}
 use Rattle.std.proofs.lemmas.Nat.{same_from_place, mul-add-lt}
 use Rattle.std.proofs.Math.Nat.{mul_comm}

@@ -4,7 +4,7 @@ use mathlib.Core.Option.{some}
 use lib.ListN.{get_elem?}
 use Rattle.once_board.specs.declared.holds.Seen.{Seen}
 use Rattle.once_board.specs.declared.owners.Owner.{Owner}
-use Rattle.once_board.specs.Numbers.{times, total}
+use Rattle.once_board.specs.Numbers.{times}
 use Rattle.once_board.specs.Places.{record_of}
 use Rattle.once_board.specs.Rule.{Content, vacant, awaited, filling, ready, lent, word_of, turn_of, one_if_some, at, PlaceOk, Rule, value_of}
 use Rattle.once_board.specs.Stated.{place_word, claims_of, turns_of, NoneKnows, AllAgree, Stated}

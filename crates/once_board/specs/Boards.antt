@@ -1,5 +1,5 @@
 -- What contracts see of a board and of its seats, and what its calls answer.
-use Rattle.std.specs.Prelude.{◌≡◌, ◌≢◌, ℕ, ◌<◌, List, [], Some, None}
+use Rattle.std.specs.Prelude.{◌≡◌, ◌≢◌, ℕ, suc, ◌<◌, List, [], length, Some, None}
 use Rattle.atomic_table.specs.Seated.{TableId}
 use Rattle.once_board.specs.declared.answers.Claiming.{Claiming}
 use Rattle.once_board.specs.declared.answers.Claiming.TheVariants.{Won, Taken}
@@ -17,6 +17,10 @@ use Rattle.once_board.specs.Told.{IsSound, Follows, WasNew, Seated}
 pub record BoardView : Type 0 where
   pub board : TableId
   pub owners : List Owner
+
+-- a table with a slot for each owner, and with a word for each slot and one more
+abbrev pub IsSized : TableId → List Owner → Type 0
+IsSized id owners = (id.words ≡ suc id.slots) × (id.slots ≡ length owners)
 
 -- whose seat it is, and what it holds and knows
 pub record SeatView (T : Type 0) : Type 0 where

@@ -1,9 +1,10 @@
 -- What a seat holds and knows, and what each call makes of it.
 use Rattle.std.specs.Prelude.{◌≡◌, ℕ, ◌+◌, ◌-◌, ◌≤◌, ◌⊎◌, List, [], ◌∷◌, ◌++◌, map, Option, Some, None}
+use Rattle.once_board.specs.declared.holds.Known.{Known}
 use Rattle.once_board.specs.declared.holds.Hold.{Hold}
 use Rattle.once_board.specs.declared.owners.Owner.{Owner}
 use Rattle.once_board.specs.Numbers.{times, given, kept, every_right, all_parts, part_given}
-use Rattle.once_board.specs.Places.{IsFree, IsPrivate, record_of, noted, read, opened, claimed, together, unread, Grows}
+use Rattle.once_board.specs.Places.{IsFree, IsPrivate, record_of, noted, read, opened, claimed, met, together, unread, Grows}
 
 module _ {T : Type 0} where
   -- of a seat that holds and knows nothing
@@ -103,9 +104,17 @@ module _ {T : Type 0} where
   abbrev pub told : Hold T → Hold T → Hold T
   told h other = record { rights = h.rights; parts = h.parts; claims = h.claims; puts = h.puts; places = together h.places (map unread other.places) }
 
+  -- what a seat that was told knows of a place
+  abbrev pub told_record : Hold T → Hold T → ℕ → Known T
+  told_record h other place = met (record_of h.places place) (unread (record_of other.places place))
+
   -- places that both know the value of have one value
   abbrev pub Agrees : Hold T → Hold T → Type 0
   Agrees h other = (place : ℕ) (x y : T) → (record_of h.places place).value ≡ Some x → (record_of other.places place).value ≡ Some y → x ≡ y
+
+  -- rights, parts, claims and puts are what they were
+  abbrev pub SameHoldings : Hold T → Hold T → Type 0
+  SameHoldings before after = (after.rights ≡ before.rights) × (after.parts ≡ before.parts) × (after.claims ≡ before.claims) × (after.puts ≡ before.puts)
 
   -- nothing that was known of any place is lost
   abbrev pub Extends : Hold T → Hold T → Type 0

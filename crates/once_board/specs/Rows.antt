@@ -1,5 +1,5 @@
 -- Rows of places, for the crates above: each row is private to one right and is filled from its start.
-use Rattle.std.specs.Prelude.{◌≡◌, ℕ, zero, suc, ◌+◌, ◌*◌, ◌%◌, ◌==◌, ◌≤◌, ◌<◌, max, List, [], ◌∷◌, ◌++◌, length, option_to_list, Some, if◌then◌else◌}
+use Rattle.std.specs.Prelude.{◌≡◌, ℕ, zero, suc, ◌+◌, ◌*◌, ◌%◌, ◌==◌, ◌≤◌, ◌<◌, max, List, [], ◌++◌, length, option_to_list, Some, if◌then◌else◌}
 use Rattle.once_board.specs.declared.holds.Hold.{Hold}
 use Rattle.once_board.specs.declared.owners.Owner.{Owner}
 use Rattle.once_board.specs.Numbers.{times}

@@ -1,6 +1,6 @@
 -- The rule of a board: what holds of its words, its slots and all its seats between any two steps.
 -- Word 0 stands beside the places, and word p + 1 is that of the place p. Slot p holds the value of the place p.
-use Rattle.std.specs.Prelude.{◌≡◌, ℕ, suc, ◌+◌, ◌≤◌, ◌<◌, ◌==◌, List, [], ◌∷◌, length, Option, Some, None, if◌then◌else◌, slice_index}
+use Rattle.std.specs.Prelude.{◌≡◌, ℕ, suc, ◌≤◌, ◌<◌, ◌==◌, List, length, Option, Some, None, if◌then◌else◌, slice_index}
 use mathlib.Core.Option.{some}
 use mathlib.Core.Option as maybe
 use lib.ListN.{get_elem?}

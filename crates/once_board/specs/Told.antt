@@ -122,6 +122,10 @@ module _ {T : Type 0} where
   abbrev pub look_told : (ℕ → T → Type 0) → List Owner → Step (Option T) → Seated T → ℕ → Seated T → Type 0
   look_told fits owners st m found m' = (place : ℕ) → st.word ≡ suc place → Looked fits owners place found m m'
 
+  -- the turn of a place went back, and the seat knows its value
+  abbrev pub GivesBack : ℕ → Seated T → Seated T → T → Type 0
+  GivesBack place m m' x = (m.0.stage ≡ Turn place x) × (m' ≡ (idle (learned place x m.0.hold), []))
+
   -- a store of 2 that brings the value home, by the seat that has its turn: it knows the value then
   abbrev pub learn_told : (ℕ → T → Type 0) → Step (Option T) → Seated T → ℕ → Seated T → Type 0
   learn_told fits st m found m' = (place : ℕ) (x : T) → st.word ≡ suc place → m.0.stage ≡ Turn place x → (m'.0 ≡ idle (learned place x m.0.hold))

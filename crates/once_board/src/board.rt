@@ -3,7 +3,7 @@ ghost use Rattle.std.specs.Prelude.{◌≡◌, ℕ, ◌^◌, ◌≤◌, ◌<◌,
 ghost use Rattle.once_board.specs.declared.answers.Claiming.TheVariants.{Won};
 ghost use Rattle.once_board.specs.Numbers.{times};
 ghost use Rattle.once_board.specs.Places.{IsPrivate, record_of, opened};
-ghost use Rattle.once_board.specs.Holds.{MayClaim, put_at, Extends, OwnsAll};
+ghost use Rattle.once_board.specs.Holds.{MayClaim, put_at, Extends, OwnsAll, SameHoldings};
 ghost use Rattle.once_board.specs.Boards.{IsFirst, Claims, Looks};
 ghost use Rattle.once_board.specs.Told.{IsSound};
 
@@ -27,14 +27,13 @@ pub struct Board<T: Share> {
 }
 
 impl<T: Share> Model for Board<T> {
-    ghost use Rattle.std.specs.Prelude.{◌≡◌, suc, length};
-    ghost use Rattle.once_board.specs.Boards.{BoardView};
+    ghost use Rattle.once_board.specs.Boards.{BoardView, IsSized};
 
     ghost Value = { BoardView };
 
     ghost view = { λ a. record { board = a.table.shared.table_id; owners = a.table.shared.key } };
 
-    ghost invariant = { λ a. (a.table.shared.table_id.words ≡ suc a.table.shared.table_id.slots) × (a.table.shared.table_id.slots ≡ length a.table.shared.key) };
+    ghost invariant = { λ a. IsSized a.table.shared.table_id a.table.shared.key };
 }
 
 /// So many words that are 0.
@@ -103,7 +102,7 @@ impl<T: Share> Board<T> {
         requires place { place < length self.now.owners }
         ensures board { seat.new.board ≡ seat.old.board }
         ensures answer { Looks T.fits place seat.old.hold seat.new.hold result }
-        ensures held { (seat.new.hold.rights ≡ seat.old.hold.rights) × (seat.new.hold.parts ≡ seat.old.hold.parts) × (seat.new.hold.claims ≡ seat.old.hold.claims) × (seat.new.hold.puts ≡ seat.old.hold.puts) }
+        ensures held { SameHoldings seat.old.hold seat.new.hold }
         ensures extends { Extends seat.old.hold seat.new.hold }
         ensures owns { OwnsAll self.now.owners seat.old.hold seat.new.hold }
         ensures sound { IsSound T.fits seat.new.hold }

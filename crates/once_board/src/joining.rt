@@ -2,7 +2,7 @@
 ghost use Rattle.std.specs.Prelude.{◌≡◌, ℕ, ◌+◌, ◌≤◌, Some};
 ghost use Rattle.once_board.specs.Numbers.{times};
 ghost use Rattle.once_board.specs.Places.{record_of, met, unread};
-ghost use Rattle.once_board.specs.Holds.{split_kept, split_off, joined, told, Agrees, Extends, OwnsAll};
+ghost use Rattle.once_board.specs.Holds.{split_kept, split_off, joined, told, told_record, Agrees, Extends, OwnsAll};
 ghost use Rattle.once_board.specs.Told.{IsSound};
 
 use crate::board::Board;
@@ -53,7 +53,7 @@ impl<T: Share> Board<T> {
         ensures board { (to.new.board ≡ to.old.board) × (from.new.board ≡ from.old.board) }
         ensures told { to.new.hold ≡ told to.old.hold from.old.hold }
         ensures same { from.new.hold ≡ from.old.hold }
-        ensures places { (place : ℕ) → record_of to.new.hold.places place ≡ met (record_of to.old.hold.places place) (unread (record_of from.old.hold.places place)) }
+        ensures places { (place : ℕ) → record_of to.new.hold.places place ≡ told_record to.old.hold from.old.hold place }
         ensures agree { Agrees to.old.hold from.old.hold }
         ensures extends { Extends to.old.hold to.new.hold × Extends from.old.hold to.new.hold }
         ensures owns { OwnsAll self.now.owners to.old.hold to.new.hold × OwnsAll self.now.owners from.old.hold to.new.hold }

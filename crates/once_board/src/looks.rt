@@ -1,8 +1,7 @@
 //! How a seat of a board's table takes the turn of a place, shares the value and gives the turn back.
 ghost use Rattle.std.specs.Prelude.{◌≡◌, suc, ◌<◌, [], ◌∷◌, IfOk, Some};
 ghost use Rattle.once_board.specs.declared.holds.Stage.TheVariants.{Idle, Turn};
-ghost use Rattle.once_board.specs.Holds.{learned};
-ghost use Rattle.once_board.specs.Told.{Looked, IsSound, idle};
+ghost use Rattle.once_board.specs.Told.{Looked, GivesBack, IsSound};
 
 use crate::rule::{Learns, Looks, Owned};
 use crate::steps::{TableSeat, Words};
@@ -58,7 +57,7 @@ pub(crate) fn share_value<T: Share>(
     requires place { place < table.now.table_id.slots }
     requires turn { (x : T) × (seat.old.me.0.stage ≡ Turn place x) × (seat.old.me.1 ≡ (place, Some x) ∷ []) }
     ensures same { seat.new.table_id ≡ seat.old.table_id }
-    ensures learned { (x : T) × (seat.old.me.0.stage ≡ Turn place x) × (seat.new.me ≡ (idle (learned place x seat.old.me.0.hold), [])) × IfOk result (λ copy. copy ≡ x) }
+    ensures learned { (x : T) × GivesBack place seat.old.me seat.new.me x × IfOk result (λ copy. copy ≡ x) }
     ensures sound { IsSound T.fits seat.new.me.0.hold }
 {
     let copy = copy_value(table, seat, place);

@@ -36,7 +36,9 @@ pub(crate) fn join_seats<T: Share, O: Owned>(
     seat: &mut TableSeat<T>,
     other: TableSeat<T>,
 )
-    requires board { (seat.old.table_id ≡ table.now.table_id) × (other.table_id ≡ table.now.table_id) × (0 < table.now.table_id.words) × (table.now.key ≡ O.owners) }
+    requires board { (seat.old.table_id ≡ table.now.table_id) × (other.table_id ≡ table.now.table_id) }
+    requires words { 0 < table.now.table_id.words }
+    requires key { table.now.key ≡ O.owners }
     requires idle { (seat.old.me.0.stage ≡ Idle) × (seat.old.me.1 ≡ []) }
     requires other { (other.me.0.stage ≡ Idle) × (other.me.1 ≡ []) }
     ensures same { seat.new.table_id ≡ seat.old.table_id }
@@ -70,7 +72,9 @@ pub(crate) fn tell_seat<T: Share, O: Owned>(
     to: &mut TableSeat<T>,
     from: &mut TableSeat<T>,
 )
-    requires board { (to.old.table_id ≡ table.now.table_id) × (from.old.table_id ≡ table.now.table_id) × (0 < table.now.table_id.words) × (table.now.key ≡ O.owners) }
+    requires board { (to.old.table_id ≡ table.now.table_id) × (from.old.table_id ≡ table.now.table_id) }
+    requires words { 0 < table.now.table_id.words }
+    requires key { table.now.key ≡ O.owners }
     requires to { (to.old.me.0.stage ≡ Idle) × (to.old.me.1 ≡ []) }
     requires from { (from.old.me.0.stage ≡ Idle) × (from.old.me.1 ≡ []) }
     requires lawful { IsLawful from.old.me.0.hold }

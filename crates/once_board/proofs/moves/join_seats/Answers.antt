@@ -7,13 +7,13 @@ join_seat-requires g c = (
   c.requires.board.0,
   c.requires.board.1,
   c.requires.other.1,
-  c.requires.board.2,
+  c.requires.words,
   joins_seats _ _ _ _ _ _ c.requires.idle.0 c.requires.other.0,
 )
 
 pub load-requires : goal.load-requires
 load-requires g c = (
   c.join_seat.ensures.0 ∙ c.requires.board.0,
-  c.requires.board.2,
-  settles _ g.O.Owned.owners _ _ _ _ c.requires.board.3 c.args.seat.now.me.0.hold c.args.other.me.0.hold (ap (λ m. m.0.stage) c.join_seat.ensures.2),
+  c.requires.words,
+  settles _ g.O.Owned.owners _ _ _ _ c.requires.key c.args.seat.now.me.0.hold c.args.other.me.0.hold (ap (λ m. m.0.stage) c.join_seat.ensures.2),
 )

@@ -1,4 +1,4 @@
-use Rattle.std.proofs.Common.{◌≡◌, ◌+◌, ◌*◌, subst, arith}
+use Rattle.std.proofs.Common.{◌≡◌, ◌*◌, subst, arith}
 use Rattle.once_board.proofs.OwnerLists.{GoRound, next_round, rows_laid}
 use Rattle.once_board.proofs.owners.row_owners.Goals as goal
 

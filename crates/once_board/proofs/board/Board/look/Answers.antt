@@ -25,12 +25,12 @@ returns-clause-answer g c =
     let P = λ (answer : _). Looks g.T.Share.fits c.args.place c.args.seat.now.hold c.share_value.new.seat.me.0.hold answer in
     elim c.match-share_value.branch [
       | in-Ok w ↦ subst P (sym w.result-is)
-          (subst (λ x. P (Value x)) (sym w.in-Ok.ensures.learned.3)
-          (found _ _ _ _ _ _ _ _ _ owned same told two w.in-Ok.ensures.learned.0 w.in-Ok.ensures.learned.1 (ap (λ m. m.0.hold) w.in-Ok.ensures.learned.2)))
+          (subst (λ x. P (Value x)) (sym w.in-Ok.ensures.learned.2)
+          (found _ _ _ _ _ _ _ _ _ owned same told two w.in-Ok.ensures.learned.0 w.in-Ok.ensures.learned.1.0 (ap (λ m. m.0.hold) w.in-Ok.ensures.learned.1.1)))
       | in-Err w ↦ subst P (sym w.result-is) (
         w.in-Err.ensures.learned.0,
-        found _ _ _ _ _ _ _ _ _ owned same told two w.in-Err.ensures.learned.0 w.in-Err.ensures.learned.1
-            (ap (λ m. m.0.hold) w.in-Err.ensures.learned.2),
+        found _ _ _ _ _ _ _ _ _ owned same told two w.in-Err.ensures.learned.0 w.in-Err.ensures.learned.1.0
+            (ap (λ m. m.0.hold) w.in-Err.ensures.learned.1.1),
       )
     ]
 
@@ -41,7 +41,7 @@ returns-clause-extends g c =
     let owned = ap (λ b. b.owners) c.self.view_is in
     let same = ap (λ s. s.hold) c.seat.view_is in
     let now = c.share_value.ensures.learned in
-    found_grows _ _ _ _ _ _ _ _ _ owned same told two now.0 now.1 (ap (λ m. m.0.hold) now.2)
+    found_grows _ _ _ _ _ _ _ _ _ owned same told two now.0 now.1.0 (ap (λ m. m.0.hold) now.1.1)
 
 pub returns-clause-owns : goal.returns-clause-owns
 returns-clause-owns g c =
@@ -50,7 +50,7 @@ returns-clause-owns g c =
     let owned = ap (λ b. b.owners) c.self.view_is in
     let same = ap (λ s. s.hold) c.seat.view_is in
     let now = c.share_value.ensures.learned in
-    found_owned _ _ _ _ _ _ _ _ _ owned same told two now.0 now.1 (ap (λ m. m.0.hold) now.2)
+    found_owned _ _ _ _ _ _ _ _ _ owned same told two now.0 now.1.0 (ap (λ m. m.0.hold) now.1.1)
 
 pub returns-then-word-lt2-clause-held : goal.returns-then-word-lt2-clause-held
 returns-then-word-lt2-clause-held g c =

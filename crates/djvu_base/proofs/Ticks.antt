@@ -32,6 +32,10 @@ ticks_both first last before mid after is_mid is_after =
 pub ticks_next : (ticks before mid after : ℕ) → TicksExactly ticks before mid → after ≡ ticked_once mid → TicksExactly (suc ticks) before after
 ticks_next ticks before mid after is_mid is_after = is_after ∙ ap ticked_once is_mid ∙ ticked_next ticks before
 
+-- where ticks raised a count from 0, a sum that stands still at its type's end is one tick more
+pub saturated_once : (ticks count sum : ℕ) → TicksExactly ticks 0 count → sum ≡ min (count + 1) 0xffff_ffff_ffff_ffff → sum ≡ ticked_once count
+saturated_once ticks count sum is more = grind (arith, common_steps, is, more)
+
 -- no tick
 pub ticks_none : (count : ℕ) → TicksExactly 0 count count
 ticks_none count = sym (ticked_none count)

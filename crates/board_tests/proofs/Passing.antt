@@ -1,16 +1,15 @@
 -- Passes over a row, by the lemmas that the board offers.
-use Rattle.std.proofs.Common.{◌≡◌, ◌≢◌, ℕ, ◌+◌, ◌*◌, ◌≤◌, ◌<◌, List, ◌∷◌, ◌++◌, [], length, get_or, eq-eqb, ne_eqb, refl, sym, ap, subst, ◌∙◌, arith, All}
+use Rattle.std.proofs.Common.{◌≡◌, ℕ, ◌+◌, ◌*◌, ◌<◌, List, ◌∷◌, ◌++◌, [], get_or, eq-eqb, ne_eqb, refl, sym, ap, subst, ◌∙◌, arith, All}
 use Rattle.std.proofs.Common.{if◌then◌else◌, ◌==◌, Some}
 use mathlib.Core.Logic.{dite}
 use native.Mathlib.Decide.{ℕ_discrete}
-use Rattle.once_board.specs.declared.owners.Owner.{Owner}
 use Rattle.once_board.specs.declared.holds.Hold.{Hold}
 use Rattle.once_board.specs.Boards.{BoardView}
 use Rattle.once_board.specs.Gathered.{Gathered}
 use Rattle.once_board.specs.Holds.{Extends, IsLawful, OwnsAll, put_at, won}
 use Rattle.once_board.specs.Numbers.{times}
 use Rattle.once_board.specs.Places.{record_of}
-use Rattle.once_board.specs.Rows.{InRows, IsLaid, IsPrefix, one_more, place_in, row_values}
+use Rattle.once_board.specs.Rows.{InRows, IsLaid, one_more, row_values}
 use Rattle.once_board.proofs.Lemmas.{IsKnown, known_row, read_is_prefix, rows_put, rows_read, rows_same, rows_stay, values_appended, values_stay}
 use Rattle.board_tests.specs.declared.passes.Pass.{Pass}
 use Rattle.board_tests.specs.Passes.{two_rows, hold_of, counts_of, values_of, IsNew, IsPass, ReadsPrefixes}

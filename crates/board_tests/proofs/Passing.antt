@@ -1,16 +1,15 @@
 -- Passes over a row, by the lemmas that the board offers.
-use Rattle.std.proofs.Common.{◌≡◌, ◌≢◌, ℕ, ◌+◌, ◌*◌, ◌≤◌, ◌<◌, List, ◌∷◌, ◌++◌, [], length, get_or, eq-eqb, ne_eqb, refl, sym, ap, subst, ◌∙◌, arith, All}
+use Rattle.std.proofs.Common.{◌≡◌, ℕ, ◌+◌, ◌*◌, ◌<◌, List, ◌∷◌, ◌++◌, [], get_or, eq-eqb, ne_eqb, refl, sym, ap, subst, ◌∙◌, arith, All}
 use Rattle.std.proofs.Common.{if◌then◌else◌, ◌==◌, Some}
 use mathlib.Core.Logic.{dite}
 use native.Mathlib.Decide.{ℕ_discrete}
-use Rattle.once_board.specs.declared.owners.Owner.{Owner}
 use Rattle.once_board.specs.declared.holds.Hold.{Hold}
 use Rattle.once_board.specs.Boards.{BoardView}
 use Rattle.once_board.specs.Gathered.{Gathered}
 use Rattle.once_board.specs.Holds.{Extends, IsLawful, OwnsAll, put_at, won}
 use Rattle.once_board.specs.Numbers.{times}
 use Rattle.once_board.specs.Places.{record_of}
-use Rattle.once_board.specs.Rows.{InRows, IsLaid, IsPrefix, one_more, place_in, row_values}
+use Rattle.once_board.specs.Rows.{InRows, IsLaid, one_more, row_values}
 use Rattle.once_board.proofs.Lemmas.{IsKnown, known_row, read_is_prefix, rows_put, rows_read, rows_same, rows_stay, values_appended, values_stay}
 use Rattle.board_tests.specs.declared.passes.Pass.{Pass}
 use Rattle.board_tests.specs.Passes.{two_rows, hold_of, counts_of, values_of, IsNew, IsPass, ReadsPrefixes}
@@ -35,8 +34,9 @@ module _ (pass after : Pass) (row : after.row ≡ pass.row) (known : after.known
 
 -- the places that a pass knows
 known_places : (board : BoardView) (pass : Pass) → IsPass board pass → IsKnown two_rows (hold_of pass) pass.row pass.known
-known_places board pass is = known_row two_rows (counts_of pass) (hold_of pass) is.in_rows pass.row pass.known is.inside (let here = count_here pass in
-    omega arith) is.narrow
+known_places board pass is =
+    let here = count_here pass in
+    known_row two_rows (counts_of pass) (hold_of pass) is.in_rows pass.row pass.known is.inside (omega arith) is.narrow
 
 module _ (board : BoardView) (laid : IsLaid two_rows board.owners) (pass after : Pass) (is : IsPass board pass) (row : after.row ≡ pass.row)
     (same_board : after.seat.board ≡ pass.seat.board) where
@@ -103,10 +103,10 @@ reads_prefixes board first h passes laid each all lawful i j d at there same min
     let put : holder.known ≡ counts_of holder holder.row = count_here holder in
     let prefix = (read_is_prefix two_rows board.owners laid (counts_of reader) (counts_of holder) (hold_of reader) (hold_of holder) h a.in_rows b.in_rows
     (all.knows_each i d at) (all.knows_each j d there) (all.owns_each j d there) lawful holder.row b.inside (let n = a.narrow in omega arith) mine).1 in
-    let read_values : values_of reader ≡ row_values two_rows (hold_of reader) holder.row (counts_of reader holder.row) = λ k. row_values two_rows
-    (hold_of reader) (same k) (known k) in
-    let put_values : values_of holder ≡ row_values two_rows (hold_of holder) holder.row (counts_of holder holder.row) = λ k. row_values two_rows
-    (hold_of holder) holder.row (put k) in
+    let read_values : values_of reader ≡ row_values two_rows (hold_of reader) holder.row (counts_of reader holder.row)
+    = λ k. row_values two_rows (hold_of reader) (same k) (known k) in
+    let put_values : values_of holder ≡ row_values two_rows (hold_of holder) holder.row (counts_of holder holder.row)
+    = λ k. row_values two_rows (hold_of holder) holder.row (put k) in
     (prefix.0, put_values ∙ (prefix.1 ∙ ap (λ l. l ++ prefix.0) (sym read_values)))
 
 -- a pass that knows nothing yet

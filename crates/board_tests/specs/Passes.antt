@@ -3,7 +3,7 @@ use Rattle.std.specs.Prelude.{◌≡◌, ℕ, ◌==◌, ◌≤◌, ◌<◌, List
 use Rattle.once_board.specs.declared.holds.Hold.{Hold}
 use Rattle.once_board.specs.Boards.{BoardView}
 use Rattle.once_board.specs.Numbers.{times}
-use Rattle.once_board.specs.Rows.{Rows, InRows, IsLaid, IsPrefix, row_values, rows_in_turn}
+use Rattle.once_board.specs.Rows.{Rows, InRows, IsPrefix, row_values, rows_in_turn}
 use Rattle.board_tests.specs.declared.passes.Pass.{Pass}
 
 -- two rows of three places, private to the rights 0 and 1

@@ -22,8 +22,7 @@ module _ {T : Type 0} where
     parts = h.parts;
     claims = place ∷ h.claims;
     puts = h.puts;
-    places = noted h.places place
-        (claimed (record_of h.places place));
+    places = noted h.places place (claimed (record_of h.places place));
   }
 
   -- after a word was read at a place
@@ -33,8 +32,7 @@ module _ {T : Type 0} where
     parts = h.parts;
     claims = h.claims;
     puts = h.puts;
-    places = noted h.places place
-        (read word (record_of h.places place));
+    places = noted h.places place (read word (record_of h.places place));
   }
 
   -- after a value was put at a place
@@ -44,8 +42,7 @@ module _ {T : Type 0} where
     parts = h.parts;
     claims = h.claims;
     puts = place ∷ h.puts;
-    places = noted h.places place
-        (opened x (record_of h.places place));
+    places = noted h.places place (opened x (record_of h.places place));
   }
 
   -- after the value of a place became known
@@ -55,8 +52,7 @@ module _ {T : Type 0} where
     parts = h.parts;
     claims = h.claims;
     puts = h.puts;
-    places = noted h.places place
-        (opened x (record_of h.places place));
+    places = noted h.places place (opened x (record_of h.places place));
   }
 
   -- after the value of a place was read, while its word was 2
@@ -66,8 +62,7 @@ module _ {T : Type 0} where
     parts = h.parts;
     claims = h.claims;
     puts = h.puts;
-    places = noted h.places place
-        (opened x (read 2 (record_of h.places place)));
+    places = noted h.places place (opened x (read 2 (record_of h.places place)));
   }
 
   -- what a seat keeps when another is split off, with a right or none

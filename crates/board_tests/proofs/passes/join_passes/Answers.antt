@@ -1,10 +1,9 @@
-use Rattle.std.proofs.Common.{◌≡◌, List, [], ◌∷◌, ◌++◌, append_assoc, sym, ap, subst, ◌∙◌, arith, All, Some}
+use Rattle.std.proofs.Common.{◌≡◌, [], ◌∷◌, ◌++◌, append_assoc, sym, ap, subst, ◌∙◌, arith, Some}
 use Rattle.std.proofs.lemmas.Grind.{common_steps}
 use Rattle.std.proofs.lemmas.List.{append-nil}
 use Rattle.std.proofs.lemmas.List.Elements.{All-pop}
 use Rattle.once_board.specs.Gathered.{Gathered}
 use Rattle.once_board.proofs.Lemmas.{gathered_none, gathered_next}
-use Rattle.board_tests.specs.declared.passes.Pass.{Pass}
 use Rattle.board_tests.specs.Passes.{hold_of, IsPass}
 use Rattle.board_tests.proofs.Passing.{reads_prefixes}
 use Rattle.board_tests.proofs.passes.join_passes.Goals as goal

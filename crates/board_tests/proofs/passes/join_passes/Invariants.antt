@@ -1,4 +1,4 @@
-use Rattle.std.proofs.Common.{◌≡◌, ℕ, List, ◌++◌, All}
+use Rattle.std.proofs.Common.{◌≡◌, List, ◌++◌, All}
 use Rattle.once_board.specs.Gathered.{Gathered}
 use Rattle.board_tests.specs.declared.passes.Pass.{Pass}
 use Rattle.board_tests.specs.Passes.{hold_of, IsPass}

@@ -26,16 +26,16 @@ use Rattle.once_board.proofs.Keeps.{Table, changed, OffSame, keeps, here, sound_
 -- what the slot holds that was taken last
 pub same_slot : {T : Type 0} (p q : ℕ) (a b : Option T) (xs ys : List (ℕ × Option T)) → ◌≡◌ {A = List (ℕ × Option T)} ((p, a) ∷ xs) ((q, b) ∷ ys) → a ≡ b
 same_slot {T} p q a b xs ys e =
-    let front : ℕ × Option T = (p, a) in
+    let first : ℕ × Option T = (p, a) in
     let other : ℕ × Option T = (q, b) in
-    let pair : front ≡ other = cc in
+    let pair : first ≡ other = cc in
     ap (λ (z : ℕ × Option T). z.1) pair
 
 -- the value of the one slot in hand
 pub same_value : {T : Type 0} (p q : ℕ) (x y : T) → ◌≡◌ {A = List (ℕ × Option T)} ((p, Some x) ∷ []) ((q, Some y) ∷ []) → x ≡ y
 same_value p q x y e = let value = same_slot p q (Some x) (Some y) [] [] e in cc
 
--- a slot in hand, with the others behind it
+-- a slot in hand, with the others after it
 pub in_hand : {T : Type 0} (m : Seated T) (p : ℕ) (a : Option T) (xs : List (ℕ × Option T)) → m.1 ≡ (p, a) ∷ xs → m.1 ≡ (p, a) ∷ rest m.1
 in_hand m p a xs has = has ∙ (λ i. (p, a) ∷ sym (ap rest has) i)
 

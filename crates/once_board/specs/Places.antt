@@ -1,10 +1,10 @@
--- What a seat knows of each place: a list of records by place, of which nothing behind its end is known.
+-- What a seat knows of each place: a list of records by place, and of places after its end nothing is known.
 use Rattle.std.specs.Prelude.{◌≡◌, ℕ, zero, suc, ◌+◌, ◌≤◌, max, List, [], ◌∷◌, map, Option, Some, None}
 use Rattle.once_board.specs.declared.holds.Known.{Known}
 use Rattle.once_board.specs.declared.owners.Owner.{Owner}
 use Rattle.once_board.specs.declared.owners.Owner.TheVariants.{Free, Private}
 
--- whose a place is; what lies behind the last place is free
+-- whose a place is; each place after the last is free
 abbrev pub owner_of : List Owner → ℕ → Owner
 owner_of [] place = Free
 owner_of (o ∷ os) zero = o

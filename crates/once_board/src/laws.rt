@@ -26,7 +26,7 @@ pub fn worked_numbers()
     ensures no_part { part_given 1 ≡ 0 }
     ensures one_part { part_given 2 ≡ 1 }
     ensures owner { owner_of (Free ∷ Private 7 ∷ []) 1 ≡ Private 7 }
-    ensures behind { owner_of (Free ∷ Private 7 ∷ []) 2 ≡ Free }
+    ensures after_the_last { owner_of (Free ∷ Private 7 ∷ []) 2 ≡ Free }
 {}
 
 /// What is known of a place after claims, puts and looks: the word, the value, the number of readings and the last word read.

@@ -1,7 +1,7 @@
 //! Drawings of pages: each pixel, row, sum and preview against a look at the mask.
-ghost use Rattle.std.specs.Prelude.{◌≡◌, ◌*◌, ◌≤◌, ◌<◌, ◌^◌, IfOk, None};
+ghost use Rattle.std.specs.Prelude.{◌≡◌, ◌*◌, ◌≤◌, ◌<◌, IfOk};
 ghost use Rattle.bit_plane.specs.Pixels.{area_limit};
-ghost use Rattle.layer_compose.specs.Drawing.{MaskFits};
+ghost use Rattle.layer_compose.specs.Drawing.{IsDrawable};
 
 use bit_plane::Plane;
 use layer_compose::Layers;
@@ -13,10 +13,7 @@ use std::test::Fail;
 fn speckled(alloc: Global, width: u32, height: u32) -> Result<Layers, AllocError>
     requires { width * height ≤ area_limit }
     ensures width { IfOk result (λ layers. layers.width ≡ width) }
-    ensures height { IfOk result (λ layers. layers.height ≡ height) }
-    ensures mask { IfOk result (λ layers. MaskFits layers) }
-    ensures front { IfOk result (λ layers. layers.front ≡ None) }
-    ensures back { IfOk result (λ layers. layers.back ≡ None) }
+    ensures drawable { IfOk result (λ layers. IsDrawable layers) }
 {
     let mut mask = Plane::new(alloc, width, height)?;
     for at in 0..width * height {
@@ -73,10 +70,7 @@ fn draw_and_compare(
 ) -> Result<(), AllocError>
     requires some { 0 < layers.now.width }
     requires step { 0 < step }
-    requires area { layers.now.width * layers.now.height ≤ area_limit }
-    requires mask { MaskFits layers.now }
-    requires front { layers.now.front ≡ None }
-    requires back { layers.now.back ≡ None }
+    requires drawable { IsDrawable layers.now }
 {
     let raster = layers.compose(alloc)?;
     assert_eq!(rt;
@@ -101,10 +95,7 @@ fn draw_and_compare(
 
 /// Writes each row on its own, and compares it with that row of the raster.
 fn rows_and_compare(rt: &impl Abort, alloc: Global, layers: &Layers) -> Result<(), AllocError>
-    requires area { layers.now.width * layers.now.height ≤ area_limit }
-    requires mask { MaskFits layers.now }
-    requires front { layers.now.front ≡ None }
-    requires back { layers.now.back ≡ None }
+    requires { IsDrawable layers.now }
 {
     let raster = layers.compose(alloc)?;
     let length = 3 * layers.width as usize;

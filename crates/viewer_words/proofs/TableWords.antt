@@ -8,7 +8,7 @@ use Rattle.std.proofs.lemmas.Slice.Eq.{bytes_eq-Decides}
 use Rattle.djvu_base.specs.Name.{is_name}
 use Rattle.viewer_words.specs.declared.commands.TableChoice.{TableChoice}
 use Rattle.viewer_words.specs.declared.commands.TableChoice.TheVariants.{Djvu, Flat, File}
-use Rattle.viewer_words.specs.Words.{is_file_word, table_of}
+use Rattle.viewer_words.specs.Tables.{is_file_word, table_of}
 use Rattle.viewer_words.specs.Laws.{IsTableWord}
 
 pub not_same : (a b : List ℕ) → a ≢ b → bytes_eq a b ≡ false

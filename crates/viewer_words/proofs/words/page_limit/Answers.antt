@@ -1,6 +1,6 @@
 use Rattle.std.proofs.Common.{rules}
 use Rattle.viewer_words.specs.Words.{page_limit}
-use Rattle.viewer_words.proofs.words.has_room.Goals as goal
+use Rattle.viewer_words.proofs.words.page_limit.Goals as goal
 
 pub returns : goal.returns
 unfolding page_limit

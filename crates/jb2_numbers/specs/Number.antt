@@ -1,6 +1,6 @@
 -- Numbers of JB2 by the path of their decisions (DjVu 3 reference, JB2). A decision says whether the number is at least
 -- a cutoff.
-use Rattle.std.specs.Prelude.{ℕ, zero, suc, ◌+◌, ◌-◌, ◌*◌, ◌/◌, ◌==◌, ℤ, pos, negsuc, Bool, true, false, not, min, List, [], ◌∷◌, Option, Some, None, nat_le, IsTrue, ⊤, if◌then◌else◌}
+use Rattle.std.specs.Prelude.{ℕ, zero, suc, ◌+◌, ◌-◌, ◌*◌, ◌/◌, ◌==◌, ℤ, pos, negsuc, Bool, true, false, not, List, [], ◌∷◌, Option, Some, None, nat_le, IsTrue, ⊤, if◌then◌else◌}
 use Rattle.zp_table.specs.declared.rows.Row.{Row}
 use Rattle.zp_decoder.specs.declared.decoder.Decision.{Decision}
 use Rattle.zp_decoder.specs.declared.decoder.Decision.TheVariants as decision
@@ -147,11 +147,6 @@ answer_in wanted chunk reading (Known value) = answer.Number value
 -- the number that is known, or what keeps it from being read
 abbrev pub answer_at : Wanted → Chunk → Reading → NumberStep
 answer_at wanted chunk reading = answer_in wanted chunk reading (phase_after wanted reading.decisions)
-
--- a count that so many ticks raise, up to 2 ^ 64 - 1
-abbrev pub ticked : ℕ → ℕ → ℕ
-ticked zero count = count
-ticked (suc ticks) count = min (ticked ticks count + 1) 0xffff_ffff_ffff_ffff
 
 -- what a reading from here on answers, and how many decisions of the number were coded then
 abbrev pub answer_and_coded : Wanted → Chunk → Reading → NumberStep × ℕ

@@ -7,7 +7,7 @@ ghost use Rattle.iff_chunks.specs.Events.{Begun, Header, Data, ChunkEnd, events_
 ghost use Rattle.iff_chunks.specs.FirstForm.{IsFront, IsFirstForm, IsOneInfo, first_form, page_form as one_info_form, info_chunk as one_info};
 ghost use Rattle.iff_chunks.specs.Layout.{IsLaidForm};
 ghost use Rattle.iff_chunks.specs.Order.{InOrder, AtForm};
-ghost use Rattle.iff_chunks.specs.Worked.{page_with, page_form, info_chunk, info_bytes, mask_header, form_of_length};
+ghost use Rattle.iff_chunks.specs.Worked.{page, page_form, info_chunk, info_bytes, mask_header, form_of_length};
 
 /// The chunks from a place on are what is found there, and the chunks from behind it on: the definition's count of how
 /// many there may be is never too small, and any larger count gives the same.
@@ -54,17 +54,17 @@ pub fn first_form()
 
 /// The chunks of a page of 46 bytes, of its fronts, and of files a little other than it.
 pub fn worked_chunks()
-    ensures whole { chunks_of (page_with 0x22 (mask_header 4 ++ 0xB7 ∷ 0x6D ∷ 0x86 ∷ 0x87 ∷ [])) ≡
+    ensures whole { chunks_of (page 0x22 (mask_header 4 ++ 0xB7 ∷ 0x6D ∷ 0x86 ∷ 0x87 ∷ [])) ≡
         record { form = Some (page_form 34); whole = info_chunk ∷ record { id = codes "Sjbz"; offset = 34; size = 4; bytes = 0xB7 ∷ 0x6D ∷ 0x86 ∷ 0x87 ∷ [] } ∷ []; tail = FormEnd } }
-    ensures byte_behind { (byte : ℕ) → chunks_of (page_with 0x16 (byte ∷ [])) ≡ record { form = Some (page_form 22); whole = info_chunk ∷ []; tail = FormEnd } }
+    ensures byte_behind { (byte : ℕ) → chunks_of (page 0x16 (byte ∷ [])) ≡ record { form = Some (page_form 22); whole = info_chunk ∷ []; tail = FormEnd } }
 
     // A chunk of 100 bytes where the FORM has none left.
-    ensures overrun { chunks_of (page_with 0x1E (0x42 ∷ 0x47 ∷ 0x34 ∷ 0x34 ∷ 0 ∷ 0 ∷ 0 ∷ 100 ∷ [])) ≡ record { form = Some (page_form 30); whole = info_chunk ∷ []; tail = Broken Overrun 34 } }
-    ensures header_part { chunks_of (page_with 0x1E (0x42 ∷ 0x47 ∷ 0x34 ∷ 0x34 ∷ 0 ∷ 0 ∷ 0 ∷ [])) ≡ record { form = Some (page_form 30); whole = info_chunk ∷ []; tail = InHeader 34 (0x42 ∷ 0x47 ∷ 0x34 ∷ 0x34 ∷ 0 ∷ 0 ∷ 0 ∷ []) } }
+    ensures overrun { chunks_of (page 0x1E (0x42 ∷ 0x47 ∷ 0x34 ∷ 0x34 ∷ 0 ∷ 0 ∷ 0 ∷ 100 ∷ [])) ≡ record { form = Some (page_form 30); whole = info_chunk ∷ []; tail = Broken Overrun 34 } }
+    ensures header_part { chunks_of (page 0x1E (0x42 ∷ 0x47 ∷ 0x34 ∷ 0x34 ∷ 0 ∷ 0 ∷ 0 ∷ [])) ≡ record { form = Some (page_form 30); whole = info_chunk ∷ []; tail = InHeader 34 (0x42 ∷ 0x47 ∷ 0x34 ∷ 0x34 ∷ 0 ∷ 0 ∷ 0 ∷ []) } }
 
     // A byte of the identifier is 0, and the data would go past the FORM's end as well.
-    ensures bad_id { chunks_of (page_with 0x1E (0x42 ∷ 0x00 ∷ 0x34 ∷ 0x34 ∷ 0 ∷ 0 ∷ 0 ∷ 100 ∷ [])) ≡ record { form = Some (page_form 30); whole = info_chunk ∷ []; tail = Broken BadId 34 } }
-    ensures three_left { chunks_of (page_with 0x19 []) ≡ record { form = Some (page_form 25); whole = info_chunk ∷ []; tail = Broken ShortHeader 34 } }
+    ensures bad_id { chunks_of (page 0x1E (0x42 ∷ 0x00 ∷ 0x34 ∷ 0x34 ∷ 0 ∷ 0 ∷ 0 ∷ 100 ∷ [])) ≡ record { form = Some (page_form 30); whole = info_chunk ∷ []; tail = Broken BadId 34 } }
+    ensures three_left { chunks_of (page 0x19 []) ≡ record { form = Some (page_form 25); whole = info_chunk ∷ []; tail = Broken ShortHeader 34 } }
     ensures no_form { chunks_of (codes "AT&TFORN") ≡ record { form = None; whole = []; tail = Broken NotForm 0 } }
     ensures half_magic { chunks_of (codes "AT&FORM") ≡ record { form = None; whole = []; tail = Broken NotForm 0 } }
     ensures length_3 { chunks_of (form_of_length (0 ∷ 0 ∷ 0 ∷ 3 ∷ [])) ≡ record { form = None; whole = []; tail = Broken NotForm 0 } }
@@ -82,28 +82,28 @@ pub fn worked_lengths()
 /// Where files end: in each part of the grammar, and before and behind a pad byte.
 pub fn worked_ends()
     ensures empty { (chunks_in_all []).tail ≡ Broken Truncated 0 }
-    ensures no_chunk { (chunks_in_all (take 16 (page_with 0x22 []))).tail ≡ Broken Truncated 0 }
-    ensures first_byte { (chunks_in_all (take 17 (page_with 0x22 []))).tail ≡ Broken Truncated 16 }
-    ensures between { (chunks_in_all (page_with 0x22 [])).tail ≡ Broken Truncated 34 }
-    ensures in_header { (chunks_in_all (page_with 0x22 (take 3 (mask_header 4)))).tail ≡ Broken Truncated 34 }
-    ensures data_open { (chunks_of (page_with 0x22 (mask_header 4 ++ 0xB7 ∷ 0x6D ∷ []))).tail ≡ InData (record { id = codes "Sjbz"; offset = 34; size = 4; bytes = 0xB7 ∷ 0x6D ∷ [] }) }
-    ensures in_data { (chunks_in_all (page_with 0x22 (mask_header 4 ++ 0xB7 ∷ 0x6D ∷ []))).tail ≡ Broken Truncated 34 }
-    ensures before_pad { (chunks_in_all (page_with 0x28 (mask_header 1 ++ 0x0F ∷ []))).tail ≡ Broken Truncated 34 }
-    ensures behind_pad { (chunks_in_all (page_with 0x28 (mask_header 1 ++ 0x0F ∷ 0x00 ∷ []))).tail ≡ Broken Truncated 44 }
+    ensures no_chunk { (chunks_in_all (take 16 (page 0x22 []))).tail ≡ Broken Truncated 0 }
+    ensures first_byte { (chunks_in_all (take 17 (page 0x22 []))).tail ≡ Broken Truncated 16 }
+    ensures between { (chunks_in_all (page 0x22 [])).tail ≡ Broken Truncated 34 }
+    ensures in_header { (chunks_in_all (page 0x22 (take 3 (mask_header 4)))).tail ≡ Broken Truncated 34 }
+    ensures data_open { (chunks_of (page 0x22 (mask_header 4 ++ 0xB7 ∷ 0x6D ∷ []))).tail ≡ InData (record { id = codes "Sjbz"; offset = 34; size = 4; bytes = 0xB7 ∷ 0x6D ∷ [] }) }
+    ensures in_data { (chunks_in_all (page 0x22 (mask_header 4 ++ 0xB7 ∷ 0x6D ∷ []))).tail ≡ Broken Truncated 34 }
+    ensures before_pad { (chunks_in_all (page 0x28 (mask_header 1 ++ 0x0F ∷ []))).tail ≡ Broken Truncated 34 }
+    ensures behind_pad { (chunks_in_all (page 0x28 (mask_header 1 ++ 0x0F ∷ 0x00 ∷ []))).tail ≡ Broken Truncated 44 }
 
     // The last pad byte may be missing, by the end of the file or by that of the FORM.
-    ensures pad_open { (chunks_of (page_with 0x20 (mask_header 1 ++ 0x0F ∷ []))).tail ≡ InPad 34 true }
-    ensures no_pad_in_file { (chunks_in_all (page_with 0x20 (mask_header 1 ++ 0x0F ∷ []))).tail ≡ FormEnd }
-    ensures no_pad_in_form { (chunks_of (page_with 0x1F (mask_header 1 ++ 0x0F ∷ []))).tail ≡ FormEnd }
-    ensures broken { (chunks_in_all (page_with 0x19 [])).tail ≡ Broken ShortHeader 34 }
+    ensures pad_open { (chunks_of (page 0x20 (mask_header 1 ++ 0x0F ∷ []))).tail ≡ InPad 34 true }
+    ensures no_pad_in_file { (chunks_in_all (page 0x20 (mask_header 1 ++ 0x0F ∷ []))).tail ≡ FormEnd }
+    ensures no_pad_in_form { (chunks_of (page 0x1F (mask_header 1 ++ 0x0F ∷ []))).tail ≡ FormEnd }
+    ensures broken { (chunks_in_all (page 0x19 [])).tail ≡ Broken ShortHeader 34 }
 {}
 
 /// What is told of a page of 46 bytes, and where its last chunk has arrived in part.
 pub fn worked_events()
-    ensures whole { events_of (chunks_of (page_with 0x22 (mask_header 4 ++ 0xB7 ∷ 0x6D ∷ 0x86 ∷ 0x87 ∷ []))) ≡
+    ensures whole { events_of (chunks_of (page 0x22 (mask_header 4 ++ 0xB7 ∷ 0x6D ∷ 0x86 ∷ 0x87 ∷ []))) ≡
         Begun (codes "DJVU") 34 ∷ Header (codes "INFO") 16 10 ∷ Data info_bytes ∷ ChunkEnd ∷ Header (codes "Sjbz") 34 4 ∷ Data (0xB7 ∷ 0x6D ∷ 0x86 ∷ 0x87 ∷ []) ∷ ChunkEnd ∷ [] }
-    ensures part { events_of (chunks_of (page_with 0x22 (mask_header 4 ++ 0xB7 ∷ []))) ≡
+    ensures part { events_of (chunks_of (page 0x22 (mask_header 4 ++ 0xB7 ∷ []))) ≡
         Begun (codes "DJVU") 34 ∷ Header (codes "INFO") 16 10 ∷ Data info_bytes ∷ ChunkEnd ∷ Header (codes "Sjbz") 34 4 ∷ Data (0xB7 ∷ []) ∷ [] }
-    ensures no_data { events_of (chunks_of (page_with 0x1E (mask_header 0))) ≡
+    ensures no_data { events_of (chunks_of (page 0x1E (mask_header 0))) ≡
         Begun (codes "DJVU") 30 ∷ Header (codes "INFO") 16 10 ∷ Data info_bytes ∷ ChunkEnd ∷ Header (codes "Sjbz") 34 0 ∷ ChunkEnd ∷ [] }
 {}

@@ -1,5 +1,5 @@
 -- How ticks raise a count.
-use Rattle.std.proofs.Common.{◌≡◌, ℕ, ◌+◌, ◌^◌, ◌-◌, ◌≤◌, min, ◌∙◌, ap, sym, arith}
+use Rattle.std.proofs.Common.{◌≡◌, ℕ, suc, ◌+◌, ◌^◌, ◌-◌, ◌≤◌, min, ◌∙◌, ap, sym, arith}
 use Rattle.std.proofs.lemmas.Grind.{common_steps}
 use Rattle.djvu_base.specs.Meter.{ticked_once, ticked, TicksExactly, TicksAtMost}
 
@@ -13,6 +13,10 @@ ticked_one count = grind (arith, common_steps)
 pub ticked_both : (more ticks count : ℕ) → ticked more (ticked ticks count) ≡ ticked (more + ticks) count
 ticked_both more ticks count = grind (arith, common_steps)
 
+-- one tick more
+pub ticked_next : (ticks count : ℕ) → ticked_once (ticked ticks count) ≡ ticked (suc ticks) count
+ticked_next ticks count = grind (arith, common_steps)
+
 pub ticked_grows : (ticks count : ℕ) → count ≤ ticked ticks count
 ticked_grows ticks count = grind (arith, common_steps)
 
@@ -23,6 +27,14 @@ pub ticks_both : (first last before mid after : ℕ) → TicksExactly first befo
 ticks_both first last before mid after is_mid is_after =
     let turned : last + first ≡ first + last = omega arith in
     is_after ∙ ap (ticked last) is_mid ∙ ticked_both last first before ∙ ap (λ n. ticked n before) turned
+
+-- one tick after others
+pub ticks_next : (ticks before mid after : ℕ) → TicksExactly ticks before mid → after ≡ ticked_once mid → TicksExactly (suc ticks) before after
+ticks_next ticks before mid after is_mid is_after = is_after ∙ ap ticked_once is_mid ∙ ticked_next ticks before
+
+-- where ticks raised a count from 0, a sum that stands still at its type's end is one tick more
+pub saturated_once : (ticks count sum : ℕ) → TicksExactly ticks 0 count → sum ≡ min (count + 1) 0xffff_ffff_ffff_ffff → sum ≡ ticked_once count
+saturated_once ticks count sum is more = grind (arith, common_steps, is, more)
 
 -- no tick
 pub ticks_none : (count : ℕ) → TicksExactly 0 count count

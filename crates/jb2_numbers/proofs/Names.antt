@@ -1,12 +1,11 @@
 -- When two names are the same.
-use Rattle.std.proofs.Common.{◌≡◌, ◌==◌, ◌&&◌, ◌+◌, ◌≤◌, ℕ, zero, suc, Bool, true, false, List, [], ◌∷◌, refl, sym, ap, ap₂, subst, ◌∙◌, min, arith}
+use Rattle.std.proofs.Common.{◌≡◌, ◌==◌, ◌&&◌, ◌+◌, ◌≤◌, ℕ, zero, suc, Bool, true, false, List, [], ◌∷◌, refl, sym, ap, ap₂, subst, ◌∙◌, arith}
 use Rattle.std.specs.Prelude.{◌↔◌, IsTrue}
 use Rattle.std.proofs.lemmas.Grind.{common_steps}
 use Rattle.jb2_numbers.specs.declared.roots.Root.{Root}
 use Rattle.jb2_numbers.specs.declared.roots.Root.TheVariants.{RecordType, InheritedCount, ImageSize, Match, ShapeWidth, ShapeHeight, WidthDifference, HeightDifference, AbsoluteLeft, AbsoluteTop, NewRowX, NewRowY, SameRowX, SameRowY, CommentLength, CommentByte}
 use Rattle.jb2_numbers.specs.Roots.{root_index, is_same_root}
 use Rattle.jb2_numbers.specs.Contexts.{Name, is_same, is_same_bit, are_same}
-use Rattle.jb2_numbers.specs.Number.{ticked}
 
 -- the roots in order
 abbrev root_from : List Root → ℕ → Root
@@ -104,7 +103,3 @@ same_names a b = (
 
 pub same_parts : (a b : Name) → (a ≡ b) ↔ ((a.root ≡ b.root) × (a.decisions ≡ b.decisions))
 same_parts a b = ((λ e. (ap (λ (n : Name). n.root) e, ap (λ (n : Name). n.decisions) e)), name_from_parts a b)
-
-pub ticks_added : (ticks count : ℕ) → count ≤ 0xffff_ffff_ffff_ffff → ticked ticks count ≡ min (count + ticks) 0xffff_ffff_ffff_ffff
-ticks_added zero count low = omega arith
-ticks_added (suc ticks) count low = let before = ticks_added ticks count low in omega (arith, before)

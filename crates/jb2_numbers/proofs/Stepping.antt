@@ -1,6 +1,8 @@
 -- A step of the reader is a step of the definition.
 use Rattle.std.proofs.Common.{◌≡◌, ◌≢◌, ◌≤◌, ◌+◌, ◌-◌, ℕ, zero, suc, ℤ, Bool, false, List, ◌∷◌, refl, sym, ap, subst, ◌∙◌, inl, inr, arith}
-use Rattle.std.specs.Prelude.{◌⊎◌, Some, None, min}
+use Rattle.std.specs.Prelude.{◌⊎◌, Some, None}
+use Rattle.djvu_base.specs.Meter.{ticked_once}
+use Rattle.djvu_base.proofs.Ticks.{ticks_next}
 use Rattle.zp_decoder.specs.declared.decoder.Decision.{Decision}
 use Rattle.zp_decoder.specs.declared.decoder.Decision.TheVariants as decision
 use Rattle.zp_decoder.specs.Decision.{Adaptive, Outcome, outcome_of}
@@ -95,7 +97,7 @@ module _ (wanted : Wanted) (chunk : Chunk) (before : ℕ) (reading : Reading) (o
 
   -- a coded one
   pub stands_coded : (bit : Bool) → Takes old new bit → is_known old.phase ≡ false → implied old.phase ≡ None → Decides key_now contexts zp bit contexts' zp' →
-      zp'.table ≡ zp.table → zp'.ended ≡ zp.ended → count' ≡ min (count + 1) 0xffff_ffff_ffff_ffff → Stands wanted chunk before (step wanted chunk reading) new contexts' zp' count'
+      zp'.table ≡ zp.table → zp'.ended ≡ zp.ended → count' ≡ ticked_once count → Stands wanted chunk before (step wanted chunk reading) new contexts' zp' count'
   stands_coded bit takes unknown coded decides table ended ticks =
       let o : Outcome = next_coded wanted chunk reading in
       let answered : o.answer ≡ decision.Bit bit = ap (λ (x : Outcome). x.answer) (sym outcome_is) ∙ decides.answers chunk.payload reading.place stands.fed in
@@ -108,7 +110,7 @@ module _ (wanted : Wanted) (chunk : Chunk) (before : ℕ) (reading : Reading) (o
         fed = subst (λ (x : Outcome). Fed chunk.payload x.place zp') outcome_is (decides.feeds chunk.payload reading.place stands.fed);
         table = table ∙ stands.table;
         ended = ended ∙ stands.ended;
-        ticks = ticks ∙ ap (λ (c : ℕ). min (c + 1) 0xffff_ffff_ffff_ffff) stands.ticks;
+        ticks = ticks_next reading.coded before count count' stands.ticks ticks;
       })
 
   -- where no bit is decoded, all stand as before

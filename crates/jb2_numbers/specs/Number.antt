@@ -148,11 +148,6 @@ answer_in wanted chunk reading (Known value) = answer.Number value
 abbrev pub answer_at : Wanted → Chunk → Reading → NumberStep
 answer_at wanted chunk reading = answer_in wanted chunk reading (phase_after wanted reading.decisions)
 
--- a count that so many ticks raise, up to 2 ^ 64 - 1
-abbrev pub ticked : ℕ → ℕ → ℕ
-ticked zero count = count
-ticked (suc ticks) count = min (ticked ticks count + 1) 0xffff_ffff_ffff_ffff
-
 -- what a reading from here on answers, and how many decisions of the number were coded then
 abbrev pub answer_and_coded : Wanted → Chunk → Reading → NumberStep × ℕ
 answer_and_coded wanted chunk reading = (answer_at wanted chunk (read_on wanted chunk reading), (read_on wanted chunk reading).coded)

@@ -1,5 +1,6 @@
 -- How a reader of numbers, the contexts, a decoder and a meter stand to the definition.
-use Rattle.std.specs.Prelude.{◌≡◌, ℕ, ◌≤ℤ◌, ℤ, pos, negsuc, Bool, List, [], Option, refl}
+use Rattle.std.specs.Prelude.{◌≡◌, ℕ, ◌≤ℤ◌, ℤ, pos, negsuc, Bool, List, [], Option}
+use Rattle.djvu_base.specs.Meter.{TicksExactly}
 use Rattle.zp_decoder.specs.Decision.{Interval}
 use Rattle.zp_decoder.specs.Decoder.{Decoder, Fed}
 use Rattle.jb2_numbers.specs.declared.reader.NumberStep.{NumberStep}
@@ -7,7 +8,7 @@ use Rattle.jb2_numbers.specs.declared.roots.Root.{Root}
 use Rattle.jb2_numbers.specs.declared.contexts.Path.{Path}
 use Rattle.jb2_numbers.specs.declared.phases.Phase.{Phase}
 use Rattle.jb2_numbers.specs.Contexts.{Numbers, states_of, path_of}
-use Rattle.jb2_numbers.specs.Number.{Wanted, Chunk, Reading, phase_after, begun, chunk, step, answer_at, ticked}
+use Rattle.jb2_numbers.specs.Number.{Wanted, Chunk, Reading, phase_after, begun, chunk, step, answer_at}
 
 -- low and high are bounds of a number
 pub record AreBounds (low high : ℤ) : Type 0 where
@@ -32,14 +33,9 @@ pub record Stands (wanted : Wanted) (chunk : Chunk) (before : ℕ) (reading : Re
   pub fed : Fed chunk.payload reading.place zp
   pub table : zp.table ≡ chunk.table
   pub ended : zp.ended ≡ chunk.ended
-  pub ticks : count ≡ ticked reading.coded before
+  pub ticks : TicksExactly reading.coded before count
 
 -- where a reading ends: no decision follows, and this is the answer
 pub record Ends (wanted : Wanted) (chunk : Chunk) (reading : Reading) (end : NumberStep) : Type 0 where
   pub last : step wanted chunk reading ≡ reading
   pub answer : answer_at wanted chunk reading ≡ end
-
--- a number that was begun stands at the definition's start, whatever the decoder and the contexts were used for before
-pub stands_begun : (wanted : Wanted) (payload : List ℕ) (place : Option Interval) (reader : Reader) (contexts : Numbers) (zp : Decoder) (count : ℕ) → Reads wanted [] reader → Fed payload place zp →
-    Stands wanted (chunk zp.table payload zp.ended) count (begun (states_of contexts) place) reader contexts zp count
-stands_begun wanted payload place reader contexts zp count reads fed = record { reads = reads; states = refl; fed = fed; table = refl; ended = refl; ticks = refl }

@@ -1,5 +1,6 @@
 //! The contexts of numbers: their states, by names.
-ghost use Rattle.std.specs.Prelude.{◌≡◌, ◌+◌, ◌*◌, ◌^◌, ◌<◌, List, [], Bool, ℕ, length, min, IfOk, IfErr, OnOk, OnErr, not, IsTrue};
+ghost use Rattle.std.specs.Prelude.{◌≡◌, ◌+◌, ◌*◌, ◌^◌, ◌<◌, List, [], Bool, ℕ, length, IfOk, IfErr, OnOk, OnErr, not, IsTrue};
+ghost use Rattle.djvu_base.specs.Meter.{ticked_once};
 ghost use Rattle.jb2_numbers.specs.declared.roots.Root.{Root as RootValue};
 ghost use Rattle.jb2_numbers.specs.Contexts.{Numbers, name, at_start, store, with_decision, path_of, key_of, has_room, state_at, states_of, AreBelow};
 ghost use Rattle.jb2_numbers.specs.Steps.{Decides, Stops};
@@ -97,7 +98,7 @@ impl NumberContexts {
         ensures bit { IfOk result (λ bit. Decides key self.old zp.old bit self.new zp.new) }
         ensures stop { IfErr result (λ stop. Stops key self.old zp.old stop self.new) }
         ensures still { OnErr result ((zp.new ≡ zp.old) × (meter.new ≡ meter.old)) }
-        ensures ticks { OnOk result (M.count meter.new ≡ min (M.count meter.old + 1) 0xffff_ffff_ffff_ffff) }
+        ensures ticks { OnOk result (M.count meter.new ≡ ticked_once (M.count meter.old)) }
         ensures below { AreBelow (length zp.new.table) self.new }
         ensures table { zp.new.table ≡ zp.old.table }
         ensures ended { zp.new.ended ≡ zp.old.ended }

@@ -10,7 +10,7 @@ ghost use Rattle.jb2_numbers.specs.declared.roots.Root.{Root};
 ghost use Rattle.jb2_numbers.specs.declared.reader.NumberStep.TheVariants as answer;
 ghost use Rattle.jb2_numbers.specs.declared.phases.Phase.TheVariants.{Known};
 ghost use Rattle.jb2_numbers.specs.Contexts.{Name, Numbers, AreBelow, is_same, at_start, states_of};
-ghost use Rattle.jb2_numbers.specs.Number.{Wanted, wanted, Chunk, chunk, Reading, begun, steps, read_on, answer_at, answer_and_coded, ticked, phase_after, step, ArePossible};
+ghost use Rattle.jb2_numbers.specs.Number.{Wanted, wanted, Chunk, chunk, Reading, begun, steps, read_on, answer_at, answer_and_coded, phase_after, step, ArePossible};
 ghost use Rattle.jb2_numbers.specs.Reader.{AreBounds};
 
 /// With the table `flat`, in which each coded decision is a bit of the input inverted: the answer, and how many decisions
@@ -47,11 +47,6 @@ pub fn names_differ()
 /// Where all states are below a count, each name's is.
 pub fn states_are_below()
     ensures { (count : ℕ) (contexts : Numbers) (at : Name) → AreBelow count contexts → states_of contexts at < count }
-{}
-
-/// So many ticks raise a count by so many, up to 2 ^ 64 - 1.
-pub fn ticks_add_up()
-    ensures { (ticks count : ℕ) → count ≤ 0xffff_ffff_ffff_ffff → ticked ticks count ≡ min (count + ticks) 0xffff_ffff_ffff_ffff }
 {}
 
 /// A number that is answered lies from its low bound to its high one: whatever was decoded, so long as each decision is

@@ -1,6 +1,8 @@
 -- A loop over pixels does what the definition does.
-use Rattle.std.proofs.Common.{◌≡◌, ℕ, zero, suc, ◌+◌, ◌-◌, ◌<◌, ◌≤◌, min, Bool, true, false, List, length, Option, ℤ, pos, refl, ap, sym, subst, ◌∙◌, arith, inl, inr, eqb, eq-eqb}
+use Rattle.std.proofs.Common.{◌≡◌, ℕ, zero, suc, ◌+◌, ◌-◌, ◌<◌, ◌≤◌, Bool, true, false, List, length, Option, ℤ, pos, refl, ap, sym, subst, ◌∙◌, arith, inl, inr, eqb, eq-eqb}
 use Rattle.std.proofs.lemmas.Bool.{cases_lt}
+use Rattle.djvu_base.specs.Meter.{ticked, ticked_once}
+use Rattle.djvu_base.proofs.Ticks.{ticked_none, ticks_next}
 use Rattle.zp_table.specs.declared.rows.Row.{Row}
 use Rattle.zp_decoder.specs.declared.decoder.Decision.{Decision}
 use Rattle.zp_decoder.specs.declared.decoder.Decision.TheVariants as decision
@@ -12,7 +14,7 @@ use Rattle.jb2_shapes.specs.declared.steps.ShapeStep.TheVariants as step
 use Rattle.jb2_shapes.specs.Contexts.{States, AreBelow, with_state}
 use Rattle.jb2_shapes.specs.Numbers.{number_of}
 use Rattle.jb2_shapes.specs.Shape.{Sketch, Progress, Reading, IsUnread, IsWhole, column_of, row_of, left_of, progress, stands, with_pixel, after_decision, read_pixels, reading_of}
-use Rattle.jb2_shapes.specs.Steps.{IsReading, GoesOn, Counts, Keeps, ticked}
+use Rattle.jb2_shapes.specs.Steps.{IsReading, GoesOn, Counts, Keeps}
 
 abbrev pub Context : Type 0
 Context = Pixels → ℤ → ℤ → List Bool
@@ -70,11 +72,6 @@ at_end context rows payload ended at whole =
 
 -- ---- what a loop keeps
 
--- ticks one after the other
-ticked_once_more : (count ticks new : ℕ) → new ≡ min (ticked count ticks + 1) 0xffff_ffff_ffff_ffff → new ≡ ticked count (suc ticks)
-ticked_once_more count zero new e = omega arith
-ticked_once_more count (suc ticks) new e = omega arith
-
 pub keeps_first : (context : Context) (zp : Decoder) (sketch : Sketch) (states : States) (count : ℕ) → AreBelow (length zp.table) states →
     Keeps context zp sketch states count zp sketch states count
 keeps_first context zp sketch states count below =
@@ -85,7 +82,7 @@ keeps_first context zp sketch states count below =
       ended = refl;
       below = below;
       room = omega arith;
-      counts = record { width = refl; height = refl; grows = omega arith; ticks = ap (ticked count) (sym none) };
+      counts = record { width = refl; height = refl; grows = omega arith; ticks = sym (ticked_none count) ∙ ap (λ n. ticked n count) (sym none) };
     }
 
 one_more : (sketch : Sketch) (bit : Bool) → (with_pixel sketch bit).number ≡ sketch.number + 1
@@ -101,7 +98,7 @@ same_height sketch true = refl
 same_height sketch false = refl
 
 counts_on : (count : ℕ) (old now new : Sketch) (now_count new_count : ℕ) (bit : Bool) → Counts count old now_count now →
-    new ≡ with_pixel now bit → new_count ≡ min (now_count + 1) 0xffff_ffff_ffff_ffff → Counts count old new_count new
+    new ≡ with_pixel now bit → new_count ≡ ticked_once now_count → Counts count old new_count new
 counts_on count old now new now_count new_count bit counts is ticks =
     let more : new.number ≡ now.number + 1 = ap (λ (s : Sketch). s.number) is ∙ one_more now bit in
     let grows = counts.grows in
@@ -111,8 +108,7 @@ counts_on count old now new now_count new_count bit counts is ticks =
       height = ap (λ (s : Sketch). s.shape.height) is ∙ same_height now bit ∙ counts.height;
       grows = omega arith;
       ticks =
-          ticked_once_more count (now.number - old.number) new_count (ticks ∙ ap (λ n. min (n + 1) 0xffff_ffff_ffff_ffff) counts.ticks)
-          ∙ ap (ticked count) difference;
+          ticks_next (now.number - old.number) count now_count new_count counts.ticks ticks ∙ ap (λ n. ticked n count) difference;
     }
 
 -- from a decision that gave a bit, a reading goes on
@@ -281,7 +277,7 @@ counts_same count old now new now_count new_count counts p q =
       width = ap (λ (s : Sketch). s.shape.width) p ∙ counts.width;
       height = ap (λ (s : Sketch). s.shape.height) p ∙ counts.height;
       grows = omega arith;
-      ticks = q ∙ counts.ticks ∙ ap (λ n. ticked count (n - old.number)) (sym number);
+      ticks = q ∙ counts.ticks ∙ ap (λ n. ticked (n - old.number) count) (sym number);
     }
 
 false-is-true : false ≡ true → ⊥

@@ -1,5 +1,6 @@
 -- How a reader that went on stands to the definition.
-use Rattle.std.specs.Prelude.{◌≡◌, ℕ, zero, suc, ◌+◌, ◌-◌, ◌≤◌, min, Bool, List, length, Option, ℤ}
+use Rattle.std.specs.Prelude.{◌≡◌, ℕ, ◌-◌, ◌≤◌, Bool, List, length, Option, ℤ}
+use Rattle.djvu_base.specs.Meter.{TicksExactly}
 use Rattle.zp_table.specs.declared.rows.Row.{Row}
 use Rattle.zp_decoder.specs.Decision.{Interval}
 use Rattle.zp_decoder.specs.Decoder.{Decoder, Fed, room_left}
@@ -25,17 +26,12 @@ pub record GoesOn (context : Pixels → ℤ → ℤ → List Bool) (rows : List 
   pub fed : Fed payload place zp
   pub same : reading_of context rows payload ended start ≡ reading_of context rows payload ended (progress sketch states place)
 
--- a count after so many ticks, up to 2 ^ 64 - 1
-abbrev pub ticked : ℕ → ℕ → ℕ
-ticked count zero = count
-ticked count (suc ticks) = min (count + suc ticks) 0xffff_ffff_ffff_ffff
-
 -- the size is the same, and the meter counted each pixel that was read
 pub record Counts (count : ℕ) (sketch : Sketch) (new_count : ℕ) (new_sketch : Sketch) : Type 0 where
   pub width : new_sketch.shape.width ≡ sketch.shape.width
   pub height : new_sketch.shape.height ≡ sketch.shape.height
   pub grows : sketch.number ≤ new_sketch.number
-  pub ticks : new_count ≡ ticked count (new_sketch.number - sketch.number)
+  pub ticks : TicksExactly (new_sketch.number - sketch.number) count new_count
 
 -- what a loop over pixels keeps
 pub record Keeps (context : Pixels → ℤ → ℤ → List Bool) (old : Decoder) (old_sketch : Sketch) (old_states : States) (old_count : ℕ)

@@ -1,11 +1,12 @@
 //! Direct shapes.
 ghost use Rattle.std.specs.Prelude.{◌≡◌, ℕ, ◌-◌, ◌*◌, ◌≤◌, length, List, Option, IfOk};
 ghost use Rattle.bit_plane.specs.Pixels.{area_limit};
+ghost use Rattle.djvu_base.specs.Meter.{TicksExactly};
 ghost use Rattle.zp_decoder.specs.Decision.{Interval};
 ghost use Rattle.zp_decoder.specs.Decoder.{Fed, room_left};
 ghost use Rattle.jb2_shapes.specs.Contexts.{AreBelow};
 ghost use Rattle.jb2_shapes.specs.Numbers.{states_of};
-ghost use Rattle.jb2_shapes.specs.Steps.{Reads, Counts, ticked};
+ghost use Rattle.jb2_shapes.specs.Steps.{Reads, Counts};
 ghost use Rattle.jb2_shapes.specs.Shape.{direct_reading, direct_context, progress, empty_sketch, IsWhole};
 
 use crate::canvas::Canvas;
@@ -77,7 +78,7 @@ impl DirectReader {
 
         // Each pixel that was read ticked once.
         ensures grows { self.old.number ≤ self.new.number }
-        ensures ticks { M.count meter.new ≡ ticked (M.count meter.old) (self.new.number - self.old.number) }
+        ensures ticks { TicksExactly (self.new.number - self.old.number) (M.count meter.old) (M.count meter.new) }
     {
         read_pixels(&mut self.canvas, contexts, zp, meter)
     }

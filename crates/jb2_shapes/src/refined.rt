@@ -2,12 +2,13 @@
 ghost use Rattle.std.specs.Prelude.{◌≡◌, ℕ, ◌-◌, ◌*◌, ◌≤◌, length, List, Option, IfOk};
 ghost use Rattle.std.specs.Arc.{arc_value};
 ghost use Rattle.bit_plane.specs.Pixels.{area_limit};
+ghost use Rattle.djvu_base.specs.Meter.{TicksExactly};
 ghost use Rattle.zp_decoder.specs.Decision.{Interval};
 ghost use Rattle.zp_decoder.specs.Decoder.{Fed, room_left};
 ghost use Rattle.jb2_shapes.specs.Contexts.{AreBelow};
 ghost use Rattle.jb2_shapes.specs.Numbers.{states_of};
 ghost use Rattle.jb2_shapes.specs.Refined.{matching_context, refined_reading};
-ghost use Rattle.jb2_shapes.specs.Steps.{Reads, Counts, ticked};
+ghost use Rattle.jb2_shapes.specs.Steps.{Reads, Counts};
 ghost use Rattle.jb2_shapes.specs.Shape.{progress, empty_sketch, IsWhole};
 
 use crate::canvas::Canvas;
@@ -94,7 +95,7 @@ impl RefineReader {
 
         // Each pixel that was read ticked once.
         ensures grows { self.old.sketch.number ≤ self.new.sketch.number }
-        ensures ticks { M.count meter.new ≡ ticked (M.count meter.old) (self.new.sketch.number - self.old.sketch.number) }
+        ensures ticks { TicksExactly (self.new.sketch.number - self.old.sketch.number) (M.count meter.old) (M.count meter.new) }
     {
         read_pixels(&mut self.canvas, &self.matching, contexts, zp, meter)
     }

@@ -6,8 +6,9 @@ mod Going
 mod Growing
 mod Heading
 mod Laying
+mod LaidChunks
+mod Bounds
 mod Moving
-mod OneInfo
 mod Ordering
 mod Passing
 mod Telling

@@ -6,8 +6,8 @@ pub mod Ends
 pub mod Events
 pub mod Told
 pub mod Walk
-pub mod FirstForm
 pub mod Layout
+pub mod Growth
 pub mod Order
 pub mod Refused
 pub mod Worked

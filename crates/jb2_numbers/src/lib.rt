@@ -18,8 +18,7 @@ mod tests;
 pub use contexts::NumberContexts;
 pub use laws::{
     cuts_change_nothing, names_differ, numbers_end, numbers_lie_within, one_value_codes_nothing,
-    readings_leave_room, readings_stay_within, states_are_below, types_are_coded,
-    worked_numbers,
+    readings_leave_room, readings_stay_within, states_are_below, types_are_coded, worked_numbers,
 };
 pub use reader::{NumberReader, NumberStep};
 pub use roots::Root;

@@ -1,5 +1,6 @@
 -- What is drawn by the records that were read, and how a scene stands to it.
 use Rattle.std.specs.Prelude.{◌≡◌, ◌≢◌, ℕ, ◌+◌, ◌*◌, ◌≤◌, ℤ, Bool, true, false, not, ◌&&◌, ◌||◌, List, [], ◌∷◌, ◌++◌, length, All, Option, Some, None, Result, Ok, Err, nat_lt, if◌then◌else◌}
+use Rattle.djvu_base.specs.Meter.{TicksExactly}
 use Rattle.zp_table.specs.Rows.{IsTable}
 use Rattle.bit_plane.specs.Pixels.{Pixels}
 use Rattle.djvu_base.specs.declared.faults.FaultKind.{FaultKind}
@@ -19,7 +20,7 @@ use Rattle.jb2_records.specs.Records.{Record, Relative, NewRow, SameRow, Extent,
 use Rattle.jb2_records.specs.Coding.{Coder, Read, Got, chunk_start, then_read}
 use Rattle.jb2_records.specs.Reading.{Input, Mask, is_number, is_side, shape_limit, placed_limit, placed_pixel_limit, read_match, matched_in, read_refinement, records_of}
 use Rattle.jb2_records.specs.Mask.{mask_of, mask_drawn}
-use Rattle.jb2_records.specs.Reader.{IsMaskSize, counted}
+use Rattle.jb2_records.specs.Reader.{IsMaskSize}
 use Rattle.jb2_records.specs.Sides.{IsShape}
 use Rattle.jb2_records.specs.Telling.{Parts, Stands, Halts}
 
@@ -235,8 +236,8 @@ pub record MakesMark (with_shape : Drawn → Pixels → Drawn) (shape : Pixels) 
 pub record DrawsAll (task : Task) (answer : Jb2Step) (units : ℕ) (parts : Parts) (scene : Scene) : Type 0 where
   pub same : answer ≡ (records_of (input_for task)).answer
   pub some : answer ≢ step.OutOfMemory
-  pub entries : units ≡ counted (length (records_of (input_for task)).records)
-  pub decisions : parts.count ≡ counted (records_of (input_for task)).decisions
+  pub entries : TicksExactly (length (records_of (input_for task)).records) 0 units
+  pub decisions : TicksExactly (records_of (input_for task)).decisions 0 parts.count
   pub picture : scene.mask ≡ mask_drawn task.width task.height (input_for task)
 
 -- no record was read

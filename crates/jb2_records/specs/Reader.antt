@@ -1,7 +1,8 @@
 -- How a reader of a mask stands to the bytes that it was fed.
-use Rattle.std.specs.Prelude.{◌≡◌, ℕ, ◌*◌, ◌≤◌, min, Bool, List, [], length, Option, Some, None}
+use Rattle.std.specs.Prelude.{◌≡◌, ℕ, ◌*◌, ◌≤◌, Bool, List, [], length, Option, Some, None}
 use Rattle.std.specs.Arc.{arc_value}
 use Rattle.std.specs.declared.sync.Arc.{Arc}
+use Rattle.djvu_base.specs.Meter.{ticked, TicksExactly}
 use Rattle.zp_table.specs.declared.rows.Row.{Row}
 use Rattle.bit_plane.specs.Pixels.{Pixels}
 use Rattle.jb2_numbers.specs.Number.{chunk}
@@ -36,25 +37,21 @@ input_of reader payload = record {
   purpose = Mask reader.width reader.height;
 }
 
--- a count of 64 bits stands still at its end
-abbrev pub counted : ℕ → ℕ
-counted count = min count 0xffff_ffff_ffff_ffff
-
 -- an answer that stands is the definition's, with its records, decisions and mask
 abbrev pub Settles : Input → ℕ → ℕ → Option Jb2Step → ℕ → ℕ → Pixels → Type 0
 Settles input width height None units decisions mask = Unit {0}
 Settles input width height (Some step) units decisions mask =
     (step ≡ (records_of input).answer)
-    × (units ≡ counted (length (records_of input).records))
-    × (decisions ≡ counted (records_of input).decisions)
+    × TicksExactly (length (records_of input).records) 0 units
+    × TicksExactly (records_of input).decisions 0 decisions
     × (step ≡ answer.Finished → mask ≡ mask_drawn width height input)
 
 -- the reader was fed this payload
 unfoldable pub Fed : List ℕ → Masking → Type 0
 Fed payload reader =
     (reader.kept.bytes ≡ payload)
-    × (reader.units ≤ counted (length (records_of (input_of reader payload)).records))
-    × (reader.decisions ≤ counted (records_of (input_of reader payload)).decisions)
+    × (reader.units ≤ ticked (length (records_of (input_of reader payload)).records) 0)
+    × (reader.decisions ≤ ticked (records_of (input_of reader payload)).decisions 0)
     × Settles (input_of reader payload) reader.width reader.height reader.answered reader.units reader.decisions reader.kept.mask
 
 -- an answer that is given from then on

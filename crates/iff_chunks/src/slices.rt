@@ -1,7 +1,7 @@
 //! Parts of slices.
 ghost use Rattle.std.specs.Prelude.{◌≡◌, ◌≤◌, length, take, drop};
 
-/// The first bytes, so many.
+/// The first bytes, this many.
 pub fn first(bytes: &[u8], count: usize) -> &[u8]
     requires { count ≤ length bytes.now }
     ensures { result.now ≡ take count bytes.now }
@@ -9,10 +9,10 @@ pub fn first(bytes: &[u8], count: usize) -> &[u8]
     &bytes[..count]
 }
 
-/// The bytes behind the first ones.
-pub fn behind(bytes: &[u8], count: usize) -> &[u8]
-    requires { count ≤ length bytes.now }
-    ensures { result.now ≡ drop count bytes.now }
+/// The bytes after this many.
+pub fn rest_of(bytes: &[u8], passed: usize) -> &[u8]
+    requires { passed ≤ length bytes.now }
+    ensures { result.now ≡ drop passed bytes.now }
 {
-    &bytes[count..]
+    &bytes[passed..]
 }

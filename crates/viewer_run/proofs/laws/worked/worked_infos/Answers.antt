@@ -4,7 +4,7 @@ use Rattle.std.specs.Fmt.{digits}
 use Rattle.std.specs.Str.{chars, is_utf8}
 use Rattle.djvu_base.specs.Library.{file_limit}
 use Rattle.viewer_words.specs.Words.{page_limit}
-use Rattle.viewer_run.proofs.worked.worked_infos.Goals as goal
+use Rattle.viewer_run.proofs.laws.worked.worked_infos.Goals as goal
 
 pub returns-clause-head : goal.returns-clause-head
 unfolding digits is_utf8 chars encode file_limit page_limit

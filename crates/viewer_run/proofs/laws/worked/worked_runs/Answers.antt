@@ -8,7 +8,7 @@ use Rattle.jb2_numbers.specs.Number.{most_decisions}
 use Rattle.jb2_records.specs.Reading.{most_records}
 use Rattle.layer_compose.specs.Drawing.{samples_of}
 use Rattle.viewer_words.specs.Words.{page_limit}
-use Rattle.viewer_run.proofs.worked.worked_runs.Goals as goal
+use Rattle.viewer_run.proofs.laws.worked.worked_runs.Goals as goal
 
 pub returns-clause-drawn : goal.returns-clause-drawn
 unfolding digits is_utf8 chars encode file_limit page_limit most_bits most_decisions most_records samples_of

@@ -3,17 +3,19 @@ ghost use Rattle.std.specs.Prelude.{◌≡◌, ℕ, ◌++◌, List, [], ◌∷�
 ghost use Rattle.djvu_base.specs.Library.{Whole, Broken};
 ghost use Rattle.djvu_outside.specs.Faults.{Listing, Reading};
 ghost use Rattle.zp_table.specs.Listing.{djvu_rows, flat_rows};
-ghost use Rattle.viewer_words.specs.declared.commands.TableChoice.{TableChoice};
-ghost use Rattle.viewer_words.specs.declared.commands.TableChoice.TheVariants.{Djvu, Flat, File};
+ghost use Rattle.viewer_words.specs.declared.commands.TableChoice.TheVariants.{File};
 ghost use Rattle.viewer_words.specs.Lines.{folder_line, words_line};
 ghost use Rattle.viewer_run.specs.declared.front.Front.TheVariants as front;
 ghost use Rattle.viewer_run.specs.declared.front.Mode.TheVariants as mode;
-ghost use Rattle.viewer_run.specs.Front.{front_of, front_of_draw, line_by_names, first_unlisted};
-ghost use Rattle.viewer_run.specs.Cut.{front_may_fail, front_failed};
+ghost use Rattle.viewer_words.specs.Files.{NamedFile, first_unlisted};
+ghost use Rattle.viewer_run.specs.Front.{front_of, front_of_draw, line_by_names};
+ghost use Rattle.viewer_run.specs.EarlyFailures.{front_may_fail, front_failed};
 ghost use Rattle.viewer_run.specs.Info.{info_report};
-ghost use Rattle.viewer_run.specs.Lines.{raster_head};
+ghost use Rattle.viewer_run.specs.Rasters.{raster_head};
 ghost use Rattle.viewer_run.specs.Offline.{offline, written_cut};
-ghost use Rattle.viewer_run.specs.Worked.{form_with, header, page, blank_file, masked_file, cut_mask, file, white_pixel, black_pixel, newline, pixel_line, black_line, draw_flat};
+ghost use Rattle.iff_chunks.specs.Worked.{form_with, header, page, blank_file};
+ghost use Rattle.djvu_base.specs.Text.{newline};
+ghost use Rattle.viewer_run.specs.Worked.{masked_file, cut_mask, file, white_pixel, black_pixel, pixel_line, black_line, draw_flat};
 
 /// The head of a raster, and the chunks of files, in lines.
 pub fn worked_infos()
@@ -28,17 +30,16 @@ pub fn worked_infos()
 
 /// What stands before the pages.
 pub fn worked_fronts()
-    ensures many { (names pages : List (List ℕ)) (table : TableChoice) → length names ≡ 1025 → line_by_names names 2 table pages ≡ Some (folder_line 1025) }
-    ensures not_many { (names pages : List (List ℕ)) → length names ≡ 1024 → first_unlisted names pages ≡ None → line_by_names names 2 Djvu pages ≡ None }
-    ensures not_listed { line_by_names (codes "p" ∷ []) 4 Djvu (codes "p" ∷ codes "q" ∷ codes "r" ∷ []) ≡ Some (words_line 2) }
-    ensures not_listed_behind { line_by_names (codes "p" ∷ []) 5 Flat (codes "p" ∷ codes "q" ∷ []) ≡ Some (words_line 4) }
-    ensures table_first { line_by_names (codes "p" ∷ []) 4 (File (codes "t")) (codes "q" ∷ []) ≡ Some (words_line 2) }
+    ensures many { (names : List (List ℕ)) (files : List NamedFile) → length names ≡ 1025 → line_by_names names files ≡ Some (folder_line 1025) }
+    ensures not_many { (names : List (List ℕ)) (files : List NamedFile) → length names ≡ 1024 → first_unlisted names files ≡ None → line_by_names names files ≡ None }
+    ensures not_listed { line_by_names (codes "p" ∷ []) ((1, codes "p") ∷ (2, codes "q") ∷ (3, codes "r") ∷ []) ≡ Some (words_line 2) }
+    ensures table_first { line_by_names (codes "p" ∷ []) ((2, codes "t") ∷ (3, codes "q") ∷ []) ≡ Some (words_line 2) }
     ensures listed { front_of (file (codes "p") [] ∷ file (codes "q") [] ∷ []) (codes "info" ∷ codes "q" ∷ codes "p" ∷ []) ≡ front.Accepted mode.Info (codes "q" ∷ codes "p" ∷ []) }
     ensures usual { front_of (file (codes "p") [] ∷ []) (codes "draw" ∷ codes "p" ∷ []) ≡ front.Accepted (mode.Draw djvu_rows) (codes "p" ∷ []) }
     ensures flat { front_of (file (codes "p") [] ∷ []) draw_flat ≡ front.Accepted (mode.Draw flat_rows) (codes "p" ∷ []) }
-    ensures table { front_of_draw (file (codes "p") [] ∷ file (codes "t") (0x80 ∷ 0 ∷ 0 ∷ 0 ∷ 0 ∷ 0 ∷ []) ∷ []) 4 (File (codes "t")) (codes "p" ∷ []) ≡ front.Accepted (mode.Draw flat_rows) (codes "p" ∷ []) }
-    ensures no_table { front_of_draw (file (codes "p") [] ∷ file (codes "t") (0 ∷ 0 ∷ 0 ∷ 0 ∷ 0 ∷ []) ∷ []) 4 (File (codes "t")) (codes "p" ∷ []) ≡ front.Refused (codes "table 0 short" ++ newline) }
-    ensures no_chance { front_of_draw (file (codes "p") [] ∷ file (codes "t") (0x80 ∷ 0 ∷ 0 ∷ 0 ∷ 1 ∷ 0 ∷ 0 ∷ 0 ∷ 0 ∷ 0 ∷ 0 ∷ 0 ∷ []) ∷ []) 4 (File (codes "t")) (codes "p" ∷ []) ≡ front.Refused (codes "table 1 chance" ++ newline) }
+    ensures table { front_of_draw (file (codes "p") [] ∷ file (codes "t") (0x80 ∷ 0 ∷ 0 ∷ 0 ∷ 0 ∷ 0 ∷ []) ∷ []) ((2, codes "t") ∷ (3, codes "p") ∷ []) (File (codes "t")) (codes "p" ∷ []) ≡ front.Accepted (mode.Draw flat_rows) (codes "p" ∷ []) }
+    ensures no_table { front_of_draw (file (codes "p") [] ∷ file (codes "t") (0 ∷ 0 ∷ 0 ∷ 0 ∷ 0 ∷ []) ∷ []) ((2, codes "t") ∷ (3, codes "p") ∷ []) (File (codes "t")) (codes "p" ∷ []) ≡ front.Refused (codes "table 0 short" ++ newline) }
+    ensures no_chance { front_of_draw (file (codes "p") [] ∷ file (codes "t") (0x80 ∷ 0 ∷ 0 ∷ 0 ∷ 1 ∷ 0 ∷ 0 ∷ 0 ∷ 0 ∷ 0 ∷ 0 ∷ 0 ∷ []) ∷ []) ((2, codes "t") ∷ (3, codes "p") ∷ []) (File (codes "t")) (codes "p" ∷ []) ≡ front.Refused (codes "table 1 chance" ++ newline) }
 {}
 
 /// All of a run over a few files.

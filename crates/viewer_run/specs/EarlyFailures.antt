@@ -1,30 +1,13 @@
--- Libraries whose files broke off where their reading failed, and failures of what stands before the pages.
-use Rattle.std.specs.Prelude.{ℕ, Bool, true, false, not, ◌≡◌, ◌&&◌, ◌||◌, List, [], ◌∷◌, map, take, Option, Some, None, Result, Ok, Err, bytes_eq, if◌then◌else◌}
-use Rattle.djvu_base.specs.Library.{File, Library, Broken}
+-- Failures of what stands before the pages: of the listing, and of the table's reading.
+use Rattle.std.specs.Prelude.{ℕ, Bool, true, false, not, ◌≡◌, ◌&&◌, ◌||◌, List, [], ◌∷◌, None, Result, Ok, Err, bytes_eq}
+use Rattle.djvu_base.specs.Name.{is_listed}
+use Rattle.djvu_outside.specs.Cut.{first_entry}
 use Rattle.djvu_outside.specs.Faults.{Failure, Listing, Reading}
 use Rattle.viewer_words.specs.declared.commands.Command.{Command}
 use Rattle.viewer_words.specs.declared.commands.Command.TheVariants as command
 use Rattle.viewer_words.specs.declared.commands.TableChoice.{TableChoice}
 use Rattle.viewer_words.specs.declared.commands.TableChoice.TheVariants as choice
 use Rattle.viewer_words.specs.Words.{words_of}
-use Rattle.viewer_run.specs.Front.{is_listed}
-
--- how many bytes of this file had come where its reading first failed
-abbrev pub first_entry : List Failure → List ℕ → Option ℕ
-first_entry [] name = None
-first_entry (Listing ∷ failures) name = first_entry failures name
-first_entry (Reading other count ∷ failures) name = if bytes_eq name other then Some count else first_entry failures name
-
-abbrev pub cut_at : Option ℕ → File → File
-cut_at None file = file
-cut_at (Some count) file = record { name = file.name; bytes = take count file.bytes; mark = Broken }
-
-abbrev pub cut_file : List Failure → File → File
-cut_file failures file = cut_at (first_entry failures file.name) file
-
--- each file that a failure names has the bytes that had come, and broke off behind them
-abbrev pub cut : List Failure → Library → Library
-cut failures library = map (cut_file failures) library
 
 abbrev pub is_table : TableChoice → List ℕ → Bool
 is_table choice.Djvu name = false

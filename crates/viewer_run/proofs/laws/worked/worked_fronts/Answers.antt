@@ -4,15 +4,11 @@ use Rattle.std.specs.Fmt.{digits}
 use Rattle.std.specs.Str.{chars, is_utf8}
 use Rattle.djvu_base.specs.Library.{file_limit}
 use Rattle.viewer_words.specs.Words.{page_limit}
-use Rattle.viewer_run.proofs.worked.worked_fronts.Goals as goal
+use Rattle.viewer_run.proofs.laws.worked.worked_fronts.Goals as goal
 
 pub returns-clause-not_listed : goal.returns-clause-not_listed
 unfolding digits is_utf8 chars encode file_limit page_limit
 returns-clause-not_listed c = refl
-
-pub returns-clause-not_listed_behind : goal.returns-clause-not_listed_behind
-unfolding digits is_utf8 chars encode file_limit page_limit
-returns-clause-not_listed_behind c = refl
 
 pub returns-clause-table_first : goal.returns-clause-table_first
 unfolding digits is_utf8 chars encode file_limit page_limit

@@ -10,13 +10,10 @@
 #![tactic(auto)]
 
 mod ink;
-mod laws;
+pub mod laws;
 mod painting;
 mod planes;
-#[cfg(test)]
-mod tests;
 mod words;
 
 pub use ink::InkBox;
-pub use laws::{count_laws, ink_laws, paint_laws, pixel_laws, worked_boxes};
 pub use planes::Plane;

@@ -9,7 +9,7 @@ use Rattle.zp_decoder.specs.declared.decoder.Decision.TheVariants as decision
 use Rattle.zp_decoder.specs.Decision.{Interval, Adaptive, Outcome, outcome_of}
 use Rattle.zp_decoder.specs.Decision as coding
 use Rattle.zp_decoder.specs.Decoder.{Fed}
-use Rattle.zp_decoder.proofs.Standing.{is_fed}
+use Rattle.zp_decoder.proofs.Lemmas.{is_fed}
 use Rattle.bit_plane.specs.Pixels.{Pixels}
 use Rattle.djvu_base.specs.declared.faults.FaultKind.TheVariants as fault
 use Rattle.jb2_numbers.specs.declared.roots.Root.{Root}
@@ -20,7 +20,7 @@ use Rattle.jb2_numbers.specs.Number as numbers
 use Rattle.jb2_numbers.specs.Number.{Chunk, Wanted, chunk, wanted, begun, read_on, answer_at}
 use Rattle.jb2_numbers.specs.Reader as reading
 use Rattle.jb2_numbers.specs.Reader.{Reader, Reads, AreBounds}
-use Rattle.jb2_numbers.proofs.Ending.{answer_within}
+use Rattle.jb2_numbers.proofs.Lemmas.{answer_within}
 use Rattle.jb2_shapes.specs.declared.steps.ShapeStep.{ShapeStep}
 use Rattle.jb2_shapes.specs.declared.steps.ShapeStep.TheVariants as shape
 use Rattle.jb2_shapes.specs.Numbers as cells

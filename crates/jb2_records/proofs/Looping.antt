@@ -1,7 +1,7 @@
 -- Records that are read one after the other are those of the chunk.
 use Rattle.std.proofs.Common.{◌≡◌, ◌≢◌, ◌<◌, ◌+◌, ℕ, zero, suc, min, Bool, true, false, List, [], ◌∷◌, length, refl, sym, ap, subst, ◌∙◌, arith}
 use Rattle.zp_decoder.specs.Decoder.{room_left}
-use Rattle.zp_decoder.proofs.Standing.{room_is}
+use Rattle.zp_decoder.proofs.Lemmas.{room_is}
 use Rattle.zp_decoder.specs.Runs.{room}
 use Rattle.djvu_base.specs.Meter.{ticked_once, ticked, TicksExactly}
 use Rattle.djvu_base.proofs.Ticks.{ticks_next}

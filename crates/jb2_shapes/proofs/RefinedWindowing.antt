@@ -3,7 +3,7 @@ use Rattle.std.proofs.Common.{◌≡◌, ℕ, ◌+◌, ◌-◌, ◌*◌, ◌/◌
 use Rattle.std.proofs.lemmas.Int.{ints}
 use Rattle.bit_plane.specs.Bits.{digit as bit_at}
 use Rattle.bit_plane.specs.Pixels.{Pixels, is_black}
-use Rattle.bit_plane.proofs.PixelLemmas.{wide}
+use Rattle.bit_plane.proofs.Lemmas.{wide}
 use Rattle.jb2_shapes.specs.Shape.{Sketch, IsUnread, column_of, row_of, with_pixel}
 use Rattle.jb2_shapes.specs.Numbers.{digit, number_from, number_of, number_limit, IsNumber}
 use Rattle.jb2_shapes.specs.declared.windows.RefinedWindow.{RefinedWindow}

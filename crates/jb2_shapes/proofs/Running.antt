@@ -5,7 +5,7 @@ use Rattle.std.proofs.lemmas.Nat.Bits.{shr_and_one}
 use Rattle.std.proofs.lemmas.Bool.{cases_Bool, cases_lt, and_parts, ltb-true}
 use Rattle.bit_plane.specs.Bits.{digit as bit_at}
 use Rattle.bit_plane.specs.Pixels.{Pixels, is_black, is_black_at}
-use Rattle.bit_plane.proofs.BitLemmas.{digit-shr, digit_above, digit-shl_low, digit-shl_high}
+use Rattle.bit_plane.proofs.Lemmas.{digit-shr, digit_above, digit-shl_low, digit-shl_high}
 use Rattle.jb2_shapes.specs.Numbers.{digit}
 use Rattle.jb2_shapes.specs.Shape.{Sketch, IsUnread, row_of, with_pixel}
 use Rattle.jb2_shapes.specs.Rows.{IsRun}

@@ -1,14 +1,16 @@
-pub mod Chunking
-pub mod Closing
-pub mod CommonFront
-pub mod Fuel
-pub mod Going
-pub mod Growing
-pub mod Heading
-pub mod Laying
-pub mod Moving
-pub mod OneInfo
-pub mod Ordering
-pub mod Passing
-pub mod Telling
-pub mod Uncut
+mod Chunking
+mod Closing
+mod CommonFront
+mod Fuel
+mod Going
+mod Growing
+mod Heading
+mod Laying
+mod LaidChunks
+mod Bounds
+mod Moving
+mod Ordering
+mod Passing
+mod Telling
+mod Uncut
+pub mod Lemmas

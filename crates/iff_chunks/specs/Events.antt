@@ -1,5 +1,5 @@
 -- The events of a file's chunks, in order, and what a walker told of them.
-use Rattle.std.specs.Prelude.{ℕ, ◌≡◌, ◌<◌, ◌++◌, List, [], ◌∷◌, Option, Some, None, flat_map, ⊤}
+use Rattle.std.specs.Prelude.{ℕ, Bool, true, false, ◌≡◌, ◌<◌, ◌++◌, List, [], ◌∷◌, Option, Some, None, flat_map, ⊤}
 use Rattle.iff_chunks.specs.declared.walker.WalkStep.{WalkStep}
 use Rattle.iff_chunks.specs.declared.walker.WalkStep.TheVariants as step
 use Rattle.iff_chunks.specs.Chunks.{Form, Chunk, Chunks, Tail, InHead, InHeader, InData, InPad, FormEnd, Broken}
@@ -110,11 +110,11 @@ Takes step.FormEnd used = ⊤
 Takes (step.Broken kind offset) used = ⊤
 
 -- the answer tells an event
-abbrev pub IsEvent : WalkStep → Type 0
-IsEvent (step.Form kind size) = ⊤
-IsEvent (step.Header id offset size) = ⊤
-IsEvent step.Data = ⊤
-IsEvent step.ChunkEnd = ⊤
-IsEvent step.NeedBytes = ⊥
-IsEvent step.FormEnd = ⊥
-IsEvent (step.Broken kind offset) = ⊥
+abbrev pub is_event : WalkStep → Bool
+is_event (step.Form kind size) = true
+is_event (step.Header id offset size) = true
+is_event step.Data = true
+is_event step.ChunkEnd = true
+is_event step.NeedBytes = false
+is_event step.FormEnd = false
+is_event (step.Broken kind offset) = false

@@ -2,9 +2,12 @@ pub mod Start
 pub mod Matching
 pub mod Gathering
 pub mod Chunks
+pub mod Ends
 pub mod Events
 pub mod Told
-pub mod FirstForm
+pub mod Walk
 pub mod Layout
+pub mod Growth
 pub mod Order
+pub mod Refused
 pub mod Worked

@@ -98,8 +98,12 @@ Stands (stage.Pad chunk) taken told = BeforePad taken told chunk
 Stands stage.Ended taken told = IsSettled taken told FormEnd
 Stands (stage.Broken kind offset) taken told = IsSettled taken told (Broken kind offset)
 
+-- where a walker stands
+abbrev pub Walking : Type 0
+Walking = Stage
+
 -- the walker took these bytes, and told these events
-unfoldable pub Told : List ℕ → List Event → Stage → Type 0
+unfoldable pub Told : List ℕ → List Event → Walking → Type 0
 Told taken told walker = Stands walker taken told
 
 -- the walker answers so from now on, and nothing else

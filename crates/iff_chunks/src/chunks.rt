@@ -7,8 +7,8 @@ ghost use Rattle.iff_chunks.specs.Gathering.{gathered};
 ghost use Rattle.iff_chunks.specs.Told.{Feeds, IsGathering, IsPlace, IsChunk, begun, data_stage};
 
 use crate::answers::{breaks, ends, need_bytes};
-use crate::fronts::{first, rest_of};
 use crate::gathering::{Gathered, four, number};
+use crate::slices::{first, rest_of};
 use crate::stages::{ChunkPlace, Fed, OpenChunk, Stage};
 use crate::walker::WalkStep;
 use djvu_base::FaultKind;

@@ -1,7 +1,9 @@
 //! How a piece of a file goes on with bytes that are wanted.
-ghost use Rattle.std.specs.Prelude.{◌≡◌, ◌<◌, ◌≤◌, length, take, drop};
+ghost use Rattle.std.specs.Prelude.{◌≡◌, ◌<◌, ◌≤◌, length};
 ghost use Rattle.iff_chunks.specs.Start.{common_front};
 ghost use Rattle.iff_chunks.specs.Matching.{Matches};
+
+use crate::slices::rest_of;
 
 /// How a piece goes on.
 #[derive(Clone, Copy, Debug, PartialEq, Eq)]
@@ -30,22 +32,6 @@ pub fn match_on(wanted: &[u8], matched: usize, piece: &[u8]) -> Match
     } else {
         Match::Differs { used: common + 1 }
     }
-}
-
-/// The bytes behind the first ones.
-pub fn rest_of(bytes: &[u8], passed: usize) -> &[u8]
-    requires { passed ≤ length bytes.now }
-    ensures { result.now ≡ drop passed bytes.now }
-{
-    &bytes[passed..]
-}
-
-/// The first bytes.
-pub fn first(bytes: &[u8], count: usize) -> &[u8]
-    requires { count ≤ length bytes.now }
-    ensures { result.now ≡ take count bytes.now }
-{
-    &bytes[..count]
 }
 
 /// How many bytes the two have in common at their fronts.

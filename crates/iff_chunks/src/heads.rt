@@ -6,8 +6,9 @@ ghost use Rattle.iff_chunks.specs.declared.stages.Stage.TheVariants as stage;
 ghost use Rattle.iff_chunks.specs.Told.{Feeds, IsGathering, IsForm};
 
 use crate::answers::{breaks, need_bytes};
-use crate::fronts::{Match, match_on, rest_of};
+use crate::fronts::{Match, match_on};
 use crate::gathering::{Gathered, four, number};
+use crate::slices::rest_of;
 use crate::stages::{ChunkPlace, Fed, Stage};
 use crate::walker::WalkStep;
 use djvu_base::FaultKind;

@@ -1,12 +1,15 @@
 //! The walker.
-ghost use Rattle.std.specs.Prelude.{◌≡◌, ◌≢◌, ℕ, ◌+◌, ◌*◌, ◌<◌, ◌≤◌, ◌↔◌, ◌++◌, ◌⊎◌, List, [], ◌∷◌, length, take};
-ghost use Rattle.iff_chunks.specs.Chunks.{chunks_of, chunks_in_all};
-ghost use Rattle.iff_chunks.specs.Events.{Event, ChunkEnd, events_of, tell, GoesOn, IsOpen, Ends, IsLast, Settles, Takes, IsEvent};
-ghost use Rattle.iff_chunks.specs.Order.{InOrder, AtForm};
-ghost use Rattle.iff_chunks.specs.Told.{Told, Over, IsSound, pending};
+ghost use Rattle.std.specs.Prelude.{◌≡◌, ◌≢◌, ℕ, ◌<◌, ◌++◌, List, [], take};
+ghost use Rattle.djvu_base.specs.Library.{mark_of};
+ghost use Rattle.iff_chunks.specs.Chunks.{Chunk, Tail, chunks_of, chunks_in_all, end_of};
+ghost use Rattle.iff_chunks.specs.Chunks as chunks;
+ghost use Rattle.iff_chunks.specs.Ends.{closed, tail_of};
+ghost use Rattle.iff_chunks.specs.Events.{Event, events_of, IsOpen, IsLast, Settles, is_event};
+ghost use Rattle.iff_chunks.specs.Told.{Told, Over, IsSound};
+ghost use Rattle.iff_chunks.specs.Walk.{IsFed};
 
 use crate::stages::Stage;
-use djvu_base::FaultKind;
+use djvu_base::{FaultKind, FileEnd};
 use std::marker::Model;
 
 /// What a walker answers to a piece.
@@ -36,6 +39,27 @@ pub enum WalkStep {
         kind: FaultKind,
         offset: u32,
     },
+}
+
+impl WalkStep {
+    /// Whether the answer tells an event. `NeedBytes`, `FormEnd` and `Broken` tell none.
+    pub fn is_event(self) -> bool
+        ensures { result ≡ is_event self }
+    {
+        !matches!(
+            self,
+            WalkStep::NeedBytes | WalkStep::FormEnd | WalkStep::Broken { .. }
+        )
+    }
+}
+
+/// Where a file ends.
+#[derive(Clone, Copy, Debug, PartialEq, Eq)]
+pub enum WalkEnd {
+    /// Its FORM ended.
+    FormEnd,
+    /// It can't be read on: why, and where.
+    Broken { kind: FaultKind, offset: u32 },
 }
 
 /// Walks over a file that arrives in pieces, and keeps none of its bytes but those of a header.
@@ -73,34 +97,12 @@ impl Walker {
     ///
     /// `Broken` is one of `NotForm`, `TooLarge`, `ShortHeader`, `BadId` and `Overrun`.
     pub fn feed(&mut self, piece: &[u8]) -> (usize, WalkStep)
-        ensures within { result.0 ≤ length piece.now }
-        ensures told { (taken : List ℕ) (told : List Event) → Told taken told self.old →
-            Told (taken ++ take result.0 piece.now) (tell told result.1 (take result.0 piece.now)) self.new }
+        // The events, their order, where the FORM ends or the file breaks, and where more bytes are asked for.
+        ensures fed { IsFed self.old piece.now result.0 result.1 self.new }
 
-        // The events are those of the file, whatever follows the used bytes.
-        ensures events { (taken after : List ℕ) (told : List Event) → Told taken told self.old →
-            GoesOn (tell told result.1 (take result.0 piece.now)) (events_of (chunks_of (taken ++ (take result.0 piece.now ++ after)))) }
-
-        // They come in their order.
-        ensures order { (taken : List ℕ) (told : List Event) → Told taken told self.old → InOrder AtForm (tell told result.1 (take result.0 piece.now)) }
-
-        // The FORM's end and a break are answered once every event was told and the used bytes settle it, whatever follows.
-        ensures ends { (taken after : List ℕ) (told : List Event) → Told taken told self.old →
-            Ends result.1 told (chunks_of (taken ++ (take result.0 piece.now ++ after))) }
-
-        // More bytes are asked for exactly where all were used, every event was told, and the FORM goes on.
-        ensures needs { (taken : List ℕ) (told : List Event) → Told taken told self.old → result.1 ≡ WalkStep.NeedBytes →
-            (result.0 ≡ length piece.now) × (events_of (chunks_of (taken ++ piece.now)) ≡ told) × IsOpen (chunks_of (taken ++ piece.now)).tail }
+        // More bytes are asked for wherever every event was told and the FORM goes on.
         ensures only_then { (taken : List ℕ) (told : List Event) → Told taken told self.old → events_of (chunks_of (taken ++ piece.now)) ≡ told → IsOpen (chunks_of (taken ++ piece.now)).tail →
             result.1 ≡ WalkStep.NeedBytes }
-
-        // A FORM, a header and data take at least one byte; data are told as far as the piece and the chunk go.
-        ensures takes { Takes result.1 result.0 }
-        ensures all_data { (taken after : List ℕ) (told : List Event) → Told taken told self.old → result.1 ≡ WalkStep.Data →
-            (result.0 ≡ length piece.now) ⊎ GoesOn (tell told result.1 (take result.0 piece.now) ++ ChunkEnd ∷ []) (events_of (chunks_of (taken ++ (take result.0 piece.now ++ after)))) }
-
-        // With each event less is left: bytes, or an event that needs none.
-        ensures fewer { IsEvent result.1 → pending self.new < 2 * result.0 + pending self.old }
 
         // Every other answer comes with the byte that settles it: before that one, every event was told, and the FORM goes on.
         ensures no_later { (taken : List ℕ) (told : List Event) (fewer : ℕ) → Told taken told self.old → result.1 ≢ WalkStep.Data → fewer < result.0 →
@@ -130,6 +132,36 @@ impl Walker {
         let step = self.stage.end();
         self.stage = last_stage(step);
         step
+    }
+
+    /// Says that no more bytes come, and answers where the file ends, of which `arrived` bytes came. Takes no memory.
+    ///
+    /// `Broken` is one of those of `end`. Where the reading failed, `Read` after all bytes that came takes the place of
+    /// `Truncated`.
+    pub fn finish(&mut self, end: FileEnd, arrived: u32) -> WalkEnd
+        ensures ends { (taken : List ℕ) (told : List Event) → Told taken told self.old →
+            tail_of result ≡ closed (mark_of end) arrived (chunks_of taken).whole (chunks_of taken).tail }
+
+        // From then on the walker answers what `end` does, again and again.
+        ensures over { (answer : WalkStep) × Over answer self.new × ((taken : List ℕ) (told : List Event) → Told taken told self.old → Settles answer (chunks_in_all taken).tail) }
+    {
+        match self.end() {
+            WalkStep::Broken { kind, offset } => broken_so(end, arrived, kind, offset),
+            _ => WalkEnd::FormEnd,
+        }
+    }
+}
+
+/// Where a file of so many bytes ends that can't be read on, by what is known of its end.
+fn broken_so(end: FileEnd, arrived: u32, kind: FaultKind, offset: u32) -> WalkEnd
+    ensures { (whole : List Chunk) (tail : Tail) → end_of whole tail ≡ chunks.Broken kind offset → tail_of result ≡ closed (mark_of end) arrived whole tail }
+{
+    match (end, kind) {
+        (FileEnd::Broken, FaultKind::Truncated) => WalkEnd::Broken {
+            kind: FaultKind::Read,
+            offset: arrived,
+        },
+        _ => WalkEnd::Broken { kind, offset },
     }
 }
 

@@ -15,13 +15,10 @@ mod laws;
 mod page;
 mod places;
 mod reading;
-mod slices;
-#[cfg(test)]
-mod tests;
 mod walk;
 mod worked;
 
-pub use ends::{FileEnd, PageEnd, ended_so, is_quiet};
+pub use ends::PageEnd;
 pub use laws::{by_events, growth};
 pub use page::Size;
 pub use reading::{Drawn, PageReading, read_page};

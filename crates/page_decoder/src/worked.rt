@@ -3,7 +3,8 @@ ghost use Rattle.std.specs.Prelude.{◌≡◌, ◌++◌, [], ◌∷◌, None, So
 ghost use Rattle.djvu_base.specs.declared.faults.FaultKind.TheVariants.{Truncated, Read, NoInfo, SecondInfo, SecondMask, BadInfo, Unsupported, WrongForm, TooLarge, Overrun, BadId, MaskSize, Jb2NoStart, Jb2SecondStart, ZpExhausted};
 ghost use Rattle.djvu_base.specs.Library.{Open, Whole, Broken};
 ghost use Rattle.page_decoder.specs.Reading.{size_in, size_fault, Finished, Fault, NeedBytes};
-ghost use Rattle.page_decoder.specs.Worked.{form_with, header, sized_page, page, blank_file, mask_chunk, dot_bytes, dot_file, white, black, read, found};
+ghost use Rattle.iff_chunks.specs.Worked.{form_with, header, sized_page, page, blank_file};
+ghost use Rattle.page_decoder.specs.Worked.{mask_chunk, dot_bytes, dot_file, white, black, read, found};
 
 /// Pages that are finished, and pages that are refused, and for what.
 pub fn worked_readings()

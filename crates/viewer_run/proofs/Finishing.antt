@@ -12,7 +12,7 @@ use Rattle.iff_chunks.specs.Layout.{Laid}
 use Rattle.iff_chunks.proofs.Laying.{form_laid}
 use Rattle.page_decoder.specs.Reading.{Notice, Ending, Finished, Fault, NeedBytes, Reading, Came, kind_fault, is_one_of, unread_ids, is_info, is_mask, header_fault, size_in, size_fault, size_came, info_came, mask_came, nothing_came, blank_page, came, came_by, is_drawn, notice_by, after_chunk, after_came, read_chunks, is_cut, broken_off, closed, ending_of, without_chunks, cut_by, at_end, read_tail, chunks_place, read_page, read_form, reading}
 use Rattle.page_decoder.specs.Found.{last_layers}
-use Rattle.viewer_run.specs.Lines.{raster_text}
+use Rattle.viewer_run.specs.Rasters.{raster_text}
 use Rattle.viewer_run.specs.Texts.{raster_of, texts_at, lines_of, texts_of_reading, texts_of_file}
 
 -- a reading that is finished has a drawing

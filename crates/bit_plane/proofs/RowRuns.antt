@@ -1,11 +1,11 @@
 -- Pixels of a row in a word: what they are where a word was read, cut or shifted.
-use Rattle.std.proofs.Common.{◌≡◌, ℕ, ◌+◌, ◌-◌, ◌*◌, ◌/◌, ◌%◌, ◌^◌, ◌<◌, ◌≤◌, min, cond, Bool, true, false, ◌&&◌, eqb, ltb, get_or, ℤ, pos, negsuc, ◌+ℤ◌, ◌-ℤ◌, ◌≤ℤ◌, refl, ap, sym, ◌∙◌, arith, inl, inr}
+use Rattle.std.proofs.Common.{◌≡◌, ℕ, ◌+◌, ◌-◌, ◌*◌, ◌%◌, ◌^◌, ◌<◌, ◌≤◌, min, cond, Bool, true, false, ◌&&◌, ltb, get_or, ℤ, pos, negsuc, ◌+ℤ◌, ◌-ℤ◌, ◌≤ℤ◌, refl, ap, sym, ◌∙◌, arith, inl, inr}
 use Rattle.std.proofs.lemmas.Int.{ints}
 use Rattle.std.proofs.lemmas.Bool.{cases_Bool, cases_lt, and_parts, ltb-true}
 use Rattle.bit_plane.specs.Bits.{digit as bit_at, digit_of}
 use Rattle.bit_plane.specs.Pixels.{Pixels, is_black, is_black_at}
 use Rattle.bit_plane.specs.Rows.{IsRun}
-use Rattle.bit_plane.proofs.BitLemmas.{digit-shr, digit_above, digit-shl_low, digit-shl_high}
+use Rattle.bit_plane.proofs.BitLemmas.{digit_above, digit-shl_low, digit-shl_high}
 
 pub same_place : (shape : Pixels) (a b c d : ℤ) → a ≡ c → b ≡ d → is_black shape a b ≡ is_black shape c d
 same_place shape a b c d p q = ap (λ a. is_black shape a b) p ∙ ap (λ b. is_black shape c b) q
@@ -87,6 +87,8 @@ shifted_run shape x y before word new few at run is i p =
     ]
 
 -- the same pixels, written in two ways
-pub run_at_place : (shape other : Pixels) (x y a b : ℤ) (count word : ℕ) → shape ≡ other → x ≡ a → y ≡ b → IsRun shape x y count word → IsRun other a b count word
+pub run_at_place : (shape other : Pixels) (x y a b : ℤ) (count word : ℕ) → shape ≡ other → x ≡ a → y ≡ b → IsRun shape x y count word →
+    IsRun other a b count word
 run_at_place shape other x y a b count word is e f run i p =
-    run i p ∙ ap (λ s. digit_of (is_black s (x +ℤ pos i) y)) is ∙ ap (λ c. digit_of (is_black other (c +ℤ pos i) y)) e ∙ ap (λ c. digit_of (is_black other (a +ℤ pos i) c)) f
+    run i p ∙ ap (λ s. digit_of (is_black s (x +ℤ pos i) y)) is ∙ ap (λ c. digit_of (is_black other (c +ℤ pos i) y)) e
+    ∙ ap (λ c. digit_of (is_black other (a +ℤ pos i) c)) f

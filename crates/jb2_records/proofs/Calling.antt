@@ -1,7 +1,7 @@
 -- What a coder's calls answer, by what its decoder and its readers answer.
-use Rattle.std.proofs.Common.{◌≡◌, ◌≢◌, ◌+◌, ◌-◌, ℕ, zero, suc, ℤ, ◌≤ℤ◌, Bool, List, [], refl, sym, ap, subst, ◌∙◌, arith}
+use Rattle.std.proofs.Common.{◌≡◌, ◌≢◌, ◌+◌, ◌-◌, ℕ, ℤ, ◌≤ℤ◌, Bool, List, [], refl, sym, ap, subst, ◌∙◌, arith}
 use Rattle.std.specs.Prelude.{Option, Result, Ok, Err, IfOk, int_le, IsTrue}
-use Rattle.djvu_base.specs.Meter.{ticked, ticked_once, TicksExactly}
+use Rattle.djvu_base.specs.Meter.{ticked, TicksExactly}
 use Rattle.djvu_base.proofs.Ticks.{ticks_both, ticks_one, ticks_none}
 use Rattle.zp_table.specs.declared.rows.Row.{Row}
 use Rattle.zp_decoder.specs.declared.decoder.Decision.{Decision}
@@ -27,7 +27,6 @@ use Rattle.jb2_shapes.specs.Numbers as cells
 use Rattle.jb2_shapes.specs.Shape as shapes
 use Rattle.jb2_shapes.specs.Contexts.{States}
 use Rattle.jb2_shapes.specs.Shape.{Sketch, progress, empty_sketch}
-use Rattle.jb2_shapes.specs.Steps as pixels
 use Rattle.jb2_records.specs.declared.stops.Stop.{Stop}
 use Rattle.jb2_records.specs.declared.stops.Stop.TheVariants as stop
 use Rattle.jb2_records.specs.Coding.{Coder, Need, Wrong, Got, after_number, number_by, read_number, after_flag, read_flag, after_row, read_row, bit_by, after_shape, shape_by, shape_of}

@@ -1,5 +1,5 @@
 -- A reader of a mask while bytes are pushed, once they end, and once they are decoded.
-use Rattle.std.proofs.Common.{◌≡◌, ◌≤◌, ◌+◌, ℕ, min, add-one, Bool, true, false, List, [], ◌++◌, length, refl, sym, ap, subst, ◌∙◌, arith}
+use Rattle.std.proofs.Common.{◌≡◌, ◌≤◌, ◌+◌, ℕ, Bool, true, false, List, [], ◌++◌, length, refl, sym, ap, subst, ◌∙◌, arith}
 use Rattle.std.specs.Prelude.{Option, Some, None, Result, Ok, Err, OnOk, is_ok, if◌then◌else◌}
 use Rattle.zp_table.specs.declared.rows.Row.{Row}
 use Rattle.std.proofs.lemmas.List.{length-append, append-nil}

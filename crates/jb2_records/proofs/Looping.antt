@@ -1,5 +1,5 @@
 -- Records that are read one after the other are those of the chunk.
-use Rattle.std.proofs.Common.{◌≡◌, ◌≢◌, ◌<◌, ◌+◌, ℕ, zero, suc, min, Bool, true, false, List, [], ◌∷◌, length, refl, sym, ap, subst, ◌∙◌, arith}
+use Rattle.std.proofs.Common.{◌≡◌, ◌≢◌, ◌<◌, ℕ, zero, suc, Bool, true, false, List, [], ◌∷◌, length, refl, sym, ap, subst, ◌∙◌, arith}
 use Rattle.zp_decoder.specs.Decoder.{room_left}
 use Rattle.zp_decoder.proofs.Lemmas.{room_is}
 use Rattle.zp_decoder.specs.Runs.{room}

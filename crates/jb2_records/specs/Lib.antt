@@ -1,3 +1,7 @@
+pub use Rattle.djvu_base.specs.Meter
+pub use Rattle.zp_table.specs.Rows
+pub use Rattle.bit_plane.specs.Pixels
+pub use Rattle.zp_decoder.specs.Runs
 pub mod Limits
 pub mod Records
 pub mod Coding

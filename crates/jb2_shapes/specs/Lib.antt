@@ -1,3 +1,8 @@
+pub use Rattle.djvu_base.specs.Meter
+pub use Rattle.bit_plane.specs.Pixels
+pub use Rattle.zp_decoder.specs.Decision
+pub use Rattle.zp_decoder.specs.Decoder
+pub use Rattle.zp_decoder.specs.Runs
 pub mod Contexts
 pub mod Shape
 pub mod Refined

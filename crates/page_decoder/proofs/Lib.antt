@@ -9,3 +9,4 @@ pub mod Concluding
 pub mod Fitting
 pub mod Growing
 pub mod Staying
+pub mod Finishing

@@ -11,15 +11,12 @@
 mod brought;
 mod drawings;
 mod ends;
-mod laws;
+pub mod laws;
 mod page;
 mod places;
 mod reading;
 mod walk;
-mod worked;
 
 pub use ends::PageEnd;
-pub use laws::{by_events, growth};
 pub use page::Size;
 pub use reading::{Drawn, PageReading, read_page};
-pub use worked::{worked_masks, worked_orders, worked_readings, worked_sizes};

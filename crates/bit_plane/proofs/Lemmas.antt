@@ -1,6 +1,6 @@
 -- What crates above may cite of the proofs here. All else may change with the code.
 -- digits of shifted words
-pub use Rattle.bit_plane.proofs.BitLemmas.{digit-shr, digit_above, digit-shl_low, digit-shl_high}
+pub use Rattle.bit_plane.proofs.BitLemmas.{digit-shr, digit_above}
 -- the lowest digit that is set
 pub use Rattle.bit_plane.proofs.InkLemmas.{lowest, digit-zero}
 -- planes that are made by a test
@@ -11,3 +11,5 @@ pub use Rattle.bit_plane.proofs.PixelLaws.{set_is_black}
 pub use Rattle.bit_plane.proofs.Totals.{total, total_same, total_joined, total_front, sum_of_map, sum_of_range}
 -- the black pixels by their places
 pub use Rattle.bit_plane.proofs.Counting.{black_places}
+-- the same pixels, written in two ways
+pub use Rattle.bit_plane.proofs.RowRuns.{same_place, run_at_place}

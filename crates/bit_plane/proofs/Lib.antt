@@ -23,5 +23,7 @@ mod Setting
 mod Totals
 -- Plane::bits, Plane::black, count_set; laws count_laws
 mod Counting
+-- Plane::row_from, Plane::row_within
+mod RowRuns
 -- what crates above may cite
 pub mod Lemmas

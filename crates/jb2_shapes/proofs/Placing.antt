@@ -11,9 +11,6 @@ use Rattle.jb2_shapes.specs.Rows.{ComesYet, IsNext, StandsAt, column_behind, row
 
 -- ---- the colour of one place, written in two ways
 
-pub same_place : (shape : Pixels) (a b c d : ℤ) → a ≡ c → b ≡ d → is_black shape a b ≡ is_black shape c d
-same_place shape a b c d p q = ap (λ a. is_black shape a b) p ∙ ap (λ b. is_black shape c b) q
-
 -- ---- a pixel that is read leaves the others
 
 pub other_place : (a b : ℤ) (x y : ℕ) → (a ≡ pos x → b ≡ pos y → ⊥) → is_place a b x y ≡ false

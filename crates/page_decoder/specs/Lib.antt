@@ -2,7 +2,7 @@
 pub use Rattle.djvu_base.specs.Library
 pub use Rattle.djvu_base.specs.Meter
 pub use Rattle.iff_chunks.specs.Chunks
-pub use Rattle.iff_chunks.specs.Ends
+pub use Rattle.iff_chunks.specs.Ends as FileEnds
 pub use Rattle.iff_chunks.specs.Events
 pub use Rattle.zp_table.specs.Rows
 pub use Rattle.layer_compose.specs.Drawing

@@ -28,11 +28,11 @@ pub record ReadsNext (files : Files) (here : Opened) (buffer : List ℕ) (count 
   pub next : take count buffer ≡ take count (drop here.position (bytes_in files here.name))
   pub end : (count ≡ 0) ↔ (length (bytes_in files here.name) ≤ here.position)
 
--- what was given grew by a front of the piece
+-- what was given grew by a prefix of the piece
 abbrev pub GrowsWithin : List ℕ → List ℕ → List ℕ → Type 0
 GrowsWithin before piece after = (part : List ℕ) × (rest : List ℕ) × (piece ≡ part ++ rest) × (after ≡ before ++ part)
 
--- what was given after a `put` of the piece: all of it, a front of it, or nothing
+-- what was given after a `put` of the piece: all of it, a prefix of it, or nothing
 abbrev pub Puts : {T : Type 0} → Result T SinkFault → List ℕ → List ℕ → List ℕ → Type 0
 Puts (Ok value) before piece after = after ≡ before ++ piece
 Puts (Err sink.Failed) before piece after = GrowsWithin before piece after

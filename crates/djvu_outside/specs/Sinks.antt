@@ -1,5 +1,5 @@
--- A sink in memory.
-use Rattle.std.specs.Prelude.{ℕ, ◌+◌, ◌-◌, ◌^◌, List, [], Option, min}
+-- Sinks in memory and over writers.
+use Rattle.std.specs.Prelude.{ℕ, List, [], Option}
 use Rattle.djvu_outside.specs.Calls.{Numbered, numbered_from_0}
 
 pub record MemoryBytes : Type 0 where
@@ -9,10 +9,6 @@ pub record MemoryBytes : Type 0 where
 
 abbrev pub new_bytes : List ℕ → MemoryBytes
 new_bytes failing = record { given = []; faults = 0; calls = numbered_from_0 failing }
-
--- a count after one more, which stands still at its type's end
-abbrev pub one_more : ℕ → ℕ
-one_more count = min (count + 1) (2 ^ 64 - 1)
 
 -- a sink over a writer: what the writer holds, where that is known
 pub record WrittenBytes : Type 0 where

@@ -1,4 +1,4 @@
-//! How calls of the outside fail, and how a run ends.
+//! How calls of the outside fail.
 use thiserror::Error;
 
 /// Why a folder didn't list its names or open a file.
@@ -26,7 +26,3 @@ pub enum SinkFault {
 /// A read that failed. The folder's count of faults rose.
 #[derive(Clone, Copy, Debug, PartialEq, Eq)]
 pub struct Failed;
-
-/// How a run ended, as the status of the process: 0 to 5.
-#[derive(Clone, Copy, Debug, PartialEq, Eq)]
-pub struct Status(pub u8);

@@ -1,9 +1,10 @@
 //! A sink in memory.
 ghost use Rattle.std.specs.Prelude.{◌≡◌, ◌<◌, ◌↔◌, ℕ, List, Some, length, IsTrue, IsErrOf, OnOk, OnErr, ◌++◌, if◌then◌else◌};
+ghost use Rattle.djvu_base.specs.Meter.{ticked_once};
 ghost use Rattle.djvu_outside.specs.Calls.{is_failing, after_call};
 ghost use Rattle.djvu_outside.specs.Faults.{SinkCounts};
 ghost use Rattle.djvu_outside.specs.Reading.{Puts};
-ghost use Rattle.djvu_outside.specs.Sinks.{new_bytes, one_more};
+ghost use Rattle.djvu_outside.specs.Sinks.{new_bytes};
 
 use crate::calls::Calls;
 use crate::faults::SinkFault;
@@ -62,7 +63,7 @@ impl Sink for MemorySink {
         ensures fails { IsErrOf result SinkFault.Failed ↔ IsTrue (is_failing self.old.calls) }
         ensures ok { OnOk result (self.new.given ≡ self.old.given ++ piece.now) }
         ensures err { OnErr result (self.new.given ≡ self.old.given) }
-        ensures faults { self.new.faults ≡ (if is_failing self.old.calls then one_more self.old.faults else self.old.faults) }
+        ensures faults { self.new.faults ≡ (if is_failing self.old.calls then ticked_once self.old.faults else self.old.faults) }
         ensures calls { self.new.calls ≡ after_call self.old.calls }
     {
         if self.calls.fails() {

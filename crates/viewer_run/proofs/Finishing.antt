@@ -5,7 +5,7 @@ use Rattle.zp_table.specs.declared.rows.Row.{Row}
 use Rattle.layer_compose.specs.declared.layers.Layers.{Layers}
 use Rattle.page_decoder.specs.Reading.{Notice, Ending, Finished, Fault, NeedBytes, Reading, reading}
 use Rattle.page_decoder.specs.Found.{last_layers}
-use Rattle.viewer_run.specs.Lines.{raster_text}
+use Rattle.viewer_run.specs.Rasters.{raster_text}
 use Rattle.viewer_run.specs.Texts.{raster_of, texts_at, lines_of, texts_of_reading, texts_of_file}
 
 last_there : (notices : List Notice) → notices ≢ [] → (layers : Layers) × (last_layers notices ≡ Some layers)

@@ -1,4 +1,4 @@
--- Pages that are drawn behind others.
+-- Pages that are drawn after others.
 use Rattle.std.proofs.Common.{◌≡◌, ℕ, zero, suc, ◌+◌, Bool, true, false, cond, ◌||◌, Option, Some, None, Result, Ok, Err, IsErr, IfOk, List, [], ◌∷◌, ◌++◌, length, take, drop, get_or, zero-add, ◌<◌, refl, sym, ap, ◌∙◌, subst, arith, append_assoc}
 use Rattle.std.specs.Str.{bytes_eq}
 use Rattle.std.proofs.lemmas.Bool.{true≢false}
@@ -8,21 +8,22 @@ use Rattle.djvu_base.specs.Library.{Files, Whole, file_limit}
 use Rattle.djvu_outside.specs.Faults.{Failure, Listing, Reading}
 use Rattle.djvu_outside.specs.Reading.{bytes_in, HasFile}
 use Rattle.viewer_run.specs.declared.pages.Shown.{Shown}
-use Rattle.viewer_run.specs.declared.stop.Stop.{Stop}
-use Rattle.viewer_run.specs.Cut.{first_entry, cut_at}
+use Rattle.djvu_outside.specs.declared.stops.Stop.{Stop}
+use Rattle.djvu_outside.specs.Cut.{first_entry, cut_at}
 use Rattle.viewer_run.specs.Shown.{lists_first, texts_of_pages, file_of, NamesOnly, HasBroken, Shows, both, HasFiles, AreDistinct, BrokenCounts}
 use Rattle.viewer_run.specs.Texts.{Texts, no_texts, joined}
 use Rattle.viewer_run.specs.declared.front.Mode.{Mode}
-use Rattle.viewer_run.specs.Front.{is_listed}
+use Rattle.djvu_base.specs.Name.{is_listed}
 use Rattle.viewer_run.specs.Offline.{texts_by}
-use Rattle.viewer_run.specs.Outcome.{Gives, Ticks}
-use Rattle.viewer_run.proofs.Parts.{delivers_behind, grows_within_more}
-use Rattle.viewer_run.proofs.Ticking.{ticks_behind, ticks_before, ticks_of}
+use Rattle.djvu_outside.specs.Parts.{Gives, Ticks}
+use Rattle.djvu_base.proofs.Ticks.{ticks_none}
+use Rattle.djvu_outside.proofs.Lemmas.{delivers_after, gives_more, gives_same}
+use Rattle.djvu_outside.proofs.Lemmas.{ticks_after, ticks_before, ticks_of}
 
-entry_behind : (a b : List Failure) (name : List ℕ) → first_entry a name ≡ None → first_entry (a ++ b) name ≡ first_entry b name
-entry_behind [] b name e = refl
-entry_behind (Listing ∷ a) b name e = entry_behind a b name e
-entry_behind (Reading other count ∷ a) b name e = by (bytes_eq name other) e (entry_behind a b name)
+entry_after : (a b : List Failure) (name : List ℕ) → first_entry a name ≡ None → first_entry (a ++ b) name ≡ first_entry b name
+entry_after [] b name e = refl
+entry_after (Listing ∷ a) b name e = entry_after a b name e
+entry_after (Reading other count ∷ a) b name e = by (bytes_eq name other) e (entry_after a b name)
   where
     by : (t : Bool) → cond t (Some count) (first_entry a name) ≡ None → (first_entry a name ≡ None → first_entry (a ++ b) name ≡ first_entry b name) → cond t (Some count) (first_entry (a ++ b) name) ≡ first_entry b name
     by true e on = cc
@@ -65,7 +66,7 @@ texts_same mode files a b name (first ∷ names) only other =
     ∙ ap (λ t. joined (texts_by mode (file_of files a first)) t) (texts_same mode files a b name names only (or_second (bytes_eq name first) (is_listed names name) other))
 
 page_same : (mode : Mode) (files : Files) (a b : List Failure) (name : List ℕ) → first_entry a name ≡ None → texts_of_pages mode files (a ++ b) (name ∷ []) ≡ texts_of_pages mode files b (name ∷ [])
-page_same mode files a b name e = ap (λ f. joined (texts_by mode f) no_texts) (file_same files (a ++ b) b name (entry_behind a b name e))
+page_same mode files a b name e = ap (λ f. joined (texts_by mode f) no_texts) (file_same files (a ++ b) b name (entry_after a b name e))
 
 or_assoc : (a b c : Bool) → ((a || b) || c) ≡ (a || (b || c))
 or_assoc true b c = refl
@@ -75,7 +76,7 @@ or_assoc false b c = refl
 abbrev with_work : Texts → ℕ → Texts
 with_work texts work = record { out = texts.out; report = texts.report; refused = texts.refused; work = work }
 
--- the texts of some pages and of others behind them
+-- the texts of some pages and of others after them
 texts_append : (mode : Mode) (files : Files) (f : List Failure) (xs ys : List (List ℕ)) → texts_of_pages mode files f (xs ++ ys) ≡ joined (texts_of_pages mode files f xs) (texts_of_pages mode files f ys)
 texts_append mode files f [] ys = ap (with_work (texts_of_pages mode files f ys)) (sym (zero-add (texts_of_pages mode files f ys).work))
 texts_append mode files f (x ∷ xs) ys =
@@ -98,20 +99,12 @@ any_append name (x ∷ xs) ys e =
     let rest = any_append name xs ys (or_second (bytes_eq name x) (is_listed (xs ++ ys) name) e) in
     (or_both (bytes_eq name x) (is_listed xs name) (or_first (bytes_eq name x) (is_listed (xs ++ ys) name) e) rest.0, rest.1)
 
--- a text behind one that was put
-gives_behind : (result : Result Shown Stop) (all : Shown) (o0 o1 o2 : Option (List ℕ)) (first last : List ℕ) → Gives {T = Shown} (Ok all) o0 o1 first → Gives result o1 o2 last → Gives result o0 o2 (first ++ last)
-gives_behind result all o0 o1 o2 first last g h before given =
+-- a text after one that was put
+gives_after : (result : Result Shown Stop) (all : Shown) (o0 o1 o2 : Option (List ℕ)) (first last : List ℕ) → Gives {T = Shown} (Ok all) o0 o1 first → Gives result o1 o2 last → Gives result o0 o2 (first ++ last)
+gives_after result all o0 o1 o2 first last g h before given =
     let mid = g before given in
     let end = h mid.0 mid.1 in
-    (end.0, end.1, delivers_behind result before first mid.0 last end.0 mid.2 end.2)
-
--- what stops in front of further text gave a front of it all
-gives_longer : (result : Result Shown Stop) → IsErr result → (old new : Option (List ℕ)) (text more : List ℕ) → Gives result old new text → Gives result old new (text ++ more)
-gives_longer (Ok drawn) is_err old new text more g = absurd (cc)
-gives_longer (Err stop) is_err old new text more g = λ before given. let there = g before given in (there.0, there.1, grows_within_more before text more there.0 there.2)
-
-gives_text : (result : Result Shown Stop) (old new : Option (List ℕ)) (text other : List ℕ) → text ≡ other → Gives result old new text → Gives result old new other
-gives_text result old new text other e g = subst (λ t. Gives result old new t) e g
+    (end.0, end.1, delivers_after result before first mid.0 last end.0 mid.2 end.2)
 
 -- the results of both
 abbrev pub result_with : Shown → Result Shown Stop → Result Shown Stop
@@ -132,12 +125,12 @@ broken_both true y (e ∷ a) b h k = λ s. cc
 broken_both false true a b h k = λ s. k (ap (λ l. l ++ b) (sym h) ∙ s)
 broken_both false false a b h k = ap (λ l. l ++ b) h ∙ k
 
-both_behind : (a b : List Failure) → lists_first a ≡ false → lists_first b ≡ false → lists_first (a ++ b) ≡ false
-both_behind [] b e h = h
-both_behind (Listing ∷ a) b e h = absurd (true≢false e)
-both_behind (Reading name count ∷ a) b e h = refl
+both_after : (a b : List Failure) → lists_first a ≡ false → lists_first b ≡ false → lists_first (a ++ b) ≡ false
+both_after [] b e h = h
+both_after (Listing ∷ a) b e h = absurd (true≢false e)
+both_after (Reading name count ∷ a) b e h = refl
 
--- one page behind others
+-- one page after others
 pub shows_more : (mode : Mode) (files : Files) (names : List (List ℕ)) (name : List ℕ) (all : Shown) (result : Result Shown Stop) (f0 f1 f2 : List Failure) (o0 o1 o2 r0 r1 r2 : Option (List ℕ)) (m0 m1 m2 : ℕ)
     → Shows mode files names (Ok all) f0 f1 o0 o1 r0 r1 m0 m1 → Shows mode files (name ∷ []) result f1 f2 o1 o2 r1 r2 m1 m2 → is_listed names name ≡ false → Shows mode files (names ++ name ∷ []) (result_with all result) f0 f2 o0 o2 r0 r2 m0 m2
 shows_more mode files names name all result f0 f1 f2 o0 o1 o2 r0 r1 r2 m0 m1 m2 d e other =
@@ -151,10 +144,10 @@ shows_more mode files names name all result f0 f1 f2 o0 o1 o2 r0 r1 r2 m0 m1 m2 
       added = a ++ b;
       grown = e.grown ∙ ap (λ f. f ++ b) d.grown ∙ append_assoc f0 a b;
       only = λ n h. let apart = any_append n names (name ∷ []) h in entry_before a b n (e.only n apart.1) ∙ d.only n apart.0;
-      behind = both_behind a b d.behind e.behind;
-      out = gives_with all result o0 o2 _ (gives_text result o0 o2 _ _ (sym (ap (λ (t : Texts). t.out) whole)) (gives_behind result all o0 o1 o2 (texts_of_pages mode files a names).out (texts_of_pages mode files b (name ∷ [])).out d.out e.out));
-      report = gives_with all result r0 r2 _ (gives_text result r0 r2 _ _ (sym (ap (λ (t : Texts). t.report) whole)) (gives_behind result all r0 r1 r2 (texts_of_pages mode files a names).report (texts_of_pages mode files b (name ∷ [])).report d.report e.report));
-      ticks = ticks_with all result _ m0 m2 (ticks_of result _ _ m0 m2 (sym (ap (λ (t : Texts). t.work) whole)) (ticks_behind result (texts_of_pages mode files a names).work (texts_of_pages mode files b (name ∷ [])).work m0 m1 m2 d.ticks e.ticks));
+      after = both_after a b d.after e.after;
+      out = gives_with all result o0 o2 _ (gives_same result o0 o2 _ _ (sym (ap (λ (t : Texts). t.out) whole)) (gives_after result all o0 o1 o2 (texts_of_pages mode files a names).out (texts_of_pages mode files b (name ∷ [])).out d.out e.out));
+      report = gives_with all result r0 r2 _ (gives_same result r0 r2 _ _ (sym (ap (λ (t : Texts). t.report) whole)) (gives_after result all r0 r1 r2 (texts_of_pages mode files a names).report (texts_of_pages mode files b (name ∷ [])).report d.report e.report));
+      ticks = ticks_with all result _ m0 m2 (ticks_of result _ _ m0 m2 (sym (ap (λ (t : Texts). t.work) whole)) (ticks_after result (texts_of_pages mode files a names).work (texts_of_pages mode files b (name ∷ [])).work m0 m1 m2 d.ticks e.ticks));
       refused = by_refused result e.refused (ap (λ (t : Texts). t.refused) whole);
       broken = by_broken result e.broken;
     }
@@ -177,9 +170,9 @@ shows_stopped mode files names more result f0 f1 o0 o1 r0 r1 m0 m1 is_err d =
       added = d.added;
       grown = d.grown;
       only = λ n h. d.only n (any_append n names more h).0;
-      behind = d.behind;
-      out = gives_text result o0 o1 _ _ (sym (ap (λ (t : Texts). t.out) whole)) (gives_longer result is_err o0 o1 (texts_of_pages mode files d.added names).out (texts_of_pages mode files d.added more).out d.out);
-      report = gives_text result r0 r1 _ _ (sym (ap (λ (t : Texts). t.report) whole)) (gives_longer result is_err r0 r1 (texts_of_pages mode files d.added names).report (texts_of_pages mode files d.added more).report d.report);
+      after = d.after;
+      out = gives_same result o0 o1 _ _ (sym (ap (λ (t : Texts). t.out) whole)) (gives_more result is_err o0 o1 (texts_of_pages mode files d.added names).out (texts_of_pages mode files d.added more).out d.out);
+      report = gives_same result r0 r1 _ _ (sym (ap (λ (t : Texts). t.report) whole)) (gives_more result is_err r0 r1 (texts_of_pages mode files d.added names).report (texts_of_pages mode files d.added more).report d.report);
       ticks = ticks_of result _ _ m0 m1 (sym (ap (λ (t : Texts). t.work) whole)) (ticks_before result (texts_of_pages mode files d.added names).work (texts_of_pages mode files d.added more).work m0 m1 is_err d.ticks);
       refused = stopped result is_err;
       broken = stopped_broken result is_err;
@@ -199,10 +192,10 @@ shows_none mode files f o r m = record {
   added = [];
   grown = sym (append-nil f);
   only = λ n h. refl;
-  behind = refl;
+  after = refl;
   out = λ before given. (before, given, sym (append-nil before));
   report = λ before given. (before, given, sym (append-nil before));
-  ticks = refl;
+  ticks = ticks_none _;
   refused = refl;
   broken = refl;
 }

@@ -1,10 +1,18 @@
-pub mod Informing
-pub mod Joining
-pub mod Showing
-pub mod Parts
-pub mod Rows
-pub mod Ticking
-pub mod Starting
-pub mod Running
-pub mod Working
-pub mod Finishing
+-- the chunks of a file, in lines: `info_of`
+mod Informing
+-- blocks of rows: `put_raster`
+mod Rows
+-- meters that are only ticked: `only_ticks`, `never_falls`
+mod Ticking
+-- the texts of one page: `show_page`
+mod Showing
+-- one page after others: `show_pages`
+mod Joining
+-- what stands before the pages: `find_front`
+mod Starting
+-- a whole run: `run`, `laws::sound_folders`
+mod Running
+-- `laws::work_is_decisions`
+mod Working
+-- `laws::unrefused_pages_are_drawn`
+mod Finishing

@@ -5,13 +5,12 @@ use Rattle.std.proofs.lemmas.Bool.{true≢false}
 use Rattle.std.proofs.lemmas.List.{append-nil}
 use Rattle.std.proofs.lemmas.Slice.Eq.{bytes_eq-Decides}
 use Rattle.djvu_base.specs.Library.{File, Files, Library, Whole, contents_of, file_named, library_within, library_of, file_limit}
-use Rattle.djvu_outside.specs.declared.faults.Status.{Status}
+use Rattle.djvu_outside.specs.declared.stops.Status.{Status}
 use Rattle.djvu_outside.specs.Faults.{Failure, Listing, Reading}
 use Rattle.djvu_outside.specs.Reading.{HasFile, bytes_in, GrowsWithin}
-use Rattle.jb2_numbers.specs.Number.{ticked}
 use Rattle.viewer_words.specs.declared.commands.Command.{Command}
 use Rattle.viewer_words.specs.declared.commands.Command.TheVariants as command
-use Rattle.viewer_words.specs.declared.commands.TableChoice.TheVariants as choice
+use Rattle.viewer_words.specs.Files.{NamedFile, named_files}
 use Rattle.viewer_words.specs.Words.{words_of}
 use Rattle.viewer_run.specs.declared.front.Front.{Front}
 use Rattle.viewer_run.specs.declared.front.Front.TheVariants as front
@@ -20,19 +19,22 @@ use Rattle.viewer_run.specs.declared.front.Mode.TheVariants as mode
 use Rattle.viewer_run.specs.declared.tables.Chosen.{Chosen}
 use Rattle.viewer_run.specs.declared.tables.Chosen.TheVariants as chosen
 use Rattle.viewer_run.specs.declared.pages.Shown.{Shown}
-use Rattle.viewer_run.specs.declared.stop.Stop.{Stop}
-use Rattle.viewer_run.specs.declared.stop.Stop.TheVariants as stop
-use Rattle.viewer_run.specs.Cut.{first_entry, cut_at, cut_file, cut, front_may_fail, front_failed, names_table, names_page, NamesRead}
-use Rattle.viewer_run.specs.Front.{front_of, is_listed, line_by_names, refused_or, table_of, front_by_table, front_of_draw, front_of_info, front_of_command, front_by_words, names_in}
+use Rattle.djvu_outside.specs.declared.stops.Stop.{Stop}
+use Rattle.djvu_outside.specs.declared.stops.Stop.TheVariants as stop
+use Rattle.djvu_outside.specs.Cut.{first_entry, cut_at, cut_file, cut}
+use Rattle.viewer_run.specs.EarlyFailures.{front_may_fail, front_failed, names_table, names_page, NamesRead}
+use Rattle.viewer_run.specs.Front.{front_of, line_by_names, refused_or, table_of, front_by_table, front_of_draw, front_of_info, front_of_command, front_by_words, names_in}
+use Rattle.djvu_base.specs.Name.{is_listed}
 use Rattle.viewer_run.specs.Offline.{Written, texts_by, texts_of_found, texts_of_names, written, written_by, offline, with_failures, written_cut, nothing_written, IsOutcome, MayFailSo}
-use Rattle.viewer_run.specs.Outcome.{Gives, NeverFolder, SinkStops}
+use Rattle.djvu_outside.specs.Parts.{Gives, NeverFolder, SinkStops}
 use Rattle.viewer_run.specs.Runs.{EndsSo, Gets, GoesOnFrom, Runs, Run}
 use Rattle.viewer_run.specs.Shown.{HasFiles, HasBroken, NamesOnly, Shows, file_of, lists_first, texts_of_pages, status_shown}
 use Rattle.viewer_run.specs.Start.{StartsFor}
-use Rattle.viewer_run.specs.Status.{status_of}
+use Rattle.djvu_outside.specs.Parts.{status_of}
 use Rattle.viewer_run.specs.Texts.{Texts, joined}
-use Rattle.viewer_run.proofs.Parts.{nothing_put}
-use Rattle.viewer_run.proofs.Ticking.{no_ticks}
+use Rattle.djvu_base.specs.Meter.{TicksExactly, TicksAtMost}
+use Rattle.djvu_base.proofs.Ticks.{at_most_none}
+use Rattle.djvu_outside.proofs.Lemmas.{no_ticks, nothing_cut, nothing_put, whole_grows}
 
 -- the pages of a front that is accepted
 abbrev PagesAre : List (List ℕ) → Front → Type 0
@@ -88,21 +90,21 @@ pages_by_table : (table : Chosen) (pages : List (List ℕ)) → PagesAre pages (
 pages_by_table (chosen.Table rows) pages = refl
 pages_by_table (chosen.Refused fault) pages = tt
 
-pages_of_command : (library : Library) (count : ℕ) (asked : Command) (pages : List (List ℕ)) → pages_of asked ≡ pages → PagesAre pages (front_of_command library count asked)
-pages_of_command library count (command.Draw table asked) pages e =
-    subst (λ p. PagesAre p (front_of_draw library count table asked)) e
-    (pages_by_line (line_by_names (names_in library) count table asked) (front_by_table (table_of library table) asked) asked (pages_by_table (table_of library table) asked))
-pages_of_command library count (command.Info asked) pages e =
-    subst (λ p. PagesAre p (front_of_info library count asked)) e
-    (pages_by_line (line_by_names (names_in library) count choice.Djvu asked) (front.Accepted mode.Info asked) asked refl)
+pages_of_command : (library : Library) (files : List NamedFile) (asked : Command) (pages : List (List ℕ)) → pages_of asked ≡ pages → PagesAre pages (front_of_command library files asked)
+pages_of_command library files (command.Draw table asked) pages e =
+    subst (λ p. PagesAre p (front_of_draw library files table asked)) e
+    (pages_by_line (line_by_names (names_in library) files) (front_by_table (table_of library table) asked) asked (pages_by_table (table_of library table) asked))
+pages_of_command library files (command.Info asked) pages e =
+    subst (λ p. PagesAre p (front_of_info library files asked)) e
+    (pages_by_line (line_by_names (names_in library) files) (front.Accepted mode.Info asked) asked refl)
 
 -- a page that is shown is one that the words name
 named_page : (library : Library) (words names : List (List ℕ)) (how : Mode) (name : List ℕ) → front.Accepted how names ≡ front_of library words → names_page (words_of words) name ≡ is_listed names name
 named_page library words names how name = by (words_of words)
   where
-    by : (r : Result Command ℕ) → front.Accepted how names ≡ front_by_words library (length words) r → names_page r name ≡ is_listed names name
-    by (Ok (command.Draw table pages)) e = ap (λ l. is_listed l name) (sym (pages_accepted (front_of_draw library (length words) table pages) how names pages (pages_of_command library (length words) (command.Draw table pages) pages refl) e))
-    by (Ok (command.Info pages)) e = ap (λ l. is_listed l name) (sym (pages_accepted (front_of_info library (length words) pages) how names pages (pages_of_command library (length words) (command.Info pages) pages refl) e))
+    by : (r : Result Command ℕ) → front.Accepted how names ≡ front_by_words library (named_files words) r → names_page r name ≡ is_listed names name
+    by (Ok (command.Draw table pages)) e = ap (λ l. is_listed l name) (sym (pages_accepted (front_of_draw library (named_files words) table pages) how names pages (pages_of_command library (named_files words) (command.Draw table pages) pages refl) e))
+    by (Ok (command.Info pages)) e = ap (λ l. is_listed l name) (sym (pages_accepted (front_of_info library (named_files words) pages) how names pages (pages_of_command library (named_files words) (command.Info pages) pages refl) e))
     by (Err number) e = cc
 
 and_not : (a b : Bool) → b ≡ true → (a && not b) ≡ false
@@ -150,9 +152,6 @@ status_of_all shown failures texts broken refused = by shown.broken shown.refuse
         status_so false true e = absurd (true≢false (sym e))
     by false r (entry ∷ failures) h e = cc
 
-gives_same : {T : Type 0} (result : Result T Stop) (old new : Option (List ℕ)) (text other : List ℕ) → text ≡ other → Gives result old new text → Gives result old new other
-gives_same {T = T} result old new text other e g = subst (λ t. Gives {T = T} result old new t) e g
-
 or_second : (a b : Bool) → (a || b) ≡ false → b ≡ false
 or_second true b e = absurd (true≢false e)
 or_second false b e = e
@@ -179,7 +178,7 @@ pub runs_shown : (files : Files) (words names : List (List ℕ)) (mode : Mode) (
 runs_shown files words names mode result shown status f0 f1 f2 o0 o1 r0 r1 m0 m1 front has same shows ok is =
     let s : Shows mode files names (Ok shown) f1 f2 o0 o1 r0 r1 m0 m1 = subst (λ r. Shows mode files names r f1 f2 o0 o1 r0 r1 m0 m1) ok shows in
     let texts = texts_of_pages mode files s.added names in
-    let late = not_front (library_of files) words names mode s.added front s.only s.behind in
+    let late = not_front (library_of files) words names mode s.added front s.only s.after in
     record {
       added = s.added;
       grown = s.grown ∙ ap (λ f. f ++ s.added) same;
@@ -190,7 +189,7 @@ runs_shown files words names mode result shown status f0 f1 f2 o0 o1 r0 r1 m0 m1
       out = λ before given. let put = s.out before given in (put.0, put.1, put.2 ∙ ap (λ t. before ++ t) (sym (out_with s.added (written texts))));
       report = λ before given. let put = s.report before given in (put.0, put.1, put.2 ∙ ap (λ t. before ++ t) (sym (report_with s.added (written texts))));
       status = is ∙ status_of_all shown s.added texts s.broken s.refused;
-      ticks = s.ticks ∙ ap (λ n. ticked n m0) (sym (work_with s.added (written texts)));
+      ticks = subst (λ n. TicksExactly n m0 m1) (sym (work_with s.added (written texts))) s.ticks;
       nothing = λ e. cc;
     }
 
@@ -209,7 +208,7 @@ pub runs_stopped : (files : Files) (words names : List (List ℕ)) (mode : Mode)
 runs_stopped files words names mode pages result fault f0 f1 f2 o0 o1 r0 r1 m0 m1 front has same shows err other is =
     let s : Shows mode files names (Err fault) f1 f2 o0 o1 r0 r1 m0 m1 = subst (λ r. Shows mode files names r f1 f2 o0 o1 r0 r1 m0 m1) err shows in
     let texts = texts_of_pages mode files s.added names in
-    let late = not_front (library_of files) words names mode s.added front s.only s.behind in
+    let late = not_front (library_of files) words names mode s.added front s.only s.after in
     subst (λ r. Runs files words r f0 f2 o0 o1 r0 r1 m0 m1) (sym is) (record {
       added = s.added;
       grown = s.grown ∙ ap (λ f. f ++ s.added) same;
@@ -220,7 +219,7 @@ runs_stopped files words names mode pages result fault f0 f1 f2 o0 o1 r0 r1 m0 m
       out = λ before given. let put = s.out before given in (put.0, put.1, subst (λ t. GrowsWithin before t put.0) (sym (out_with s.added (written texts))) put.2);
       report = λ before given. let put = s.report before given in (put.0, put.1, subst (λ t. GrowsWithin before t put.0) (sym (report_with s.added (written texts))) put.2);
       status = (not_folder fault other words s.added (with_failures s.added (written texts)).status).1;
-      ticks = (s.ticks.0, subst (λ n. s.ticks.0 ≤ n) (sym (work_with s.added (written texts))) s.ticks.1, s.ticks.2);
+      ticks = subst (λ n. TicksAtMost n m0 m1) (sym (work_with s.added (written texts))) s.ticks;
       nothing = λ e. absurd (other (err_same fault stop.Folder e));
     })
 
@@ -274,7 +273,7 @@ runs_early files words front fault result f0 f1 o r m e starts is = subst (λ x.
       out = λ before given. (before, given, ([], [], refl, sym (append-nil before)));
       report = λ before given. (before, given, ([], [], refl, sym (append-nil before)));
       status = refl;
-      ticks = (0, omega arith, refl);
+      ticks = at_most_none 0 m;
       nothing = λ e. (refl, refl, refl);
     }
     by stop.Sink l = absurd l
@@ -288,7 +287,7 @@ runs_early files words front fault result f0 f1 o r m e starts is = subst (λ x.
       out = λ before given. (before, given, ([], (written_cut [] (library_of files) words).out, refl, sym (append-nil before)));
       report = λ before given. (before, given, ([], (written_cut [] (library_of files) words).report, refl, sym (append-nil before)));
       status = tt;
-      ticks = (0, omega arith, refl);
+      ticks = at_most_none (written_cut [] (library_of files) words).work m;
       nothing = λ e. cc;
     }
 
@@ -299,10 +298,6 @@ cancel (x ∷ a) b c e = let rest : a ++ b ≡ a ++ c = cc in cancel a b c rest
 -- the failures that were met are those by which the list grew
 pub same_added : (old new a b : List Failure) → new ≡ old ++ a → new ≡ old ++ b → a ≡ b
 same_added old new a b e f = cancel old a b (sym e ∙ f)
-
--- all of a text is a front of it
-whole_grows : (before text after : List ℕ) → after ≡ before ++ text → GrowsWithin before text after
-whole_grows before text after e = (text, [], sym (append-nil text), e)
 
 no_part : (part rest : List ℕ) → [] ≡ part ++ rest → part ≡ []
 no_part [] rest e = refl
@@ -356,10 +351,6 @@ run_stopped files words fault status f0 f1 o0 o1 r0 r1 m0 m1 e r =
 pub same_line : (line other : List ℕ) → front.Refused line ≡ front.Refused other → line ≡ other
 same_line line other e = cc
 
--- a part that stops and puts nothing
-pub gives_none : (result : Result Status Stop) (fault : Stop) (told : Option (List ℕ)) (text : List ℕ) → result ≡ Err fault → Gives result told told text
-gives_none result fault told text e = subst (λ r. Gives {T = Status} r told told text) (sym e) (λ before given. (before, given, ([], text, refl, sym (append-nil before))))
-
 -- a text that was put, by the status
 pub gets_all : (status : Status) (old new : Option (List ℕ)) (text : List ℕ) → Gives {T = Status} (Ok status) old new text → Gets status.0 old new text
 gets_all status old new text gives = λ before given. let put = gives before given in (put.0, put.1, (λ below. put.2), whole_grows before text put.0 put.2)
@@ -372,17 +363,7 @@ gets_front fault status old new text e other gives = λ before given. let put = 
 pub front_stops : (files : Files) (words : List (List ℕ)) (status : Status) (f0 f1 : List Failure) (o0 o1 r0 r1 : Option (List ℕ)) (m0 m1 : ℕ) (added : List Failure) → Runs files words (Ok status) f0 f1 o0 o1 r0 r1 m0 m1 → f1 ≡ f0 ++ added → front_failed words added ≡ true → ⊥
 front_stops files words status f0 f1 o0 o1 r0 r1 m0 m1 added r grown failed = true≢false (sym failed ∙ ap (front_failed words) (same_added f0 f1 added r.added grown r.grown) ∙ r.goes_on)
 
-pub nothing_cut : (library : Library) → cut [] library ≡ library
-nothing_cut [] = refl
-nothing_cut (file ∷ library) = ap (λ l. file ∷ l) (nothing_cut library)
-
 -- where nothing failed
 pub sound_outcome : (library : Library) (words : List (List ℕ)) (texts : Written) → IsOutcome [] library words texts → texts ≡ offline library words
 sound_outcome library words texts (inl early) = absurd (true≢false (sym early.0))
 sound_outcome library words texts (inr late) = late.2 ∙ ap (λ l. written_by l (front_of library words)) (nothing_cut library)
-
-pub never_folder : {T : Type 0} (result : Result T Stop) (fault : Stop) → NeverFolder result → result ≡ Err fault → (fault ≡ stop.Folder → ⊥)
-never_folder {T = T} result fault h e f = subst (λ r. NeverFolder {T = T} r) (e ∙ ap Err f) h
-
-pub sink_only : {T : Type 0} (result : Result T Stop) (before after : ℕ) → SinkStops result before after → (result ≡ Err stop.Folder → ⊥)
-sink_only {T = T} result before after h e = subst (λ r. SinkStops {T = T} r before after) e h

@@ -8,25 +8,29 @@ use Rattle.djvu_base.specs.Library.{File, Files, Whole, Broken, file_limit}
 use Rattle.djvu_outside.specs.Faults.{Failure, Reading}
 use Rattle.djvu_outside.specs.Reading.{bytes_in}
 use Rattle.viewer_run.specs.declared.pages.Shown.{Shown}
-use Rattle.page_decoder.specs.declared.ends.FileEnd.{FileEnd}
-use Rattle.page_decoder.specs.declared.ends.FileEnd.TheVariants as file_end
+use Rattle.djvu_base.specs.declared.ends.FileEnd.{FileEnd}
+use Rattle.djvu_base.specs.declared.ends.FileEnd.TheVariants as file_end
 use Rattle.page_decoder.specs.declared.reading.PageReading.{PageReading}
-use Rattle.viewer_run.specs.declared.stop.Stop.{Stop}
-use Rattle.viewer_run.specs.Came.{IsReadTo}
-use Rattle.viewer_run.specs.Cut.{cut_at}
+use Rattle.djvu_outside.specs.declared.stops.Stop.{Stop}
+use Rattle.djvu_outside.specs.FileReads.{IsReadTo}
+use Rattle.djvu_outside.specs.Cut.{cut_at}
 use Rattle.viewer_run.specs.Shown.{lists_first, file_of, file_read, texts_of_pages, NamesOnly, HasBroken, Shows}
 use Rattle.viewer_run.specs.declared.front.Mode.{Mode}
 use Rattle.iff_chunks.specs.Chunks.{Tail, InHead, InHeader, InData, InPad, FormEnd, Broken as BrokenOff, chunks_of}
 use Rattle.viewer_run.specs.Info.{fault_text, info_of_file}
 use Rattle.viewer_run.specs.Offline.{texts_by}
 use Rattle.viewer_run.specs.Texts.{Texts, no_texts, joined, raster_of, lines_of, lines_told, texts_at, texts_found, texts_of_reading, texts_of_file}
-use Rattle.viewer_run.specs.Outcome.{Gives, Ticks}
-use Rattle.page_decoder.specs.Ends.{mark_of, is_broken, ending}
+use Rattle.djvu_outside.specs.Parts.{Gives, Ticks}
+use Rattle.djvu_base.specs.Library.{mark_of}
+use Rattle.djvu_outside.specs.FileReads.{is_broken}
+use Rattle.page_decoder.specs.Ends.{ending}
 use Rattle.page_decoder.specs.Found.{IsReading, drawn, last_layers}
-use Rattle.page_decoder.specs.Reading.{Notice, Ending, Finished, Fault, NeedBytes, Reading as PageResult, reading, closed}
+use Rattle.iff_chunks.specs.Ends.{closed}
+use Rattle.page_decoder.specs.Reading.{Notice, Ending, Finished, Fault, NeedBytes, Reading as PageResult, reading}
 use Rattle.layer_compose.specs.Drawing.{sum_of}
 use Rattle.viewer_words.specs.Lines.{notice_line}
-use Rattle.viewer_run.proofs.Ticking.{ticks_of}
+use Rattle.djvu_base.proofs.Ticks.{at_most_none}
+use Rattle.djvu_outside.proofs.Lemmas.{gives_same, ticks_of}
 use Rattle.zp_table.specs.declared.rows.Row.{Row}
 
 pub same_name : (name : List ℕ) → bytes_eq name name ≡ true
@@ -37,7 +41,7 @@ pub record IsReadWith (files : Files) (name bytes : List ℕ) (end : FileEnd) (o
   pub added : List Failure
   pub grown : new ≡ old ++ added
   pub only : NamesOnly (name ∷ []) added
-  pub behind : lists_first added ≡ false
+  pub after : lists_first added ≡ false
   pub file : file_of files added name ≡ record { name = name; bytes = bytes; mark = mark_of end }
   pub broken : HasBroken (is_broken end) added
 
@@ -50,7 +54,7 @@ read_with files name bytes file_end.Whole old new r = record {
   added = [];
   grown = r.1 ∙ sym (append-nil old);
   only = λ other e. refl;
-  behind = refl;
+  after = refl;
   file = ap (λ b. let f : File = record { name = name; bytes = b; mark = Whole } in f) (sym r.0);
   broken = refl;
 }
@@ -59,7 +63,7 @@ read_with files name bytes file_end.Broken old new r =
     record {
       added = Reading name (length bytes) ∷ [];
       grown = r.1 ∙ ap (λ n. old ++ Reading name n ∷ []) count;
-      behind = refl;
+      after = refl;
       only = λ other e. not_other (bytes_eq other name) (length bytes) e;
       file =
           ap (λ t. cut_at (cond t (Some (length bytes)) None) (record { name = name; bytes = take file_limit (bytes_in files name); mark = Whole })) (same_name name)
@@ -72,10 +76,7 @@ page_texts : (mode : Mode) (files : Files) (name bytes : List ℕ) (end : FileEn
     → texts_of_pages mode files w.added (name ∷ []) ≡ joined (texts_by mode (file_read name bytes end)) no_texts
 page_texts mode files name bytes end old new w = ap (λ f. joined (texts_by mode f) no_texts) w.file
 
-same_texts : {T : Type 0} (result : Result T Stop) (old new : Option (List ℕ)) (text other : List ℕ) → text ≡ other → Gives result old new text → Gives result old new other
-same_texts {T = T} result old new text other e g = subst (λ t. Gives {T = T} result old new t) e g
-
--- a page that was put, or a front of it
+-- a page that was put, or a prefix of it
 pub shows_page : (mode : Mode) (files : Files) (name bytes : List ℕ) (end : FileEnd) (old new : List Failure) (put : Result Bool Stop) (result : Result Shown Stop) (old_out new_out old_report new_report : Option (List ℕ)) (m0 m1 : ℕ)
     → IsReadWith files name bytes end old new
     → ((text : List ℕ) → Gives put old_out new_out text → Gives result old_out new_out text) → ((text : List ℕ) → Gives put old_report new_report text → Gives result old_report new_report text)
@@ -90,9 +91,9 @@ shows_page mode files name bytes end old new put result old_out new_out old_repo
       added = w.added;
       grown = w.grown;
       only = w.only;
-      behind = w.behind;
-      out = same_texts result old_out new_out here.out (texts_of_pages mode files w.added (name ∷ [])).out (sym (ap (λ (t : Texts). t.out) texts ∙ append-nil here.out)) (outs here.out gave);
-      report = same_texts result old_report new_report here.report (texts_of_pages mode files w.added (name ∷ [])).report (sym (ap (λ (t : Texts). t.report) texts ∙ append-nil here.report)) (reports here.report told);
+      after = w.after;
+      out = gives_same result old_out new_out here.out (texts_of_pages mode files w.added (name ∷ [])).out (sym (ap (λ (t : Texts). t.out) texts ∙ append-nil here.out)) (outs here.out gave);
+      report = gives_same result old_report new_report here.report (texts_of_pages mode files w.added (name ∷ [])).report (sym (ap (λ (t : Texts). t.report) texts ∙ append-nil here.report)) (reports here.report told);
       ticks = ticks_of result here.work (texts_of_pages mode files w.added (name ∷ [])).work m0 m1 (sym (ap (λ (t : Texts). t.work) texts ∙ add-zero here.work)) ticks;
       refused = by_refused result done;
       broken = by_broken result done;
@@ -117,10 +118,10 @@ shows_nothing mode files name (Err stop) old new old_out old_report m is_err e =
   added = [];
   grown = e ∙ sym (append-nil old);
   only = λ other n. refl;
-  behind = refl;
+  after = refl;
   out = λ before given. (before, given, ([], (texts_of_pages mode files [] (name ∷ [])).out, refl, sym (append-nil before)));
   report = λ before given. (before, given, ([], (texts_of_pages mode files [] (name ∷ [])).report, refl, sym (append-nil before)));
-  ticks = (0, omega arith, refl);
+  ticks = at_most_none (texts_of_pages mode files [] (name ∷ [])).work m;
   refused = tt;
   broken = tt;
 }

@@ -1,28 +1,29 @@
 -- What the start of a run leaves to its pages.
-use Rattle.std.proofs.Common.{◌≡◌, ◌≢◌, ℕ, suc, ◌<◌, ◌≤◌, Bool, true, false, cond, not, ltb, ◌||◌, Option, Some, None, Result, Ok, Err, IsSome, unwrap_or, List, [], ◌∷◌, ◌++◌, length, take, get_or, refl, sym, arith, ap, ◌+◌, ◌∙◌}
-use Rattle.std.specs.List.{AllPairs, position_or_len}
+use Rattle.std.proofs.Common.{◌≡◌, ◌≢◌, ℕ, suc, ◌<◌, ◌≤◌, Bool, true, false, cond, not, ltb, ◌||◌, Option, Some, None, Result, Ok, Err, IsSome, unwrap_or, List, [], ◌∷◌, ◌++◌, length, map, option_map, take, get_or, refl, sym, subst, arith, ap, ◌+◌, ◌∙◌}
+use Rattle.std.specs.List.{AllPairs}
 use Rattle.std.specs.Str.{bytes_eq}
-use Rattle.std.proofs.lemmas.Bool.{true≢false, ltb-false}
+use Rattle.std.proofs.lemmas.Bool.{true≢false}
 use Rattle.std.proofs.lemmas.List.{take_all}
 use Rattle.std.proofs.lemmas.List.Folds.{list_any_none}
-use Rattle.std.proofs.lemmas.List.Sums.{fails_before_first}
 use Rattle.std.proofs.lemmas.Slice.Eq.{bytes_eq-Decides}
 use Rattle.djvu_base.specs.Library.{Files, Whole, names_of, contents_of, file_named, library_within, library_of, file_limit}
 use Rattle.djvu_outside.specs.Faults.{Failure, Listing, Reading}
 use Rattle.djvu_outside.specs.Reading.{HasFile, bytes_in}
 use Rattle.viewer_words.specs.Lines.{words_line, folder_line}
-use Rattle.page_decoder.specs.declared.ends.FileEnd.{FileEnd}
-use Rattle.page_decoder.specs.declared.ends.FileEnd.TheVariants as file_end
-use Rattle.viewer_run.specs.Came.{IsReadTo}
-use Rattle.page_decoder.specs.Ends.{is_broken}
+use Rattle.djvu_base.specs.declared.ends.FileEnd.{FileEnd}
+use Rattle.djvu_base.specs.declared.ends.FileEnd.TheVariants as file_end
+use Rattle.djvu_outside.specs.FileReads.{IsReadTo}
+use Rattle.djvu_outside.specs.FileReads.{is_broken}
 use Rattle.viewer_words.specs.declared.commands.TableChoice.{TableChoice}
 use Rattle.viewer_words.specs.declared.commands.TableChoice.TheVariants as choice
-use Rattle.viewer_run.specs.Front.{name_limit, is_listed, first_unlisted, has_table, line_by_pages, line_by_names, names_in, bytes_of_found, table_in, table_of}
+use Rattle.viewer_words.specs.Files.{NamedFile, first_unlisted, table_before, unlisted_line}
+use Rattle.viewer_run.specs.Front.{name_limit, line_by_names, names_in, bytes_of_found, table_in, table_of}
+use Rattle.djvu_base.specs.Name.{is_listed}
 use Rattle.viewer_run.specs.Shown.{HasFiles, AreDistinct}
 use Rattle.viewer_run.specs.Start.{IsEarly, Starts, StartsFor, CanRead, CanStart}
-use Rattle.viewer_run.specs.Cut.{front_may_fail, names_table}
-use Rattle.viewer_run.specs.declared.stop.Stop.{Stop}
-use Rattle.viewer_run.specs.declared.stop.Stop.TheVariants as stop
+use Rattle.viewer_run.specs.EarlyFailures.{front_may_fail, names_table}
+use Rattle.djvu_outside.specs.declared.stops.Stop.{Stop}
+use Rattle.djvu_outside.specs.declared.stops.Stop.TheVariants as stop
 use Rattle.viewer_words.specs.declared.commands.Command.TheVariants as command
 use Rattle.viewer_words.specs.Words.{words_of}
 
@@ -35,42 +36,32 @@ listed_file : (files : Files) (name : List ℕ) → is_listed (names_of files) n
 listed_file [] name e = absurd (true≢false (sym e))
 listed_file (file ∷ files) name e = one_listed files name file.1 (bytes_eq name file.0) (listed_file files name) e
 
-not_false : (b : Bool) → not b ≡ false → b ≡ true
-not_false true e = refl
-not_false false e = absurd (true≢false e)
+-- where no file is unlisted, the folder has each
+all_listed : (files : Files) (named : List NamedFile) → first_unlisted (names_of files) named ≡ None → HasFiles files (map (λ (file : NamedFile). file.1) named)
+all_listed files [] e = tt
+all_listed files (file ∷ named) e = by (is_listed (names_of files) file.1) refl e (all_listed files named)
+  where
+    by : (t : Bool) → is_listed (names_of files) file.1 ≡ t → cond t (first_unlisted (names_of files) named) (Some file.0) ≡ None
+        → (first_unlisted (names_of files) named ≡ None → HasFiles files (map (λ (other : NamedFile). other.1) named)) → HasFile files file.1 × HasFiles files (map (λ (other : NamedFile). other.1) named)
+    by true h e more = (listed_file files file.1 h, more e)
+    by false h e more = cc
 
-none_before : (n m : ℕ) (t : Bool) → ltb n m ≡ t → cond t (Some n) None ≡ None → m ≤ n
-none_before n m true e none = cc
-none_before n m false e none = omega (arith, ltb-false n m e)
+by_first : (files : Files) (named : List NamedFile) (o : Option ℕ) → first_unlisted (names_of files) named ≡ o → CanStart files (map (λ (file : NamedFile). file.1) named) (option_map words_line o)
+by_first files named (Some number) e = tt
+by_first files named None e = all_listed files named e
 
--- where no page is unlisted, each is listed
-all_listed : (names pages : List (List ℕ)) → first_unlisted names pages ≡ None → (k : ℕ) (d : List ℕ) → k < length pages → is_listed names (get_or pages k d) ≡ true
-all_listed names pages none k d h =
-    let test : List ℕ → Bool = λ page. not (is_listed names page) in
-    let past : length pages ≤ position_or_len test pages = none_before (position_or_len test pages) (length pages) (ltb (position_or_len test pages) (length pages)) refl none in
-    not_false (is_listed names (get_or pages k d)) (fails_before_first test pages k d (omega (arith, past, h)))
+by_many : (files : Files) (named : List NamedFile) (line : List ℕ) (many : Bool) → CanStart files (map (λ (file : NamedFile). file.1) named) (cond many (Some line) (unlisted_line (names_of files) named))
+by_many files named line true = tt
+by_many files named line false = by_first files named (first_unlisted (names_of files) named) refl
 
-each_has : (files : Files) (pages : List (List ℕ)) → ((k : ℕ) (d : List ℕ) → k < length pages → HasFile files (get_or pages k d)) → HasFiles files pages
-each_has files [] h = tt
-each_has files (page ∷ pages) h = (h 0 [] (omega arith), each_has files pages (λ k d within. h (suc k) d (omega arith)))
+pub can_start : (files : Files) (named : List NamedFile) → CanStart files (map (λ (file : NamedFile). file.1) named) (line_by_names (names_of files) named)
+can_start files named = by_many files named (folder_line (length (names_of files))) (ltb name_limit (length (names_of files)))
 
-by_pages : (files : Files) (count : ℕ) (table : TableChoice) (pages : List (List ℕ)) (o : Option ℕ) → first_unlisted (names_of files) pages ≡ o → CanRead files table → CanStart files table pages (line_by_pages o count pages)
-by_pages files count table pages (Some at) e read = tt
-by_pages files count table pages None e read = (read, each_has files pages (λ k d h. listed_file files (get_or pages k d) (all_listed (names_of files) pages e k d h)))
-
-can_read : (files : Files) (table : TableChoice) → has_table (names_of files) table ≡ true → CanRead files table
-can_read files choice.Djvu e = tt
-can_read files choice.Flat e = tt
-can_read files (choice.File name) e = listed_file files name e
-
-by_names : (files : Files) (count : ℕ) (table : TableChoice) (pages : List (List ℕ)) (line other : List ℕ) (many has : Bool) → has_table (names_of files) table ≡ has
-    → CanStart files table pages (cond many (Some line) (cond has (line_by_pages (first_unlisted (names_of files) pages) count pages) (Some other)))
-by_names files count table pages line other true has e = tt
-by_names files count table pages line other false false e = tt
-by_names files count table pages line other false true e = by_pages files count table pages (first_unlisted (names_of files) pages) refl (can_read files table e)
-
-pub can_start : (files : Files) (count : ℕ) (table : TableChoice) (pages : List (List ℕ)) → CanStart files table pages (line_by_names (names_of files) count table pages)
-can_start files count table pages = by_names files count table pages (folder_line (length (names_of files))) (words_line 2) (ltb name_limit (length (names_of files))) (has_table (names_of files) table) refl
+-- the table's file and the pages of a drawing
+pub has_both : (files : Files) (table : TableChoice) (pages names : List (List ℕ)) → names ≡ table_before table pages → HasFiles files names → CanRead files table × HasFiles files pages
+has_both files choice.Djvu pages names e h = (tt, subst (HasFiles files) e h)
+has_both files choice.Flat pages names e h = (tt, subst (HasFiles files) e h)
+has_both files (choice.File name) pages names e h = let both = subst (HasFiles files) e h in (both.0, both.1)
 
 -- the library's names are the folder's
 pub names_of_library : (limit : ℕ) (files : Files) → names_in (library_within limit files) ≡ names_of files

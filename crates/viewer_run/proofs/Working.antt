@@ -6,10 +6,11 @@ use Rattle.std.proofs.lemmas.List.Sums.{sum_by-cons}
 use Rattle.djvu_base.specs.Library.{File, Library, file_named}
 use Rattle.iff_chunks.specs.Chunks.{chunks_of}
 use Rattle.zp_table.specs.declared.rows.Row.{Row}
-use Rattle.page_decoder.specs.Reading.{closed, reading}
+use Rattle.iff_chunks.specs.Ends.{closed}
+use Rattle.page_decoder.specs.Reading.{reading}
 use Rattle.viewer_words.specs.declared.commands.Command.{Command}
 use Rattle.viewer_words.specs.declared.commands.Command.TheVariants as command
-use Rattle.viewer_words.specs.declared.commands.TableChoice.TheVariants as choice
+use Rattle.viewer_words.specs.Files.{named_files}
 use Rattle.viewer_words.specs.Words.{words_of}
 use Rattle.viewer_run.specs.declared.front.Front.TheVariants as front
 use Rattle.viewer_run.specs.declared.front.Mode.TheVariants as mode
@@ -47,7 +48,7 @@ listed_work library pages None = info_works library pages
 pub work_of_others : (library : Library) (words : List (List ℕ)) → draws (words_of words) ≡ false → (offline library words).work ≡ 0
 work_of_others library words = by (words_of words)
   where
-    by : (r : Result Command ℕ) → draws r ≡ false → (written_by library (front_by_words library (length words) r)).work ≡ 0
+    by : (r : Result Command ℕ) → draws r ≡ false → (written_by library (front_by_words library (named_files words) r)).work ≡ 0
     by (Ok (command.Draw table pages)) e = absurd (true≢false e)
-    by (Ok (command.Info pages)) e = listed_work library pages (line_by_names (names_in library) (length words) choice.Djvu pages)
+    by (Ok (command.Info pages)) e = listed_work library pages (line_by_names (names_in library) (named_files words))
     by (Err number) e = refl

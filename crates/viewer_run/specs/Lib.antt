@@ -1,13 +1,20 @@
-pub mod Lines
-pub mod Cut
+-- what crates above and their readers cite
+pub use Rattle.djvu_base.specs.Name
+pub use Rattle.djvu_base.specs.Library
+pub use Rattle.djvu_base.specs.Meter
+pub use Rattle.djvu_outside.specs.Faults
+pub use Rattle.djvu_outside.specs.Parts
+pub use Rattle.djvu_outside.specs.Cut
+pub use Rattle.viewer_words.specs.Words
+pub use Rattle.viewer_words.specs.Lines
+pub mod Rasters
 pub mod Texts
-pub mod Outcome
-pub mod Status
-pub mod Came
-pub mod Shown
 pub mod Info
 pub mod Front
+pub mod EarlyFailures
 pub mod Offline
-pub mod Start
 pub mod Runs
 pub mod Worked
+-- the inside of this crate
+pub mod Shown
+pub mod Start

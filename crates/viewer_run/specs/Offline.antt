@@ -11,7 +11,8 @@ use Rattle.viewer_run.specs.declared.front.Mode.TheVariants as mode
 use Rattle.viewer_run.specs.Texts.{Texts, no_texts, joined, texts_of_file}
 use Rattle.viewer_run.specs.Info.{info_of_file}
 use Rattle.viewer_run.specs.Front.{front_of}
-use Rattle.viewer_run.specs.Cut.{cut, front_may_fail, front_failed}
+use Rattle.djvu_outside.specs.Cut.{cut}
+use Rattle.viewer_run.specs.EarlyFailures.{front_may_fail, front_failed}
 
 -- a page is drawn with a state table, or its chunks are listed
 abbrev pub texts_by : Mode → File → Texts
@@ -68,7 +69,7 @@ written_cut failures library words = with_failures failures (written_by (cut fai
 abbrev pub nothing_written : Written
 nothing_written = record { out = []; report = []; status = 3; work = 0 }
 
--- behind this front the folder may have failed so: a run that is refused reads no page
+-- after this front the folder may have failed so: a run that is refused reads no page
 abbrev pub MayFailSo : Front → List Failure → Type 0
 MayFailSo (front.Refused line) failures = failures ≡ []
 MayFailSo (front.Accepted mode pages) failures = ⊤

@@ -1,24 +1,24 @@
 -- A whole run.
 use Rattle.std.specs.Prelude.{ℕ, false, ◌≡◌, ◌++◌, ◌<◌, ◌≤◌, ⊤, List, [], Option, Some, Result, Ok, Err}
 use Rattle.djvu_base.specs.Library.{Files, library_of}
-use Rattle.djvu_outside.specs.declared.faults.Status.{Status}
+use Rattle.djvu_outside.specs.declared.stops.Status.{Status}
 use Rattle.djvu_outside.specs.Faults.{Failure, Rises}
 use Rattle.djvu_outside.specs.Reading.{GrowsWithin}
-use Rattle.jb2_numbers.specs.Number.{ticked}
-use Rattle.viewer_run.specs.declared.stop.Stop.{Stop}
-use Rattle.viewer_run.specs.declared.stop.Stop.TheVariants as stop
-use Rattle.viewer_run.specs.Cut.{front_failed, NamesRead}
+use Rattle.djvu_base.specs.Meter.{TicksExactly}
+use Rattle.djvu_outside.specs.declared.stops.Stop.{Stop}
+use Rattle.djvu_outside.specs.declared.stops.Stop.TheVariants as stop
+use Rattle.viewer_run.specs.EarlyFailures.{front_failed, NamesRead}
 use Rattle.viewer_run.specs.Offline.{Written, IsOutcome}
-use Rattle.viewer_run.specs.Outcome.{Gives, Ticks}
+use Rattle.djvu_outside.specs.Parts.{Gives, Ticks}
 
--- a sink that tells what it was given got all of a text where the status is below 4, and else a front of it
+-- a sink that tells what it was given got all of a text where the status is below 4, and else a prefix of it
 abbrev pub Gets : ℕ → Option (List ℕ) → Option (List ℕ) → List ℕ → Type 0
 Gets status old new text =
     (before : List ℕ) → old ≡ Some before → (after : List ℕ) × (new ≡ Some after) × (status < 4 → after ≡ before ++ text) × GrowsWithin before text after
 
 -- a meter counts the work where the status is below 4, and else no more than that
 abbrev pub Counts : ℕ → ℕ → ℕ → ℕ → Type 0
-Counts status work before after = (ticks : ℕ) × (ticks ≤ work) × (status < 4 → ticks ≡ work) × (after ≡ ticked ticks before)
+Counts status work before after = (ticks : ℕ) × (ticks ≤ work) × (status < 4 → ticks ≡ work) × TicksExactly ticks before after
 
 -- a run with these words over a folder with these files: the failures that it added to the folder's, what they leave to be
 -- written, that it was written, and that its work was counted
@@ -47,12 +47,12 @@ GoesOnFrom (Err stop.Folder) words added = ⊤
 GoesOnFrom (Err stop.Sink) words added = ⊤
 GoesOnFrom (Err stop.Memory) words added = ⊤
 
--- the folder's count rose where the status is 3, and else, below 3, stayed
+-- the folder's count rose where the status is 3, and stayed where it is below; it never falls
 abbrev pub RunCounts : Result Status Stop → ℕ → ℕ → Type 0
-RunCounts (Ok status) before after = (status.0 ≡ 3 → Rises before after) × (status.0 < 3 → after ≡ before)
+RunCounts (Ok status) before after = (status.0 ≡ 3 → Rises before after) × (status.0 < 3 → after ≡ before) × (before ≤ after)
 RunCounts (Err stop.Folder) before after = Rises before after
-RunCounts (Err stop.Sink) before after = ⊤
-RunCounts (Err stop.Memory) before after = ⊤
+RunCounts (Err stop.Sink) before after = before ≤ after
+RunCounts (Err stop.Memory) before after = before ≤ after
 
 -- the same of a run that may have stopped; where it stopped for the folder it put nothing and counted nothing
 pub record Runs (files : Files) (words : List (List ℕ)) (result : Result Status Stop) (old_failures new_failures : List Failure) (old_out new_out old_report new_report : Option (List ℕ)) (old_count new_count : ℕ) : Type 0 where

@@ -1,18 +1,17 @@
 -- What pages that are shown came to, and which failures were met.
-use Rattle.std.specs.Prelude.{ℕ, Bool, true, false, ◌≡◌, ◌++◌, ◌≢◌, ◌||◌, ⊤, List, [], ◌∷◌, Option, None, Result, IfOk, take, if◌then◌else◌}
-use Rattle.djvu_base.specs.Library.{File, Files, Whole, file_limit}
+use Rattle.std.specs.Prelude.{ℕ, Bool, true, false, ◌≡◌, ◌++◌, ◌≢◌, ◌≤◌, ◌||◌, ⊤, List, [], ◌∷◌, Option, None, Result, Ok, Err, IfOk, take, if◌then◌else◌}
+use Rattle.djvu_base.specs.Library.{File, Files, Whole, file_limit, mark_of}
 use Rattle.djvu_outside.specs.Faults.{Failure, Listing, Reading, Rises}
 use Rattle.djvu_outside.specs.Reading.{HasFile, bytes_in}
 use Rattle.viewer_run.specs.declared.pages.Shown.{Shown}
-use Rattle.viewer_run.specs.declared.stop.Stop.{Stop}
+use Rattle.djvu_outside.specs.declared.stops.Stop.{Stop}
 use Rattle.viewer_run.specs.declared.front.Mode.{Mode}
-use Rattle.page_decoder.specs.declared.ends.FileEnd.{FileEnd}
-use Rattle.page_decoder.specs.Ends.{mark_of}
-use Rattle.viewer_run.specs.Cut.{first_entry, cut_file}
+use Rattle.djvu_base.specs.declared.ends.FileEnd.{FileEnd}
+use Rattle.djvu_base.specs.Name.{is_listed}
+use Rattle.djvu_outside.specs.Cut.{first_entry, cut_file}
 use Rattle.viewer_run.specs.Texts.{Texts, no_texts, joined}
-use Rattle.viewer_run.specs.Front.{is_listed}
 use Rattle.viewer_run.specs.Offline.{texts_by}
-use Rattle.viewer_run.specs.Outcome.{Gives, Ticks}
+use Rattle.djvu_outside.specs.Parts.{Gives, Ticks}
 
 -- the file of a folder up to the limit, as these failures cut it
 abbrev pub file_of : Files → List Failure → List ℕ → File
@@ -48,7 +47,7 @@ pub record Shows (mode : Mode) (files : Files) (names : List (List ℕ)) (result
   pub added : List Failure
   pub grown : new_failures ≡ old_failures ++ added
   pub only : NamesOnly names added
-  pub behind : lists_first added ≡ false
+  pub after : lists_first added ≡ false
   pub out : Gives result old_out new_out (texts_of_pages mode files added names).out
   pub report : Gives result old_report new_report (texts_of_pages mode files added names).report
   pub ticks : Ticks result (texts_of_pages mode files added names).work old_count new_count
@@ -63,6 +62,11 @@ ShowsPage mode files name result old_failures new_failures old_out new_out old_r
 abbrev pub BrokenCounts : Bool → ℕ → ℕ → Type 0
 BrokenCounts true before after = Rises before after
 BrokenCounts false before after = after ≡ before
+
+-- the same of pages that may have stopped: it never falls
+abbrev pub PagesCount : Result Shown Stop → ℕ → ℕ → Type 0
+PagesCount (Ok shown) before after = BrokenCounts shown.broken before after
+PagesCount (Err stop) before after = before ≤ after
 
 abbrev pub both : Shown → Shown → Shown
 both before after = record { refused = before.refused || after.refused; broken = before.broken || after.broken }

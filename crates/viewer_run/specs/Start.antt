@@ -7,9 +7,9 @@ use Rattle.viewer_words.specs.declared.commands.TableChoice.{TableChoice}
 use Rattle.viewer_words.specs.declared.commands.TableChoice.TheVariants as choice
 use Rattle.viewer_run.specs.declared.front.Front.{Front}
 use Rattle.viewer_run.specs.declared.front.Front.TheVariants as front
-use Rattle.viewer_run.specs.declared.stop.Stop.{Stop}
-use Rattle.viewer_run.specs.declared.stop.Stop.TheVariants as stop
-use Rattle.viewer_run.specs.Cut.{is_table, front_may_fail}
+use Rattle.djvu_outside.specs.declared.stops.Stop.{Stop}
+use Rattle.djvu_outside.specs.declared.stops.Stop.TheVariants as stop
+use Rattle.viewer_run.specs.EarlyFailures.{is_table, front_may_fail}
 use Rattle.viewer_run.specs.Shown.{HasFiles, AreDistinct}
 
 -- a failure of the listing, or of the reading of this table
@@ -46,7 +46,7 @@ abbrev pub ShowsEachOnce : Front → Type 0
 ShowsEachOnce (front.Refused line) = ⊤
 ShowsEachOnce (front.Accepted mode pages) = AreDistinct pages
 
--- where no line refuses a run, the folder has its table's file and its pages
-abbrev pub CanStart : Files → TableChoice → List (List ℕ) → Option (List ℕ) → Type 0
-CanStart files table pages (Some line) = ⊤
-CanStart files table pages None = CanRead files table × HasFiles files pages
+-- where no line refuses a run, the folder has the files that its words name
+abbrev pub CanStart : Files → List (List ℕ) → Option (List ℕ) → Type 0
+CanStart files names (Some line) = ⊤
+CanStart files names None = HasFiles files names

@@ -12,7 +12,7 @@ use Rattle.page_decoder.specs.Reading.{Notice, Ending, Finished, Fault, NeedByte
 use Rattle.page_decoder.specs.Ends.{ending}
 use Rattle.page_decoder.specs.Found.{last_layers}
 use Rattle.viewer_words.specs.Lines.{notice_line, fault_line}
-use Rattle.viewer_run.specs.Lines.{raster_text}
+use Rattle.viewer_run.specs.Rasters.{raster_text}
 
 -- what goes to the two sinks, whether a page was refused, and the decisions of the readings
 pub record Texts : Type 0 where
@@ -41,7 +41,7 @@ abbrev pub page_fault : List ℕ → FaultKind → ℕ → List ℕ
 page_fault name kind offset = fault_line name (record { kind = kind; place = record { file = 0; offset = offset } }) (name ∷ [])
 
 -- a page with these lines and this raster, which ends so: one that is finished has its raster; one that is refused has none,
--- and the line of its fault behind the others
+-- and the line of its fault after the others
 abbrev pub texts_at : List ℕ → List ℕ → List ℕ → Ending → ℕ → Texts
 texts_at name lines raster Finished work = record { out = raster; report = lines; refused = false; work = work }
 texts_at name lines raster (Fault kind offset) work = record { out = []; report = lines ++ page_fault name kind offset; refused = true; work = work }

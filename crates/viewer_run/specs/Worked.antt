@@ -1,6 +1,7 @@
 -- Files and libraries whose values are worked out.
 use Rattle.std.specs.Prelude.{ℕ, ◌++◌, List, [], ◌∷◌, codes}
 use Rattle.djvu_base.specs.Library.{File, Whole}
+use Rattle.djvu_base.specs.Text.{newline}
 use Rattle.iff_chunks.specs.Worked.{header, page}
 
 -- a page of one pixel with a mask of four bytes
@@ -21,9 +22,6 @@ white_pixel = 0x50 ∷ 0x36 ∷ 0x0A ∷ 0x31 ∷ 0x20 ∷ 0x31 ∷ 0x0A ∷ 0x3
 -- and of one black pixel
 abbrev pub black_pixel : List ℕ
 black_pixel = 0x50 ∷ 0x36 ∷ 0x0A ∷ 0x31 ∷ 0x20 ∷ 0x31 ∷ 0x0A ∷ 0x32 ∷ 0x35 ∷ 0x35 ∷ 0x0A ∷ 0x00 ∷ 0x00 ∷ 0x00 ∷ []
-
-abbrev pub newline : List ℕ
-newline = 0x0A ∷ []
 
 -- the line of the drawing of a page of one pixel
 abbrev pub pixel_line : List ℕ → List ℕ

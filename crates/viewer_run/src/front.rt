@@ -1,20 +1,23 @@
 //! What stands before the pages: the words, the listing, the number of names, the words that name files, and the table.
-ghost use Rattle.std.specs.Prelude.{◌≡◌, ◌≢◌, ℕ, false, Some, Err, IfOk, IfSome, ◌<◌, length};
+ghost use Rattle.std.specs.Prelude.{◌≡◌, ◌≢◌, ℕ, false, Some, Err, IfOk, map};
 ghost use Rattle.djvu_base.specs.Library.{Files, library_of};
 ghost use Rattle.viewer_words.specs.Words.{words_of};
 ghost use Rattle.viewer_words.specs.Lines.{words_line};
-ghost use Rattle.viewer_run.specs.Front.{is_listed, first_unlisted, has_table, line_by_names, names_in, front_of, front_of_draw, front_of_info, draws, ReadsNone};
+ghost use Rattle.djvu_outside.specs.Parts.{FolderStops};
+ghost use Rattle.viewer_words.specs.declared.commands.TableChoice.{TableChoice};
+ghost use Rattle.viewer_words.specs.Files.{named_files, table_before};
+ghost use Rattle.viewer_run.specs.Front.{line_by_names, names_in, front_of, front_of_draw, front_of_info, draws, ReadsNone};
 ghost use Rattle.viewer_run.specs.Shown.{AreDistinct};
-ghost use Rattle.viewer_run.specs.Outcome.{FolderStops};
 ghost use Rattle.viewer_run.specs.Start.{Starts, StartsFor, CanShow, CanStart, ShowsEachOnce};
 
-use crate::lines::table_line;
-use crate::stop::Stop;
 use crate::tables::{Chosen, SharedTable, choose_table};
 use djvu_base::{Items, Name};
-use djvu_outside::{Folder, FolderFault};
+use djvu_outside::{Folder, FolderFault, Stop};
 use std::alloc::{AllocError, Global};
-use viewer_words::{Command, TableChoice, WordsError, folder_line, read_words, words_line};
+use viewer_words::{
+    Command, TableChoice, WordsError, folder_line, read_words, table_line, unlisted_line,
+    words_line,
+};
 
 /// The most names that a folder may have.
 const NAME_LIMIT: usize = 1_024;
@@ -55,12 +58,12 @@ pub fn find_front<F: Folder>(
     ensures refused { (number : ℕ) → words_of words.now ≡ Err number → IfOk result (λ front. front ≡ Front.Refused (words_line number)) }
     ensures unlisted { (number : ℕ) → words_of words.now ≡ Err number → result ≢ Err Stop.Folder }
 {
-    viewer_words::written_commands();
+    viewer_words::laws::named_files_are_words();
     match read_words(alloc, words) {
         Ok(Command::Draw { table, pages }) => {
-            front_of_draw(alloc, words.len(), &table, pages, folder)
+            front_of_draw(alloc, words, &table, pages, folder)
         }
-        Ok(Command::Info { pages }) => front_of_info(alloc, words.len(), pages, folder),
+        Ok(Command::Info { pages }) => front_of_info(alloc, words, pages, folder),
         Err(WordsError::Refused(number)) => {
             Ok(Front::Refused(Items::of(words_line(alloc, number)?)))
         }
@@ -68,24 +71,24 @@ pub fn find_front<F: Folder>(
     }
 }
 
-/// What a run with so many words that is to draw these pages, with this table, does over this folder.
+/// What a run with these words that is to draw these pages, with this table, does over this folder.
 fn front_of_draw<F: Folder>(
     alloc: Global,
-    count: usize,
+    words: &[Items<u8>],
     table: &TableChoice,
     pages: Items<Name>,
     folder: &mut F,
 ) -> Result<Front, Stop>
     requires distinct { AreDistinct pages }
-    requires behind { length pages < count }
-    ensures told { (told : Files) → F.files folder.old ≡ Some told → IfOk result (λ front. front ≡ front_of_draw (library_of told) count table.now pages) }
+    requires named { map (λ file. file.1) (named_files words.now) ≡ table_before table.now pages }
+    ensures told { (told : Files) → F.files folder.old ≡ Some told → IfOk result (λ front. front ≡ front_of_draw (library_of told) (named_files words.now) table.now pages) }
     ensures failure { (told : Files) → F.files folder.old ≡ Some told → Starts result table.now (F.failures folder.old) (F.failures folder.new) }
     ensures can_show { (told : Files) → F.files folder.old ≡ Some told → IfOk result (λ front. CanShow told front) }
     ensures each_once { IfOk result ShowsEachOnce }
     ensures stops { FolderStops result (F.faults folder.old) (F.faults folder.new) }
     ensures same_files { F.files folder.new ≡ F.files folder.old }
 {
-    if let Some(line) = refusal(alloc, count, table, pages.slice(), folder)? {
+    if let Some(line) = refusal(alloc, words, folder)? {
         return Ok(Front::Refused(line));
     }
     match choose_table(alloc, table, folder)? {
@@ -93,20 +96,23 @@ fn front_of_draw<F: Folder>(
             mode: Mode::Draw(table),
             pages,
         }),
-        Chosen::Refused(fault) => Ok(Front::Refused(Items::of(table_line(alloc, fault)?))),
+        Chosen::Refused(fault) => {
+            let line = table_line(alloc, fault.row, fault.why.word())?;
+            Ok(Front::Refused(Items::of(line)))
+        }
     }
 }
 
-/// What a run with so many words that is to list the chunks of these files does over this folder.
+/// What a run with these words that is to list the chunks of these files does over this folder.
 fn front_of_info<F: Folder>(
     alloc: Global,
-    count: usize,
+    words: &[Items<u8>],
     pages: Items<Name>,
     folder: &mut F,
 ) -> Result<Front, Stop>
     requires distinct { AreDistinct pages }
-    requires behind { length pages < count }
-    ensures told { (told : Files) → F.files folder.old ≡ Some told → IfOk result (λ front. front ≡ front_of_info (library_of told) count pages) }
+    requires named { map (λ file. file.1) (named_files words.now) ≡ pages }
+    ensures told { (told : Files) → F.files folder.old ≡ Some told → IfOk result (λ front. front ≡ front_of_info (library_of told) (named_files words.now) pages) }
     ensures failure { (told : Files) → F.files folder.old ≡ Some told → Starts result TableChoice.Djvu (F.failures folder.old) (F.failures folder.new) }
     ensures can_show { (told : Files) → F.files folder.old ≡ Some told → IfOk result (λ front. CanShow told front) }
     ensures each_once { IfOk result ShowsEachOnce }
@@ -114,7 +120,7 @@ fn front_of_info<F: Folder>(
     ensures stops { FolderStops result (F.faults folder.old) (F.faults folder.new) }
     ensures same_files { F.files folder.new ≡ F.files folder.old }
 {
-    match refusal(alloc, count, &TableChoice::Djvu, pages.slice(), folder)? {
+    match refusal(alloc, words, folder)? {
         Some(line) => Ok(Front::Refused(line)),
         None => Ok(Front::Accepted {
             mode: Mode::Info,
@@ -123,19 +129,15 @@ fn front_of_info<F: Folder>(
     }
 }
 
-/// The line by which so many words that name this table and these pages are refused over this folder, if they don't fit its
-/// list.
+/// The line by which these words are refused over this folder, if the files that they name don't fit its list.
 fn refusal<F: Folder>(
     alloc: Global,
-    count: usize,
-    table: &TableChoice,
-    pages: &[Name],
+    words: &[Items<u8>],
     folder: &mut F,
 ) -> Result<Option<Items<u8>>, Stop>
-    requires { length pages.now < count }
-    ensures told { (told : Files) → F.files folder.old ≡ Some told → IfOk result (λ line. line ≡ line_by_names (names_in (library_of told)) count table.now pages.now) }
-    ensures failure { (told : Files) → F.files folder.old ≡ Some told → Starts result table.now (F.failures folder.old) (F.failures folder.new) }
-    ensures can_start { (told : Files) → F.files folder.old ≡ Some told → IfOk result (λ line. CanStart told table.now pages.now line) }
+    ensures told { (told : Files) → F.files folder.old ≡ Some told → IfOk result (λ line. line ≡ line_by_names (names_in (library_of told)) (named_files words.now)) }
+    ensures failure { (told : Files) (table : TableChoice) → F.files folder.old ≡ Some told → Starts result table (F.failures folder.old) (F.failures folder.new) }
+    ensures can_start { (told : Files) → F.files folder.old ≡ Some told → IfOk result (λ line. CanStart told (map (λ file. file.1) (named_files words.now)) line) }
     ensures stops { FolderStops result (F.faults folder.old) (F.faults folder.new) }
     ensures same_files { F.files folder.new ≡ F.files folder.old }
 {
@@ -144,55 +146,19 @@ fn refusal<F: Folder>(
         Err(FolderFault::Failed) => return Err(Stop::Folder),
         Err(FolderFault::OutOfMemory) => return Err(Stop::Memory),
     };
-    Ok(line_by_names(alloc, names.as_slice(), count, table, pages)?)
+    Ok(line_by_names(alloc, names.as_slice(), words)?)
 }
 
 /// The same where these names are listed.
 fn line_by_names(
     alloc: Global,
     names: &[Name],
-    count: usize,
-    table: &TableChoice,
-    pages: &[Name],
+    words: &[Items<u8>],
 ) -> Result<Option<Items<u8>>, AllocError>
-    requires { length pages.now < count }
-    ensures { IfOk result (λ line. line ≡ line_by_names names.now count table.now pages.now) }
+    ensures { IfOk result (λ line. line ≡ line_by_names names.now (named_files words.now)) }
 {
     if NAME_LIMIT < names.len() {
         return Ok(Some(Items::of(folder_line(alloc, names.len())?)));
     }
-    if !has_table(names, table) {
-        return Ok(Some(Items::of(words_line(alloc, 2)?)));
-    }
-    let Some(at) = first_unlisted(names, pages) else {
-        return Ok(None);
-    };
-    let number = count - pages.len() + at;
-    Ok(Some(Items::of(words_line(alloc, number)?)))
-}
-
-/// Whether a table's file is listed.
-fn has_table(names: &[Name], table: &TableChoice) -> bool
-    ensures { result ≡ has_table names.now table.now }
-{
-    match table {
-        TableChoice::Djvu | TableChoice::Flat => true,
-        TableChoice::File(name) => is_listed(names, name.bytes()),
-    }
-}
-
-/// The first page that isn't listed, by its place.
-fn first_unlisted(names: &[Name], pages: &[Name]) -> Option<usize>
-    ensures found { result ≡ first_unlisted names.now pages.now }
-    ensures within { IfSome result (λ at. at < length pages.now) }
-{
-    pages
-        .iter()
-        .position(|page| !is_listed(names, page.bytes()))
-}
-
-fn is_listed(names: &[Name], name: &[u8]) -> bool
-    ensures { result ≡ is_listed names.now name.now }
-{
-    names.iter().any(|listed| name == listed.bytes())
+    unlisted_line(alloc, names, words)
 }

@@ -1,4 +1,5 @@
-//! Laws of the definitions, apart from a run: each is a clause of a function that changes nothing.
+//! Laws of the definitions, apart from a run: each is a clause of a function that changes nothing. `worked` has values of
+//! them that are worked out.
 ghost use Rattle.std.specs.Prelude.{◌≡◌, ◌≢◌, ℕ, false, List, [], Some, sum_by};
 ghost use Rattle.djvu_base.specs.Library.{File, Library, Open, file_named};
 ghost use Rattle.zp_table.specs.declared.rows.Row.{Row};
@@ -7,16 +8,16 @@ ghost use Rattle.page_decoder.specs.Reading.{reading};
 ghost use Rattle.page_decoder.specs.Found.{last_layers};
 ghost use Rattle.viewer_words.specs.Words.{words_of};
 ghost use Rattle.viewer_run.specs.declared.front.Mode.TheVariants as mode;
-ghost use Rattle.viewer_run.specs.Cut.{cut};
 ghost use Rattle.viewer_run.specs.Front.{draws};
-ghost use Rattle.viewer_run.specs.Lines.{raster_text};
+ghost use Rattle.viewer_run.specs.Rasters.{raster_text};
 ghost use Rattle.viewer_run.specs.Texts.{texts_of_file};
 ghost use Rattle.viewer_run.specs.Offline.{Written, offline, IsOutcome, texts_of_names, decisions_of};
 
-/// Where nothing failed, no file is cut, and a run comes to what the definition `offline` says of the library.
+pub mod worked;
+
+/// Where nothing failed, a run comes to what the definition `offline` says of the library.
 pub fn sound_folders()
-    ensures files { (library : Library) → cut [] library ≡ library }
-    ensures run { (library : Library) (words : List (List ℕ)) (texts : Written) → IsOutcome [] library words texts → texts ≡ offline library words }
+    ensures { (library : Library) (words : List (List ℕ)) (texts : Written) → IsOutcome [] library words texts → texts ≡ offline library words }
 {}
 
 /// The work of pages that are drawn is the sum of the decisions of their readings, and a run that draws none has none.

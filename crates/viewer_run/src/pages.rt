@@ -1,34 +1,22 @@
 //! Pages, one after the other.
-ghost use Rattle.std.specs.Prelude.{◌≡◌, ◌<◌, ◌^◌, Some, IfOk, vec_len};
-ghost use Rattle.djvu_base.specs.Library.{Files};
+ghost use Rattle.std.specs.Prelude.{◌≡◌, ℕ, ◌<◌, ◌^◌, Some, IfOk, vec_len};
+ghost use Rattle.djvu_base.specs.Library.{Files, mark_of};
+ghost use Rattle.djvu_base.specs.Meter.{TicksExactly};
 ghost use Rattle.djvu_outside.specs.Reading.{HasFile};
-ghost use Rattle.page_decoder.specs.Ends.{mark_of};
+ghost use Rattle.djvu_outside.specs.Parts.{Gives, SinksEnd, SinkStops, NeverFolder, Ticks};
 ghost use Rattle.viewer_run.specs.Info.{info_report};
 ghost use Rattle.viewer_run.specs.Offline.{texts_by};
 ghost use Rattle.viewer_run.specs.Texts.{texts_of_file};
-ghost use Rattle.viewer_run.specs.Outcome.{Gives, SinksEnd, SinkStops, NeverFolder, Ticks, OnlyTicks};
-ghost use Rattle.viewer_run.specs.Shown.{file_read, Shows, ShowsPage, BrokenCounts, HasFiles, AreDistinct, both, status_shown};
+ghost use Rattle.viewer_run.specs.Shown.{file_read, Shows, ShowsPage, PagesCount, HasFiles, AreDistinct, both, status_shown};
 
 use crate::front::Mode;
 use crate::info::info_of;
-use crate::put::put_text;
-use crate::read::{FileRead, read_file};
-use crate::stop::Stop;
 use crate::tables::SharedTable;
 use crate::texts::put_page;
 use djvu_base::{Meter, Name};
-use djvu_outside::{Folder, Sink, Status};
+use djvu_outside::{FileRead, Folder, Sink, Status, Stop, put_text, read_file};
 use page_decoder::read_page;
 use std::alloc::Global;
-
-/// No page was refused.
-const SHOWN: Status = Status(0);
-
-/// A page was refused.
-const PAGE_REFUSED: Status = Status(1);
-
-/// The folder failed.
-const READING_FAILED: Status = Status(3);
 
 /// What became of pages.
 #[derive(Clone, Copy, Debug, PartialEq, Eq)]
@@ -55,11 +43,11 @@ impl Shown {
         ensures { result.0 ≡ status_shown self }
     {
         if self.broken {
-            READING_FAILED
+            Status::FOLDER_FAILED
         } else if self.refused {
-            PAGE_REFUSED
+            Status::PAGE_REFUSED
         } else {
-            SHOWN
+            Status::DONE
         }
     }
 }
@@ -77,10 +65,10 @@ fn show_page<F: Folder, S: Sink, E: Sink, M: Meter>(
     requires { (told : Files) → F.files folder.old ≡ Some told → HasFile told page.now }
     ensures told { (told : Files) → F.files folder.old ≡ Some told →
         ShowsPage mode.now told page.now result (F.failures folder.old) (F.failures folder.new) (S.given out.old) (S.given out.new) (E.given report.old) (E.given report.new) (M.count meter.old) (M.count meter.new) }
-    ensures counts { IfOk result (λ shown. BrokenCounts shown.broken (F.faults folder.old) (F.faults folder.new)) }
+    ensures counts { PagesCount result (F.faults folder.old) (F.faults folder.new) }
     ensures sinks_end { SinksEnd result (S.faults out.old) (S.faults out.new) (E.faults report.old) (E.faults report.new) }
     ensures no_folder { NeverFolder result }
-    ensures only_ticks { OnlyTicks (M.count meter.old) (M.count meter.new) }
+    ensures only_ticks { (ticks : ℕ) × TicksExactly ticks (M.count meter.old) (M.count meter.new) }
     ensures still { mode.now ≡ Mode.Info → meter.new ≡ meter.old }
     ensures same_files { F.files folder.new ≡ F.files folder.old }
 {
@@ -88,7 +76,7 @@ fn show_page<F: Folder, S: Sink, E: Sink, M: Meter>(
     let refused = put_file(alloc, mode, page, &file, out, report, meter)?;
     Ok(Shown {
         refused,
-        broken: file.end.is_broken(),
+        broken: file.is_broken(),
     })
 }
 
@@ -176,10 +164,10 @@ pub fn show_pages<F: Folder, S: Sink, E: Sink, M: Meter>(
     requires distinct { AreDistinct pages.now }
     ensures told { (told : Files) → F.files folder.old ≡ Some told →
         Shows mode.now told pages.now result (F.failures folder.old) (F.failures folder.new) (S.given out.old) (S.given out.new) (E.given report.old) (E.given report.new) (M.count meter.old) (M.count meter.new) }
-    ensures counts { IfOk result (λ shown. BrokenCounts shown.broken (F.faults folder.old) (F.faults folder.new)) }
+    ensures counts { PagesCount result (F.faults folder.old) (F.faults folder.new) }
     ensures sinks_end { SinksEnd result (S.faults out.old) (S.faults out.new) (E.faults report.old) (E.faults report.new) }
     ensures no_folder { NeverFolder result }
-    ensures only_ticks { OnlyTicks (M.count meter.old) (M.count meter.new) }
+    ensures only_ticks { (ticks : ℕ) × TicksExactly ticks (M.count meter.old) (M.count meter.new) }
     ensures still { mode.now ≡ Mode.Info → meter.new ≡ meter.old }
     ensures same_files { F.files folder.new ≡ F.files folder.old }
 {

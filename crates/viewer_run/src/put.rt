@@ -1,33 +1,16 @@
-//! Putting texts and rasters into sinks.
+//! Putting rasters into sinks.
 ghost use Rattle.std.specs.Prelude.{◌≡◌, ℕ, ◌+◌, ◌*◌, ◌<◌, ◌≤◌, IfOk, length, vec_len};
 ghost use Rattle.layer_compose.specs.Drawing.{samples_of, rows_of};
 ghost use Rattle.page_decoder.specs.Found.{CanDraw};
-ghost use Rattle.viewer_run.specs.Lines.{raster_text};
-ghost use Rattle.viewer_run.specs.Outcome.{SinkStops, Gives};
+ghost use Rattle.djvu_outside.specs.Parts.{SinkStops, Gives};
+ghost use Rattle.viewer_run.specs.Rasters.{raster_head, raster_text};
 
-use crate::lines::raster_head;
-use crate::stop::Stop;
-use djvu_outside::{Sink, SinkFault};
+use djvu_outside::{Sink, Stop, put_text};
 use layer_compose::Layers;
 use std::alloc::{AllocError, Global};
 
 /// About how many bytes of a raster are put at once: as many whole rows as fit, and at least one.
 const BLOCK: u32 = 65_536;
-
-/// Puts a text, at once.
-pub fn put_text<S: Sink>(sink: &mut S, text: &[u8]) -> Result<(), Stop>
-    ensures taken { Gives result (S.given sink.old) (S.given sink.new) text.now }
-    ensures stops { SinkStops result (S.faults sink.old) (S.faults sink.new) }
-{
-    if text.is_empty() {
-        return Ok(());
-    }
-    match sink.put(text) {
-        Ok(()) => Ok(()),
-        Err(SinkFault::Failed) => Err(Stop::Sink),
-        Err(SinkFault::OutOfMemory) => Err(Stop::Memory),
-    }
-}
 
 /// Puts the raster of a drawing, in blocks of rows.
 pub fn put_raster<S: Sink>(alloc: Global, sink: &mut S, layers: &Layers) -> Result<(), Stop>
@@ -46,7 +29,7 @@ fn put_rows<S: Sink>(alloc: Global, sink: &mut S, layers: &Layers) -> Result<(),
     ensures taken { Gives result (S.given sink.old) (S.given sink.new) (samples_of layers.now) }
     ensures stops { SinkStops result (S.faults sink.old) (S.faults sink.new) }
 {
-    layer_compose::rows_make_the_raster();
+    layer_compose::laws::rows_make_the_raster();
     let row = 3 * layers.width;
     let at_once = (BLOCK / row).max(1);
     let mut block = make_block(alloc, (at_once * row) as usize)?;
@@ -82,4 +65,12 @@ fn make_block(alloc: Global, count: usize) -> Result<Vec<u8>, AllocError>
     ensures { IfOk result (λ block. vec_len block ≡ count) }
 {
     vec![in alloc; 0u8; count]
+}
+
+/// The head of a raster in the format PPM: `P6`, the sizes in pixels, and the largest sample.
+fn raster_head(alloc: Global, width: u32, height: u32) -> Result<Vec<u8>, AllocError>
+    ensures { IfOk result (λ line. line.items ≡ raster_head width height) }
+{
+    let head = format!(in alloc; "P6\n{width} {height}\n255\n")?;
+    Ok(head.into_bytes())
 }

@@ -3,14 +3,12 @@ ghost use Rattle.std.specs.Prelude.{◌≡◌, Some, IfOk, take};
 ghost use Rattle.std.specs.Arc.{arc_value};
 ghost use Rattle.djvu_base.specs.Library.{Files, library_of, file_limit};
 ghost use Rattle.djvu_outside.specs.Reading.{HasFile, bytes_in};
+ghost use Rattle.djvu_outside.specs.Parts.{FolderStops};
 ghost use Rattle.viewer_run.specs.Front.{table_of, table_in};
-ghost use Rattle.viewer_run.specs.Outcome.{FolderStops};
 ghost use Rattle.viewer_run.specs.Start.{Starts, CanRead};
 
-use crate::read::read_file;
-use crate::stop::Stop;
 use djvu_base::Name;
-use djvu_outside::Folder;
+use djvu_outside::{Folder, Stop, read_file};
 use std::alloc::{AllocError, Global};
 use std::marker::Model;
 use std::sync::Arc;
@@ -87,7 +85,7 @@ fn read_table<F: Folder>(alloc: Global, name: &Name, folder: &mut F) -> Result<C
     ensures same_files { F.files folder.new ≡ F.files folder.old }
 {
     let file = read_file(alloc, folder, name)?;
-    if file.end.is_broken() {
+    if file.is_broken() {
         return Err(Stop::Folder);
     }
     match Table::read(alloc, file.bytes.as_slice()) {

@@ -1,13 +1,12 @@
 //! What is written for one page.
 ghost use Rattle.std.specs.Prelude.{◌≡◌, IfOk};
 ghost use Rattle.page_decoder.specs.Found.{CanDrawLast};
+ghost use Rattle.djvu_outside.specs.Parts.{Gives, SinksEnd, NeverFolder};
 ghost use Rattle.viewer_run.specs.Texts.{lines_told, texts_found, page_fault};
-ghost use Rattle.viewer_run.specs.Outcome.{Gives, SinksEnd, NeverFolder};
 
-use crate::put::{put_raster, put_text};
-use crate::stop::Stop;
+use crate::put::put_raster;
 use djvu_base::{Fault, FaultKind, Name, Place};
-use djvu_outside::Sink;
+use djvu_outside::{Sink, Stop, put_text};
 use page_decoder::{Drawn, PageEnd, PageReading};
 use std::alloc::{AllocError, Global};
 use std::slice::from_ref;

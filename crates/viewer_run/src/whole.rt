@@ -1,24 +1,20 @@
 //! A whole run.
-ghost use Rattle.std.specs.Prelude.{◌≡◌, ◌≢◌, ℕ, ◌-◌, ◌^◌, ◌<◌, ◌≤◌, ◌++◌, List, Some, Err, IfOk, true, false};
+ghost use Rattle.std.specs.Prelude.{◌≡◌, ◌≢◌, ℕ, ◌<◌, ◌≤◌, ◌++◌, List, Some, Err, IfOk, true, false};
 ghost use Rattle.djvu_base.specs.Library.{Files};
 ghost use Rattle.djvu_outside.specs.Faults.{Failure, Rises};
 ghost use Rattle.viewer_words.specs.Words.{words_of};
 ghost use Rattle.viewer_words.specs.Lines.{words_line};
-ghost use Rattle.viewer_run.specs.Cut.{front_failed};
+ghost use Rattle.djvu_base.specs.Meter.{TicksExactly};
+ghost use Rattle.djvu_outside.specs.Parts.{Gives, OneRises, SinkStops, SinksEnd};
+ghost use Rattle.viewer_run.specs.EarlyFailures.{front_failed};
 ghost use Rattle.viewer_run.specs.Front.{draws};
-ghost use Rattle.viewer_run.specs.Outcome.{Gives, OneRises, OnlyTicks, SinkStops, SinksEnd};
 ghost use Rattle.viewer_run.specs.Runs.{Gets, Run, Runs, RunCounts};
 
 use crate::front::{Front, find_front};
 use crate::pages::show_pages;
-use crate::put::put_text;
-use crate::stop::Stop;
 use djvu_base::{Items, Meter};
-use djvu_outside::{Folder, Sink, Status};
+use djvu_outside::{Folder, Sink, Status, Stop, put_text};
 use std::alloc::Global;
-
-/// The run was refused.
-const RUN_REFUSED: Status = Status(2);
 
 /// Does what the words say, each word the list of its bytes. Rasters go to `out`, lines to `report`, and each decision that a
 /// page's reading takes ticks the meter.
@@ -27,7 +23,7 @@ const RUN_REFUSED: Status = Status(2);
 /// definition's, and the meter rises by its work. The status is 0 where every page was drawn or listed, 1 where one was
 /// refused, 2 where the run was. Where the folder failed, it is 3: nothing is written where it was the listing or the table
 /// that failed, and else the pages are those of the files as far as they came. It is 4 where a sink failed, and 5 where there
-/// was no memory; then both sinks grow by fronts of what would have been written, and the meter by at most the work.
+/// was no memory; then both sinks grow by prefixes of what would have been written, and the meter by at most the work.
 pub fn run<F: Folder, S: Sink, E: Sink, M: Meter>(
     alloc: Global,
     words: &[Items<u8>],
@@ -37,15 +33,16 @@ pub fn run<F: Folder, S: Sink, E: Sink, M: Meter>(
     meter: &mut M,
 ) -> Status
     // What is written, the status below 4 and the work that the meter counts, by the failures that the folder met; with 4 and
-    // 5 a front of it, and at most as much work.
+    // 5 a prefix of it, and at most as much work.
     ensures told { (told : Files) → F.files folder.old ≡ Some told →
         Run told words.now result.0 (F.failures folder.old) (F.failures folder.new) (S.given out.old) (S.given out.new) (E.given report.old) (E.given report.new) (M.count meter.old) (M.count meter.new) }
     ensures untouched { (told : Files) (added : List Failure) → F.files folder.old ≡ Some told → F.failures folder.new ≡ F.failures folder.old ++ added → front_failed words.now added ≡ true →
         result.0 < 4 → (out.new ≡ out.old) × (report.new ≡ report.old) }
 
-    // 3 comes where the folder failed, and a lower status where it didn't.
+    // 3 comes where the folder failed, and a lower status where it didn't. Its count never falls.
     ensures folder_failed { result.0 ≡ 3 → Rises (F.faults folder.old) (F.faults folder.new) }
     ensures folder_kept { result.0 < 3 → F.faults folder.new ≡ F.faults folder.old }
+    ensures folder_grows { F.faults folder.old ≤ F.faults folder.new }
 
     // 4 comes where a sink failed, and 5 where none did.
     ensures sink_failed { result.0 ≡ 4 → OneRises (S.faults out.old) (S.faults out.new) (E.faults report.old) (E.faults report.new) }
@@ -59,8 +56,8 @@ pub fn run<F: Folder, S: Sink, E: Sink, M: Meter>(
     ensures refused_output { (number : ℕ) → words_of words.now ≡ Err number → out.new ≡ out.old }
 
     // The meter is only ticked; not at all where nothing is to be drawn, or the run is refused.
-    ensures only_ticks { OnlyTicks (M.count meter.old) (M.count meter.new) }
-    ensures never_falls { M.count meter.old ≤ 2 ^ 64 - 1 → M.count meter.old ≤ M.count meter.new }
+    ensures only_ticks { (ticks : ℕ) × TicksExactly ticks (M.count meter.old) (M.count meter.new) }
+    ensures never_falls { M.count meter.old ≤ M.count meter.new }
     ensures still { draws (words_of words.now) ≡ false → meter.new ≡ meter.old }
     ensures refused_still { result.0 ≡ 2 → meter.new ≡ meter.old }
 
@@ -93,7 +90,7 @@ fn carry_out<F: Folder, S: Sink, E: Sink, M: Meter>(
     ensures refused_line { (number : ℕ) → words_of words.now ≡ Err number → Gives result (E.given report.old) (E.given report.new) (words_line number) }
     ensures refused_output { (number : ℕ) → words_of words.now ≡ Err number → out.new ≡ out.old }
     ensures unlisted { (number : ℕ) → words_of words.now ≡ Err number → result ≢ Err Stop.Folder }
-    ensures only_ticks { OnlyTicks (M.count meter.old) (M.count meter.new) }
+    ensures only_ticks { (ticks : ℕ) × TicksExactly ticks (M.count meter.old) (M.count meter.new) }
     ensures still { draws (words_of words.now) ≡ false → meter.new ≡ meter.old }
     ensures refused_still { IfOk result (λ status. status.0 ≡ 2 → meter.new ≡ meter.old) }
     ensures same_files { F.files folder.new ≡ F.files folder.old }
@@ -114,5 +111,5 @@ fn refuse<E: Sink>(line: &[u8], report: &mut E) -> Result<Status, Stop>
     ensures stops { SinkStops result (E.faults report.old) (E.faults report.new) }
 {
     put_text(report, line)?;
-    Ok(RUN_REFUSED)
+    Ok(Status::RUN_REFUSED)
 }

@@ -5,7 +5,8 @@ use Rattle.viewer_words.specs.declared.commands.Command.{Command}
 use Rattle.viewer_words.specs.declared.commands.Command.TheVariants.{Draw, Info}
 use Rattle.viewer_words.specs.declared.commands.TableChoice.{TableChoice}
 use Rattle.viewer_words.specs.declared.commands.TableChoice.TheVariants.{Djvu, Flat, File}
-use Rattle.viewer_words.specs.Words.{is_file_word, page_limit, words_of}
+use Rattle.viewer_words.specs.Tables.{is_file_word}
+use Rattle.viewer_words.specs.Words.{page_limit, words_of}
 
 -- one page or more, not too many, each by a word that may name a file, and none twice
 pub record IsPageList (pages : List (List ℕ)) : Type 0 where

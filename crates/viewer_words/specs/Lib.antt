@@ -1,4 +1,10 @@
+pub use Rattle.djvu_base.specs.Name
+pub use Rattle.djvu_base.specs.FaultKind
+pub use Rattle.djvu_base.specs.Text
+pub mod Tables
+pub mod Options
 pub mod Words
+pub mod Lines
+pub mod Files
 pub mod Answers
 pub mod Laws
-pub mod Lines

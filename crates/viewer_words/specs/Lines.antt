@@ -1,10 +1,8 @@
 -- The lines of reports, as bytes. Each ends with one newline.
-use Rattle.std.specs.Prelude.{ℕ, ◌++◌, List, [], ◌∷◌, codes, decimal, slice_index_or}
+use Rattle.std.specs.Prelude.{ℕ, ◌++◌, List, [], codes, decimal, slice_index_or}
 use Rattle.djvu_base.specs.declared.faults.Fault.{Fault}
 use Rattle.djvu_base.specs.FaultKind.{word_of}
-
-abbrev pub newline : List ℕ
-newline = 10 ∷ []
+use Rattle.djvu_base.specs.Text.{newline}
 
 -- the name of the file that has this number among the folder's names
 abbrev pub name_at : List (List ℕ) → ℕ → List ℕ
@@ -34,3 +32,7 @@ words_line number = codes "words " ++ (decimal number ++ newline)
 -- `folder N`: how many names a folder has that has too many
 abbrev pub folder_line : ℕ → List ℕ
 folder_line count = codes "folder " ++ (decimal count ++ newline)
+
+-- `table ROW WHY`: the row of a table's file that is no row of a table, and the reason
+abbrev pub table_line : ℕ → List ℕ → List ℕ
+table_line row reason = codes "table " ++ (decimal row ++ (codes " " ++ (reason ++ newline)))

@@ -1,12 +1,14 @@
 //! Laws of the definitions, and worked values of them: each is a clause of a function that does nothing.
-ghost use Rattle.std.specs.Prelude.{◌≡◌, ℕ, ◌+◌, ◌<◌, ◌≤◌, ◌↔◌, ◌++◌, List, [], ◌∷◌, length, take, slice_get, Some, Ok, Err, codes};
+ghost use Rattle.std.specs.Prelude.{◌≡◌, ℕ, ◌+◌, ◌<◌, ◌≤◌, ◌↔◌, ◌++◌, List, [], ◌∷◌, length, map, take, Some, Ok, Err, codes};
 ghost use Rattle.djvu_base.specs.declared.faults.FaultKind.TheVariants.{Truncated, CyclicInclude};
+ghost use Rattle.djvu_base.specs.Text.{newline};
 ghost use Rattle.viewer_words.specs.declared.commands.Command.{Command};
 ghost use Rattle.viewer_words.specs.declared.commands.Command.TheVariants.{Draw, Info};
 ghost use Rattle.viewer_words.specs.declared.commands.TableChoice.TheVariants.{Djvu, Flat, File};
-ghost use Rattle.viewer_words.specs.Words.{words_of, page_limit, pages_in, page_number};
+ghost use Rattle.viewer_words.specs.Words.{words_of, page_limit, pages_in};
+ghost use Rattle.viewer_words.specs.Files.{AreWords, files_in, named_files, unlisted_line};
 ghost use Rattle.viewer_words.specs.Laws.{IsPageList, IsWritten, CanBegin};
-ghost use Rattle.viewer_words.specs.Lines.{notice_line, fault_line, form_line, chunk_line, words_line, folder_line, newline};
+ghost use Rattle.viewer_words.specs.Lines.{notice_line, fault_line, form_line, chunk_line, words_line, folder_line, table_line};
 
 /// Words are a command exactly where they are its first word, then its option or none, and then its pages: 1 to 1,024 of
 /// them, each a name that doesn't begin with `--`, and none twice. The table of DjVu files may stand there by its word,
@@ -23,14 +25,12 @@ pub fn refused_words()
     ensures refused_word { (words : List (List ℕ)) (number : ℕ) → words_of words ≡ Err number → number < length words → ¬ CanBegin (take (number + 1) words) }
 {}
 
-/// Where the files of a command stand among its words: its pages are its last words, and a table's file is word 2, before
-/// them.
-pub fn file_words()
+/// The files that a command's words name are the command's, in its order, and each is the word of its number. No page is
+/// named twice.
+pub fn named_files_are_words()
+    ensures names { (words : List (List ℕ)) (command : Command) → words_of words ≡ Ok command → map (λ file. file.1) (named_files words) ≡ files_in command }
+    ensures words { (words : List (List ℕ)) (command : Command) → words_of words ≡ Ok command → AreWords words (named_files words) }
     ensures pages { (words : List (List ℕ)) (command : Command) → words_of words ≡ Ok command → IsPageList (pages_in command) }
-    ensures others_first { (words : List (List ℕ)) (command : Command) → words_of words ≡ Ok command → length (pages_in command) < length words }
-    ensures page { (words : List (List ℕ)) (command : Command) (at : ℕ) → words_of words ≡ Ok command → slice_get words (page_number words (pages_in command) at) ≡ slice_get (pages_in command) at }
-    ensures table { (words pages : List (List ℕ)) (name : List ℕ) → words_of words ≡ Ok (Draw (File name) pages) → slice_get words 2 ≡ Some name }
-    ensures table_first { (words pages : List (List ℕ)) (name : List ℕ) → words_of words ≡ Ok (Draw (File name) pages) → page_number words pages 0 ≡ 3 }
 {}
 
 /// Words that are no command, and by which word.
@@ -53,7 +53,7 @@ pub fn worked_option_refusals()
     ensures no_name { words_of (codes "draw" ∷ codes "--table" ∷ codes "a/b" ∷ []) ≡ Err 2 }
     ensures option_twice { words_of (codes "draw" ∷ codes "--table" ∷ codes "flat" ∷ codes "--table" ∷ codes "djvu" ∷ codes "p" ∷ []) ≡ Err 3 }
     ensures equals_sign { words_of (codes "draw" ∷ codes "--table=flat" ∷ codes "p" ∷ []) ≡ Err 1 }
-    ensures behind_pages { words_of (codes "draw" ∷ codes "p" ∷ codes "--table" ∷ codes "flat" ∷ []) ≡ Err 2 }
+    ensures after_pages { words_of (codes "draw" ∷ codes "p" ∷ codes "--table" ∷ codes "flat" ∷ []) ≡ Err 2 }
     ensures of_info { words_of (codes "info" ∷ codes "--table" ∷ codes "flat" ∷ codes "p" ∷ []) ≡ Err 1 }
     ensures twice { words_of (codes "draw" ∷ codes "--table" ∷ codes "flat" ∷ codes "p" ∷ codes "p" ∷ []) ≡ Err 4 }
 {}
@@ -63,7 +63,7 @@ pub fn worked_commands()
     ensures limit { page_limit ≡ 1024 }
     ensures one { words_of (codes "draw" ∷ codes "p" ∷ []) ≡ Ok (Draw Djvu (codes "p" ∷ [])) }
     ensures two { words_of (codes "draw" ∷ codes "q" ∷ codes "p" ∷ []) ≡ Ok (Draw Djvu (codes "q" ∷ codes "p" ∷ [])) }
-    ensures second_page { page_number (codes "draw" ∷ codes "q" ∷ codes "p" ∷ []) (codes "q" ∷ codes "p" ∷ []) 1 ≡ 2 }
+    ensures files { named_files (codes "draw" ∷ codes "q" ∷ codes "p" ∷ []) ≡ (1, codes "q") ∷ (2, codes "p") ∷ [] }
     ensures one_dash { words_of (codes "draw" ∷ codes "-p" ∷ []) ≡ Ok (Draw Djvu (codes "-p" ∷ [])) }
     ensures like_a_command { words_of (codes "info" ∷ codes "draw" ∷ codes "info" ∷ []) ≡ Ok (Info (codes "draw" ∷ codes "info" ∷ [])) }
 {}
@@ -74,7 +74,8 @@ pub fn worked_tables()
     ensures flat { words_of (codes "draw" ∷ codes "--table" ∷ codes "flat" ∷ codes "p" ∷ []) ≡ Ok (Draw Flat (codes "p" ∷ [])) }
     ensures file { words_of (codes "draw" ∷ codes "--table" ∷ codes "t" ∷ codes "p" ∷ []) ≡ Ok (Draw (File (codes "t")) (codes "p" ∷ [])) }
     ensures same_file { words_of (codes "draw" ∷ codes "--table" ∷ codes "p" ∷ codes "p" ∷ []) ≡ Ok (Draw (File (codes "p")) (codes "p" ∷ [])) }
-    ensures second_page { page_number (codes "draw" ∷ codes "--table" ∷ codes "t" ∷ codes "q" ∷ codes "p" ∷ []) (codes "q" ∷ codes "p" ∷ []) 1 ≡ 4 }
+    ensures files { named_files (codes "draw" ∷ codes "--table" ∷ codes "t" ∷ codes "q" ∷ codes "p" ∷ []) ≡ (2, codes "t") ∷ (3, codes "q") ∷ (4, codes "p") ∷ [] }
+    ensures unlisted { unlisted_line (codes "p" ∷ codes "t" ∷ []) (named_files (codes "draw" ∷ codes "--table" ∷ codes "t" ∷ codes "p" ∷ codes "q" ∷ [])) ≡ Some (words_line 4) }
     ensures like_a_table { words_of (codes "draw" ∷ codes "flat" ∷ codes "djvu" ∷ []) ≡ Ok (Draw Djvu (codes "flat" ∷ codes "djvu" ∷ [])) }
 {}
 
@@ -86,5 +87,6 @@ pub fn worked_lines()
     ensures form { form_line (codes "p") (codes "DJVU") 34 ≡ codes "p: form DJVU 34" ++ newline }
     ensures chunk { chunk_line (codes "p") (codes "INFO") 16 10 ≡ codes "p: chunk INFO 16 10" ++ newline }
     ensures words { words_line 2 ≡ codes "words 2" ++ 0x0A ∷ [] }
+    ensures table { table_line 250 (codes "short") ≡ codes "table 250 short" ++ newline }
     ensures names { folder_line 1025 ≡ codes "folder 1025" ++ 0x0A ∷ [] }
 {}

@@ -1,24 +1,26 @@
 //! The words of commands, and the lines of reports.
 //!
 //! `read_words` says which command words are, or which word doesn't fit; so far
-//! `draw [--table T] PAGE [PAGE ..]` and `info PAGE [PAGE ..]`. The calls that end with `_line` make the bytes of one
-//! line each, with its newline.
+//! `draw [--table T] PAGE [PAGE ..]` and `info PAGE [PAGE ..]`. `unlisted_line` says whether a folder has the files that the
+//! words name. The calls that end with `_line` make the bytes of one line each, with its newline.
 //!
-//! `specs/` has the definitions: `Words` (what words say), `Answers` (what an answer says of that), `Laws` (what
-//! commands and refused words are, in other words) and `Lines` (each line, as bytes).
+//! `commands` has what words may say, `options` the options of a command, `tables` the word of a table, `words` the whole
+//! parser, `files` the files that words name, and `lines` the lines. `specs/` has the definitions: `Tables`, `Options` and
+//! `Words` (what words say), `Files` (the files that they name, with their numbers), `Lines` (each line, as bytes), `Answers`
+//! (what an answer says of words), and `Laws` (what commands and refused words are, in other words).
 #![tactic(auto)]
 
 mod commands;
-mod laws;
+mod files;
+pub mod laws;
 mod lines;
-#[cfg(test)]
-mod tests;
+mod options;
+mod tables;
 mod words;
 
 pub use commands::{Command, TableChoice, WordsError};
-pub use laws::{
-    file_words, refused_words, worked_commands, worked_lines, worked_option_refusals,
-    worked_refusals, worked_tables, written_commands,
+pub use files::unlisted_line;
+pub use lines::{
+    chunk_line, fault_line, folder_line, form_line, notice_line, table_line, words_line,
 };
-pub use lines::{chunk_line, fault_line, folder_line, form_line, notice_line, words_line};
 pub use words::read_words;

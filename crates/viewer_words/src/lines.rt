@@ -1,6 +1,6 @@
 //! The lines of reports, as bytes.
 ghost use Rattle.std.specs.Prelude.{◌≡◌, ◌<◌, IfOk, length};
-ghost use Rattle.viewer_words.specs.Lines.{notice_line, name_at, fault_line, form_line, chunk_line, words_line, folder_line};
+ghost use Rattle.viewer_words.specs.Lines.{notice_line, name_at, fault_line, form_line, chunk_line, words_line, folder_line, table_line};
 
 use djvu_base::{Fault, Name};
 use std::alloc::{AllocError, Global};
@@ -95,4 +95,14 @@ pub fn folder_line(alloc: Global, count: usize) -> Result<Vec<u8>, AllocError>
 {
     let line = format!(in alloc; "folder {count}\n")?;
     Ok(line.into_bytes())
+}
+
+/// The line of a run that is refused for its table: the row that is no row of a table, from 0, and the reason.
+pub fn table_line(alloc: Global, row: u16, reason: &str) -> Result<Vec<u8>, AllocError>
+    ensures { IfOk result (λ line. line.items ≡ table_line row reason.now) }
+{
+    let mut line = format!(in alloc; "table {row} ")?.into_bytes();
+    line.extend_from_slice(reason.as_bytes())?;
+    line.extend_from_slice(b"\n".as_slice())?;
+    Ok(line)
 }

@@ -3,9 +3,9 @@ use Rattle.std.specs.Arc.{arc_value}
 use Rattle.std.proofs.lemmas.Result.{err_from_is_err_and}
 use Rattle.zp_table.specs.declared.rows.Row.{Row}
 use Rattle.page_decoder.specs.Reading.{Reading, reading}
-use Rattle.page_decoder.specs.Ends.{mark_of}
+use Rattle.djvu_base.specs.Library.{mark_of}
 use Rattle.page_decoder.specs.Found.{IsReading}
-use Rattle.viewer_run.specs.Outcome.{Gives}
+use Rattle.djvu_outside.specs.Parts.{Gives}
 use Rattle.viewer_run.proofs.Showing.{is_put, work_of_reading}
 use Rattle.viewer_run.proofs.pages.put_drawn.Goals as goal
 

@@ -1,10 +1,10 @@
 use Rattle.std.proofs.Common.{List, ℕ, sym, subst, ap, ◌∙◌}
 use Rattle.viewer_run.specs.Offline.{texts_by}
-use Rattle.viewer_run.specs.Outcome.{Delivers}
+use Rattle.djvu_outside.specs.Parts.{Delivers}
 use Rattle.viewer_run.specs.Shown.{file_read}
-use Rattle.viewer_run.proofs.Parts.{nothing_put}
+use Rattle.djvu_outside.proofs.Lemmas.{nothing_put}
 use Rattle.viewer_run.proofs.Showing.{info_puts_nothing, info_reads_none}
-use Rattle.viewer_run.proofs.Ticking.{no_ticks}
+use Rattle.djvu_outside.proofs.Lemmas.{no_ticks}
 use Rattle.viewer_run.proofs.pages.put_file.Goals as goal
 
 pub returns-in-Info-clause-out_text : goal.returns-in-Info-clause-out_text

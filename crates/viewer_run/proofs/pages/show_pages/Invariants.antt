@@ -1,7 +1,7 @@
-use Rattle.std.proofs.Common.{◌≡◌, Some, Ok, take}
+use Rattle.std.proofs.Common.{◌≡◌, ℕ, Some, Ok, take}
 use Rattle.djvu_base.specs.Library.{Files}
+use Rattle.djvu_base.specs.Meter.{TicksExactly}
 use Rattle.viewer_run.specs.declared.front.Mode.TheVariants as mode
-use Rattle.viewer_run.specs.Outcome.{OnlyTicks}
 use Rattle.viewer_run.specs.Shown.{Shows, BrokenCounts}
 use Rattle.viewer_run.proofs.pages.show_pages.Given as goal
 
@@ -13,6 +13,6 @@ invariant-loop-at g l = record {
   counts : BrokenCounts l.all.broken (g.F.Folder.faults l.fn.folder) (g.F.Folder.faults l.folder);
   out_faults : g.S.Sink.faults l.out ≡ g.S.Sink.faults l.fn.out;
   report_faults : g.E.Sink.faults l.report ≡ g.E.Sink.faults l.fn.report;
-  only_ticks : OnlyTicks (g.M.Meter.count l.fn.meter) (g.M.Meter.count l.meter);
+  only_ticks : (ticks : ℕ) × TicksExactly ticks (g.M.Meter.count l.fn.meter) (g.M.Meter.count l.meter);
   still : l.mode ≡ mode.Info → l.meter ≡ l.fn.meter;
 }

@@ -3,9 +3,9 @@ use Rattle.std.proofs.lemmas.List.{append-nil}
 use Rattle.std.proofs.lemmas.Result.{err_from_is_err_and}
 use Rattle.djvu_outside.specs.Reading.{GrowsWithin}
 use Rattle.layer_compose.specs.Drawing.{samples_of}
-use Rattle.viewer_run.specs.Lines.{raster_head, raster_text}
-use Rattle.viewer_run.specs.Outcome.{Delivers}
-use Rattle.viewer_run.proofs.Parts.{grows_within_more, delivers_behind}
+use Rattle.viewer_run.specs.Rasters.{raster_head, raster_text}
+use Rattle.djvu_outside.specs.Parts.{Delivers}
+use Rattle.djvu_outside.proofs.Lemmas.{grows_within_more, delivers_after}
 use Rattle.viewer_run.proofs.put.put_raster.Goals as goal
 
 pub returns-in_err-head-clause-taken : goal.returns-in_err-head-clause-taken
@@ -28,4 +28,4 @@ returns-clause-taken g c before given =
     let rows = c.put_rows.ensures.taken took.0 took.1 in
     let head : c.as_slice.result.now ≡ raster_head layers.width layers.height = c.as_slice.ensures.value ∙ c.in_ok-head.ensures in
     let all : c.as_slice.result.now ++ samples_of layers ≡ raster_text layers = ap (λ h. h ++ samples_of layers) head in
-    (rows.0, rows.1, subst (λ t. Delivers c.put_rows.result before t rows.0) all (delivers_behind c.put_rows.result before c.as_slice.result.now took.0 _ rows.0 took.2 rows.2))
+    (rows.0, rows.1, subst (λ t. Delivers c.put_rows.result before t rows.0) all (delivers_after c.put_rows.result before c.as_slice.result.now took.0 _ rows.0 took.2 rows.2))

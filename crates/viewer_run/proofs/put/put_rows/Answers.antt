@@ -3,7 +3,7 @@ use Rattle.std.proofs.lemmas.Result.{err_from_is_err_and}
 use Rattle.std.proofs.lemmas.List.{append_assoc}
 use Rattle.djvu_outside.specs.Reading.{GrowsWithin}
 use Rattle.layer_compose.specs.Drawing.{samples_of, rows_of}
-use Rattle.viewer_run.proofs.Parts.{grows_behind}
+use Rattle.djvu_outside.proofs.Lemmas.{grows_after}
 use Rattle.viewer_run.proofs.Rows.{rows_more, rows_left}
 use Rattle.viewer_run.proofs.put.put_rows.Goals as goal
 
@@ -21,7 +21,7 @@ returns-in_err-put_block-clause-taken g c before given =
     let all : part ++ (text ++ rest) ≡ samples_of layers = rows_left layers (law.joined layers) done now left (omega arith) (law.all layers) in
     let took = c.in_err-put_block.ensures.taken (before ++ part) (c.loop-done.invariant.put before given) in
     let p = err_from_is_err_and c.from_residual-in_err-put_block.result c.from_residual-in_err-put_block.ensures.1 in
-    rw p.1 (took.0, took.1, subst (λ t. GrowsWithin before t took.0) all (grows_behind before part text rest took.0 took.2))
+    rw p.1 (took.0, took.1, subst (λ t. GrowsWithin before t took.0) all (grows_after before part text rest took.0 took.2))
 
 pub loop-done-preserved : goal.loop-done-preserved
 loop-done-preserved g c =

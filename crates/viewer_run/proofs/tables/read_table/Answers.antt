@@ -2,7 +2,7 @@ use Rattle.std.proofs.Common.{Result, Err, ap, sym, subst, ◌∙◌}
 use Rattle.std.proofs.lemmas.Result.{err_from_is_err_and}
 use Rattle.viewer_words.specs.declared.commands.TableChoice.TheVariants as choice
 use Rattle.viewer_run.specs.declared.tables.Chosen.{Chosen}
-use Rattle.viewer_run.specs.declared.stop.Stop.{Stop}
+use Rattle.djvu_outside.specs.declared.stops.Stop.{Stop}
 use Rattle.viewer_run.specs.Start.{Starts}
 use Rattle.viewer_run.proofs.Starting.{broken_read, whole_read}
 use Rattle.viewer_run.proofs.tables.read_table.Goals as goal

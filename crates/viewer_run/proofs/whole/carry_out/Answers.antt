@@ -1,10 +1,11 @@
 use Rattle.std.proofs.Common.{◌≡◌, List, ℕ, Err, ap, sym, ◌∙◌, subst}
 use Rattle.std.proofs.lemmas.Result.{err_from_is_err_and}
 use Rattle.viewer_words.specs.Lines.{words_line}
-use Rattle.viewer_run.specs.Outcome.{Gives}
+use Rattle.djvu_outside.specs.Parts.{Gives}
 use Rattle.viewer_run.specs.Shown.{Shows}
 use Rattle.viewer_run.specs.Start.{CanShow}
-use Rattle.viewer_run.proofs.Running.{runs_shown, runs_stopped, runs_refused, runs_early, never_folder, sink_only, same_line, gives_none}
+use Rattle.djvu_outside.proofs.Lemmas.{gives_none, never_folder, sink_only}
+use Rattle.viewer_run.proofs.Running.{runs_shown, runs_stopped, runs_refused, runs_early, same_line}
 use Rattle.viewer_run.proofs.whole.carry_out.Goals as goal
 
 pub returns-in_err-line-clause-told : goal.returns-in_err-line-clause-told

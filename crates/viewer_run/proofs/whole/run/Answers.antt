@@ -14,10 +14,10 @@ pub returns-in-Err-clause-told : goal.returns-in-Err-clause-told
 returns-in-Err-clause-told g c told files = run_stopped told c.args.words.now c.in-Err.stop c.status.result.0 _ _ _ _ _ _ _ _ c.status.ensures (c.in-Err.ensures.told told files)
 
 pub returns-in-Ok-clause-never_falls : goal.returns-in-Ok-clause-never_falls
-returns-in-Ok-clause-never_falls g c below = never_fell _ _ c.carry_out.ensures.only_ticks below
+returns-in-Ok-clause-never_falls g c = never_fell _ _ c.carry_out.ensures.only_ticks
 
 pub returns-in-Err-clause-never_falls : goal.returns-in-Err-clause-never_falls
-returns-in-Err-clause-never_falls g c below = never_fell _ _ c.carry_out.ensures.only_ticks below
+returns-in-Err-clause-never_falls g c = never_fell _ _ c.carry_out.ensures.only_ticks
 
 pub returns-in-Ok-clause-refused_line : goal.returns-in-Ok-clause-refused_line
 returns-in-Ok-clause-refused_line g c number e = gets_all c.in-Ok.status _ _ (words_line number) (c.in-Ok.ensures.refused_line number e)

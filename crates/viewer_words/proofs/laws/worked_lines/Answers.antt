@@ -29,3 +29,7 @@ returns-clause-words c = refl
 pub returns-clause-names : goal.returns-clause-names
 unfolding digits
 returns-clause-names c = refl
+
+pub returns-clause-table : goal.returns-clause-table
+unfolding digits
+returns-clause-table c = refl

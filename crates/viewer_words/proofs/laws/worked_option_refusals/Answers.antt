@@ -24,9 +24,9 @@ pub returns-clause-equals_sign : goal.returns-clause-equals_sign
 unfolding page_limit is_utf8 chars encode
 returns-clause-equals_sign c = refl
 
-pub returns-clause-behind_pages : goal.returns-clause-behind_pages
+pub returns-clause-after_pages : goal.returns-clause-after_pages
 unfolding page_limit is_utf8 chars encode
-returns-clause-behind_pages c = refl
+returns-clause-after_pages c = refl
 
 pub returns-clause-of_info : goal.returns-clause-of_info
 unfolding page_limit is_utf8 chars encode

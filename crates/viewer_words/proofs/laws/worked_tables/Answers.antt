@@ -23,3 +23,11 @@ returns-clause-same_file c = refl
 pub returns-clause-like_a_table : goal.returns-clause-like_a_table
 unfolding page_limit is_utf8 chars encode
 returns-clause-like_a_table c = refl
+
+pub returns-clause-files : goal.returns-clause-files
+unfolding page_limit is_utf8 chars encode
+returns-clause-files c = refl
+
+pub returns-clause-unlisted : goal.returns-clause-unlisted
+unfolding page_limit is_utf8 chars encode
+returns-clause-unlisted c = refl

@@ -6,7 +6,7 @@ use Rattle.djvu_base.specs.Library.{file_limit}
 use Rattle.zp_decoder.specs.Decision.{most_bits}
 use Rattle.jb2_numbers.specs.Number.{most_decisions}
 use Rattle.jb2_records.specs.Reading.{most_records}
-use Rattle.page_decoder.proofs.worked.worked_sizes.Goals as goal
+use Rattle.page_decoder.proofs.laws.worked_sizes.Goals as goal
 
 pub returns-clause-sizes : goal.returns-clause-sizes
 unfolding digits is_utf8 chars encode file_limit most_bits most_decisions most_records

@@ -6,56 +6,56 @@ use Rattle.djvu_base.specs.Library.{file_limit}
 use Rattle.zp_decoder.specs.Decision.{most_bits}
 use Rattle.jb2_numbers.specs.Number.{most_decisions}
 use Rattle.jb2_records.specs.Reading.{most_records}
-use Rattle.page_decoder.proofs.worked.worked_readings.Goals as goal
+use Rattle.page_decoder.proofs.laws.worked_masks.Goals as goal
 
-pub returns-clause-blank : goal.returns-clause-blank
+pub returns-clause-dot : goal.returns-clause-dot
 unfolding digits is_utf8 chars encode file_limit most_bits most_decisions most_records
-returns-clause-blank c = refl
+returns-clause-dot c = refl
 
-pub returns-clause-bare : goal.returns-clause-bare
+pub returns-clause-longer : goal.returns-clause-longer
 unfolding digits is_utf8 chars encode file_limit most_bits most_decisions most_records
-returns-clause-bare c = refl
+returns-clause-longer c = refl
 
-pub returns-clause-empty : goal.returns-clause-empty
+pub returns-clause-behind_another : goal.returns-clause-behind_another
 unfolding digits is_utf8 chars encode file_limit most_bits most_decisions most_records
-returns-clause-empty c = refl
+returns-clause-behind_another c = refl
 
-pub returns-clause-other_chunk : goal.returns-clause-other_chunk
+pub returns-clause-cut_early : goal.returns-clause-cut_early
 unfolding digits is_utf8 chars encode file_limit most_bits most_decisions most_records
-returns-clause-other_chunk c = refl
+returns-clause-cut_early c = refl
 
-pub returns-clause-unread : goal.returns-clause-unread
+pub returns-clause-cut_late : goal.returns-clause-cut_late
 unfolding digits is_utf8 chars encode file_limit most_bits most_decisions most_records
-returns-clause-unread c = refl
+returns-clause-cut_late c = refl
 
-pub returns-clause-overrun : goal.returns-clause-overrun
+pub returns-clause-cut_behind : goal.returns-clause-cut_behind
 unfolding digits is_utf8 chars encode file_limit most_bits most_decisions most_records
-returns-clause-overrun c = refl
+returns-clause-cut_behind c = refl
 
-pub returns-clause-too_large : goal.returns-clause-too_large
+pub returns-clause-broken_off : goal.returns-clause-broken_off
 unfolding digits is_utf8 chars encode file_limit most_bits most_decisions most_records
-returns-clause-too_large c = refl
+returns-clause-broken_off c = refl
 
-pub returns-clause-no_columns : goal.returns-clause-no_columns
+pub returns-clause-arriving : goal.returns-clause-arriving
 unfolding digits is_utf8 chars encode file_limit most_bits most_decisions most_records
-returns-clause-no_columns c = refl
+returns-clause-arriving c = refl
 
-pub returns-clause-mask_first : goal.returns-clause-mask_first
+pub returns-clause-no_start : goal.returns-clause-no_start
 unfolding digits is_utf8 chars encode file_limit most_bits most_decisions most_records
-returns-clause-mask_first c = refl
+returns-clause-no_start c = refl
 
-pub returns-clause-no_chunk : goal.returns-clause-no_chunk
+pub returns-clause-past_the_end : goal.returns-clause-past_the_end
 unfolding digits is_utf8 chars encode file_limit most_bits most_decisions most_records
-returns-clause-no_chunk c = refl
+returns-clause-past_the_end c = refl
 
-pub returns-clause-no_chunk_bare : goal.returns-clause-no_chunk_bare
+pub returns-clause-other_size : goal.returns-clause-other_size
 unfolding digits is_utf8 chars encode file_limit most_bits most_decisions most_records
-returns-clause-no_chunk_bare c = refl
+returns-clause-other_size c = refl
 
-pub returns-clause-several : goal.returns-clause-several
+pub returns-clause-no_data : goal.returns-clause-no_data
 unfolding digits is_utf8 chars encode file_limit most_bits most_decisions most_records
-returns-clause-several c = refl
+returns-clause-no_data c = refl
 
-pub returns-clause-no_page : goal.returns-clause-no_page
+pub returns-clause-two_masks : goal.returns-clause-two_masks
 unfolding digits is_utf8 chars encode file_limit most_bits most_decisions most_records
-returns-clause-no_page c = refl
+returns-clause-two_masks c = refl

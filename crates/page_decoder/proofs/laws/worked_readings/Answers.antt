@@ -6,56 +6,56 @@ use Rattle.djvu_base.specs.Library.{file_limit}
 use Rattle.zp_decoder.specs.Decision.{most_bits}
 use Rattle.jb2_numbers.specs.Number.{most_decisions}
 use Rattle.jb2_records.specs.Reading.{most_records}
-use Rattle.page_decoder.proofs.worked.worked_masks.Goals as goal
+use Rattle.page_decoder.proofs.laws.worked_readings.Goals as goal
 
-pub returns-clause-dot : goal.returns-clause-dot
+pub returns-clause-blank : goal.returns-clause-blank
 unfolding digits is_utf8 chars encode file_limit most_bits most_decisions most_records
-returns-clause-dot c = refl
+returns-clause-blank c = refl
 
-pub returns-clause-longer : goal.returns-clause-longer
+pub returns-clause-bare : goal.returns-clause-bare
 unfolding digits is_utf8 chars encode file_limit most_bits most_decisions most_records
-returns-clause-longer c = refl
+returns-clause-bare c = refl
 
-pub returns-clause-behind_another : goal.returns-clause-behind_another
+pub returns-clause-empty : goal.returns-clause-empty
 unfolding digits is_utf8 chars encode file_limit most_bits most_decisions most_records
-returns-clause-behind_another c = refl
+returns-clause-empty c = refl
 
-pub returns-clause-cut_early : goal.returns-clause-cut_early
+pub returns-clause-other_chunk : goal.returns-clause-other_chunk
 unfolding digits is_utf8 chars encode file_limit most_bits most_decisions most_records
-returns-clause-cut_early c = refl
+returns-clause-other_chunk c = refl
 
-pub returns-clause-cut_late : goal.returns-clause-cut_late
+pub returns-clause-unread : goal.returns-clause-unread
 unfolding digits is_utf8 chars encode file_limit most_bits most_decisions most_records
-returns-clause-cut_late c = refl
+returns-clause-unread c = refl
 
-pub returns-clause-cut_behind : goal.returns-clause-cut_behind
+pub returns-clause-overrun : goal.returns-clause-overrun
 unfolding digits is_utf8 chars encode file_limit most_bits most_decisions most_records
-returns-clause-cut_behind c = refl
+returns-clause-overrun c = refl
 
-pub returns-clause-broken_off : goal.returns-clause-broken_off
+pub returns-clause-too_large : goal.returns-clause-too_large
 unfolding digits is_utf8 chars encode file_limit most_bits most_decisions most_records
-returns-clause-broken_off c = refl
+returns-clause-too_large c = refl
 
-pub returns-clause-arriving : goal.returns-clause-arriving
+pub returns-clause-no_columns : goal.returns-clause-no_columns
 unfolding digits is_utf8 chars encode file_limit most_bits most_decisions most_records
-returns-clause-arriving c = refl
+returns-clause-no_columns c = refl
 
-pub returns-clause-no_start : goal.returns-clause-no_start
+pub returns-clause-mask_first : goal.returns-clause-mask_first
 unfolding digits is_utf8 chars encode file_limit most_bits most_decisions most_records
-returns-clause-no_start c = refl
+returns-clause-mask_first c = refl
 
-pub returns-clause-past_the_end : goal.returns-clause-past_the_end
+pub returns-clause-no_chunk : goal.returns-clause-no_chunk
 unfolding digits is_utf8 chars encode file_limit most_bits most_decisions most_records
-returns-clause-past_the_end c = refl
+returns-clause-no_chunk c = refl
 
-pub returns-clause-other_size : goal.returns-clause-other_size
+pub returns-clause-no_chunk_bare : goal.returns-clause-no_chunk_bare
 unfolding digits is_utf8 chars encode file_limit most_bits most_decisions most_records
-returns-clause-other_size c = refl
+returns-clause-no_chunk_bare c = refl
 
-pub returns-clause-no_data : goal.returns-clause-no_data
+pub returns-clause-several : goal.returns-clause-several
 unfolding digits is_utf8 chars encode file_limit most_bits most_decisions most_records
-returns-clause-no_data c = refl
+returns-clause-several c = refl
 
-pub returns-clause-two_masks : goal.returns-clause-two_masks
+pub returns-clause-no_page : goal.returns-clause-no_page
 unfolding digits is_utf8 chars encode file_limit most_bits most_decisions most_records
-returns-clause-two_masks c = refl
+returns-clause-no_page c = refl

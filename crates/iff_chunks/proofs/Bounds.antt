@@ -1,16 +1,16 @@
 -- What the limit on files and a FORM's length bound.
-use Rattle.std.proofs.Common.{◌≡◌, ◌≢◌, ℕ, ◌+◌, ◌-◌, ◌*◌, ◌%◌, ◌<◌, ◌≤◌, suc, Bool, true, false, cond, Option, Some, None, List, [], ◌∷◌, ◌++◌, ◌⊎◌, inl, inr, eqb, length, take, drop, ltb, refl, sym, ap, ◌∙◌, subst, arith}
+use Rattle.std.proofs.Common.{◌≡◌, ℕ, ◌+◌, ◌-◌, ◌*◌, ◌%◌, ◌<◌, ◌≤◌, Bool, true, false, cond, Option, Some, None, List, [], ◌∷◌, ◌++◌, ◌⊎◌, inl, inr, eqb, length, take, drop, ltb, refl, ap, ◌∙◌, arith}
 use Rattle.std.specs.Cmp.{second_so}
 use Rattle.std.proofs.lemmas.Bool.{ltb-true}
 use Rattle.std.proofs.lemmas.List.{length-append, length-drop}
 use Rattle.byteorder.specs.Endian.{big_number}
 use Rattle.djvu_base.specs.declared.faults.FaultKind.{FaultKind}
-use Rattle.djvu_base.specs.declared.faults.FaultKind.TheVariants.{Truncated, NotForm, TooLarge}
+use Rattle.djvu_base.specs.declared.faults.FaultKind.TheVariants.{Truncated}
 use Rattle.djvu_base.specs.Library.{file_limit}
 use Rattle.iff_chunks.specs.Start.{Start, Begins, Arriving, Differs, start_of}
-use Rattle.iff_chunks.specs.Chunks.{Form, Chunk, Chunks, Tail, InHead, InHeader, InData, InPad, FormEnd, Broken, is_padded, in_head, in_form, no_form, rest_at, kind_at, length_fault, size_at, whole_length, length_at, magic, form_word, form_at, after_magic, chunks_of, chunks_in_all, end_of}
+use Rattle.iff_chunks.specs.Chunks.{Form, Chunk, Chunks, Tail, InHead, InHeader, InData, InPad, FormEnd, Broken, is_padded, in_head, in_form, rest_at, kind_at, length_fault, size_at, whole_length, length_at, magic, form_word, form_at, after_magic, chunks_of, chunks_in_all, end_of}
 use Rattle.iff_chunks.specs.Events.{IsOpen}
-use Rattle.iff_chunks.specs.Layout.{IsHeader, left_after, Laid, AtEnd, TooShort, Beginning, NoId, TooLong, DataArriving, PadMissing, Padded, Unpadded, IsLaidForm}
+use Rattle.iff_chunks.specs.Layout.{left_after, Laid, AtEnd, TooShort, Beginning, NoId, TooLong, DataArriving, PadMissing, Padded, Unpadded}
 use Rattle.iff_chunks.proofs.Laying.{begins_so, form_laid}
 use Rattle.iff_chunks.proofs.LaidChunks.{eight_bytes}
 use Rattle.iff_chunks.proofs.Uncut.{uncut}

@@ -7,7 +7,7 @@ use Rattle.byteorder.specs.Endian.{big_number}
 use Rattle.djvu_base.specs.declared.faults.FaultKind.{FaultKind}
 use Rattle.djvu_base.specs.declared.faults.FaultKind.TheVariants.{NotForm, TooLarge, BadId, Overrun}
 use Rattle.djvu_base.specs.Library.{file_limit}
-use Rattle.iff_chunks.specs.Chunks.{Form, Chunk, Chunks, Rest, Tail, Has, On, InHeader, InData, InPad, FormEnd, Broken, found_so, behind_so, header_at, header_fault, data_at, behind_data, pad_at, is_padded, is_id_byte, rest_at, in_form, length_at, whole_length, size_at, length_fault, magic, form_word, form_at, chunks_of}
+use Rattle.iff_chunks.specs.Chunks.{Form, Chunk, Rest, Tail, Has, On, InData, found_so, header_at, header_fault, data_at, behind_data, pad_at, is_padded, is_id_byte, rest_at, in_form, length_at, whole_length, size_at, length_fault, form_word, chunks_of}
 use Rattle.iff_chunks.specs.Layout.{IsHeader, IsBegun, left_after, Laid, AtEnd, TooShort, Beginning, NoId, TooLong, DataArriving, PadMissing, Padded, Unpadded, IsPrefix, IsLaidForm}
 use Rattle.iff_chunks.proofs.Moving.{cond_true, cond_false, take_front, drop_front}
 use Rattle.iff_chunks.proofs.Heading.{length_there, kind_there}

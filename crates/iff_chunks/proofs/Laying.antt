@@ -1,5 +1,5 @@
 -- A file's bytes are its FORM's head, its chunks and its tail, one behind the other.
-use Rattle.std.proofs.Common.{◌≡◌, ◌≢◌, ℕ, ◌+◌, ◌-◌, ◌%◌, ◌<◌, ◌≤◌, zero, suc, Bool, true, false, cond, Option, Some, None, List, [], ◌∷◌, ◌++◌, inl, inr, length, take, drop, eqb, ltb, refl, sym, ap, ◌∙◌, subst, arith, append_assoc}
+use Rattle.std.proofs.Common.{◌≡◌, ◌≢◌, ℕ, ◌+◌, ◌-◌, ◌≤◌, zero, suc, Bool, true, false, cond, Option, Some, None, List, [], ◌∷◌, ◌++◌, inl, inr, length, take, drop, eqb, ltb, refl, sym, ap, ◌∙◌, subst, arith, append_assoc}
 use Rattle.std.specs.List.{list_all}
 use Rattle.std.proofs.lemmas.Bool.{eqb-true, eqb-false, ltb-true, ltb-false}
 use Rattle.std.proofs.lemmas.List.{append-nil, length-drop, length-take-le, drop-drop, take-append-drop}
@@ -8,7 +8,7 @@ use Rattle.djvu_base.specs.declared.faults.FaultKind.{FaultKind}
 use Rattle.djvu_base.specs.declared.faults.FaultKind.TheVariants.{NotForm, TooLarge, ShortHeader, BadId, Overrun}
 use Rattle.djvu_base.specs.Library.{file_limit}
 use Rattle.iff_chunks.specs.Start.{Start, Begins, Arriving, Differs, start_of}
-use Rattle.iff_chunks.specs.Chunks.{Form, Chunk, Chunks, Rest, Tail, Stops, Has, On, InHeader, InData, FormEnd, Broken, found_so, whole_header, header_at, header_fault, behind_data, pad_at, is_padded, is_id_byte, InPad, chunks_from, rest_at, in_head, in_form, kind_at, length_fault, size_at, whole_length, length_at, magic, form_word, form_at, after_magic, chunks_of}
+use Rattle.iff_chunks.specs.Chunks.{Form, Chunk, Chunks, Rest, Tail, Stops, Has, On, InHeader, InData, FormEnd, Broken, found_so, whole_header, header_at, behind_data, pad_at, is_padded, is_id_byte, InPad, chunks_from, rest_at, in_head, in_form, kind_at, length_fault, size_at, whole_length, length_at, magic, form_word, form_at, after_magic, chunks_of}
 use Rattle.iff_chunks.specs.Layout.{IsNumber, IsHeader, IsBegun, left_after, Laid, AtEnd, TooShort, Beginning, NoId, TooLong, DataArriving, PadMissing, Padded, Unpadded, IsPrefix, IsLaidForm}
 
 abbrev LaidRest : ℕ → ℕ → Rest → List ℕ → Type 0

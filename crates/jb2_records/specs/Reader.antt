@@ -4,7 +4,7 @@ use Rattle.std.specs.Arc.{arc_value}
 use Rattle.std.specs.declared.sync.Arc.{Arc}
 use Rattle.djvu_base.specs.Meter.{ticked, TicksExactly}
 use Rattle.zp_table.specs.declared.rows.Row.{Row}
-use Rattle.bit_plane.specs.Pixels.{Pixels}
+use Rattle.bit_plane.specs.Pixels.{Pixels, area_limit, side_limit}
 use Rattle.jb2_numbers.specs.Number.{chunk}
 use Rattle.jb2_records.specs.declared.reader.Jb2Step.{Jb2Step}
 use Rattle.jb2_records.specs.declared.reader.Jb2Step.TheVariants as answer
@@ -69,7 +69,7 @@ inherited_of (Some dictionary) = arc_value dictionary
 -- a size that a mask may have
 pub record IsMaskSize (width height : ℕ) : Type 0 where
   pub some_columns : 1 ≤ width
-  pub most_columns : width ≤ 65535
+  pub most_columns : width ≤ side_limit
   pub some_rows : 1 ≤ height
-  pub most_rows : height ≤ 65535
-  pub area : width * height ≤ 67_108_864
+  pub most_rows : height ≤ side_limit
+  pub area : width * height ≤ area_limit

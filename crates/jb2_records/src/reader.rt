@@ -1,7 +1,7 @@
 //! The reader of a mask.
 ghost use Rattle.std.specs.Prelude.{◌≡◌, ◌≢◌, ℕ, ◌-◌, ◌*◌, ◌≤◌, List, [], ◌++◌, length, true, false, Option, Some, None, IfOk, OnOk, OnErr};
 ghost use Rattle.std.specs.Arc.{arc_value};
-ghost use Rattle.bit_plane.specs.Pixels.{Pixels};
+ghost use Rattle.bit_plane.specs.Pixels.{Pixels, area_limit, side_limit};
 ghost use Rattle.djvu_base.specs.Meter.{ticked, TicksExactly};
 ghost use Rattle.jb2_records.specs.Reading.{records_of};
 ghost use Rattle.jb2_records.specs.Mask.{mask_drawn};
@@ -89,10 +89,10 @@ impl MaskReader {
         height: u32,
     ) -> Result<MaskReader, AllocError>
         requires some_columns { 1 ≤ width }
-        requires most_columns { width ≤ 65535 }
+        requires most_columns { width ≤ side_limit }
         requires some_rows { 1 ≤ height }
-        requires most_rows { height ≤ 65535 }
-        requires area { width * height ≤ 67_108_864 }
+        requires most_rows { height ≤ side_limit }
+        requires area { width * height ≤ area_limit }
         ensures fed { IfOk result (λ reader. Fed [] reader) }
         ensures table { IfOk result (λ reader. reader.table ≡ arc_value table) }
         ensures inherited { IfOk result (λ reader. reader.inherited ≡ inherited_of inherited) }

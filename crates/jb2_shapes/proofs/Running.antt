@@ -1,10 +1,9 @@
 -- Pixels at hand: what they are where a word was cut or moved on, and that a pixel that is read leaves them.
-use Rattle.std.proofs.Common.{◌≡◌, ℕ, ◌+◌, ◌-◌, ◌*◌, ◌/◌, ◌%◌, ◌^◌, ◌<◌, ◌≤◌, min, cond, bit_and, Bool, true, false, ◌&&◌, eqb, ltb, get_or, ℤ, pos, negsuc, ◌+ℤ◌, ◌-ℤ◌, ◌≤ℤ◌, refl, ap, sym, ◌∙◌, arith, inl, inr}
+use Rattle.std.proofs.Common.{◌≡◌, ℕ, ◌+◌, ◌/◌, ◌^◌, ◌<◌, ◌≤◌, bit_and, Bool, true, false, eqb, ℤ, pos, ◌+ℤ◌, refl, ap, sym, ◌∙◌, arith}
 use Rattle.std.proofs.lemmas.Int.{ints}
 use Rattle.std.proofs.lemmas.Nat.Bits.{shr_and_one}
-use Rattle.std.proofs.lemmas.Bool.{cases_Bool, cases_lt, and_parts, ltb-true}
 use Rattle.bit_plane.specs.Bits.{digit as bit_at}
-use Rattle.bit_plane.specs.Pixels.{Pixels, is_black, is_black_at}
+use Rattle.bit_plane.specs.Pixels.{Pixels, is_black}
 use Rattle.bit_plane.specs.Rows.{IsRun}
 use Rattle.bit_plane.proofs.Lemmas.{digit-shr, same_place}
 use Rattle.bit_plane.specs.Bits.{digit_of}

@@ -1,5 +1,5 @@
 -- Numbers of contexts: their colours as digits, behind a one.
-use Rattle.std.specs.Prelude.{◌≡◌, ℕ, ◌+◌, ◌*◌, ◌<◌, Bool, true, false, List, [], ◌∷◌, slice_index}
+use Rattle.std.specs.Prelude.{◌≡◌, ℕ, ◌+◌, ◌*◌, ◌<◌, Bool, List, [], ◌∷◌, slice_index}
 use Rattle.bit_plane.specs.Bits.{digit_of}
 use Rattle.jb2_shapes.specs.Contexts.{States}
 

@@ -1,7 +1,7 @@
 -- Pixels at hand, as the digits of a word, and where the reading of a shape stands.
-use Rattle.std.specs.Prelude.{◌≡◌, ℕ, ◌+◌, ◌-◌, ◌<◌, ◌≤◌, ◌⊎◌, nat_lt, Bool, false, [], ◌∷◌, ℤ, pos, ◌+ℤ◌, if◌then◌else◌}
+use Rattle.std.specs.Prelude.{◌≡◌, ℕ, ◌+◌, ◌-◌, ◌<◌, ◌≤◌, ◌⊎◌, nat_lt, Bool, false, [], ◌∷◌, if◌then◌else◌}
 use Rattle.bit_plane.specs.Bits.{digit as bit_at}
-use Rattle.bit_plane.specs.Pixels.{Pixels, is_black, is_black_at}
+use Rattle.bit_plane.specs.Pixels.{is_black_at}
 use Rattle.bit_plane.specs.Bits.{digit_of}
 use Rattle.jb2_shapes.specs.Numbers.{number_from}
 use Rattle.jb2_shapes.specs.Shape.{Sketch, IsUnread, column_of, row_of}

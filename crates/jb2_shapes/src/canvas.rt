@@ -76,7 +76,8 @@ impl Canvas {
         requires { IsUnread self.now }
         ensures { IsRun self.now.shape (pos (column_of self.now) +ℤ right) (pos (row_of self.now) +ℤ up) 64 result }
     {
-        self.shape.row_from(moved(self.column, right), moved(self.row, up))
+        self.shape
+            .row_from(moved(self.column, right), moved(self.row, up))
     }
 
     /// Reads the next pixel.

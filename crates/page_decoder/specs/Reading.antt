@@ -12,7 +12,7 @@ use Rattle.iff_chunks.specs.Chunks as grammar
 use Rattle.iff_chunks.specs.Ends.{closed}
 use Rattle.iff_chunks.specs.Refused.{refused_ids}
 use Rattle.zp_table.specs.declared.rows.Row.{Row}
-use Rattle.bit_plane.specs.Pixels.{Pixels}
+use Rattle.bit_plane.specs.Pixels.{Pixels, area_limit}
 use Rattle.jb2_numbers.specs.Number.{chunk}
 use Rattle.jb2_records.specs.declared.reader.Jb2Step.{Jb2Step}
 use Rattle.jb2_records.specs.declared.reader.Jb2Step.TheVariants as answer
@@ -74,10 +74,6 @@ header_fault is_first has_mask id size =
 -- an INFO holds width and height first, two bytes each, the higher byte first
 abbrev pub size_in : List ℕ → Size
 size_in bytes = record { width = big_number 2 bytes; height = big_number 2 (drop 2 bytes) }
-
--- the largest page, in pixels
-abbrev pub area_limit : ℕ
-area_limit = 67_108_864
 
 abbrev pub size_fault : Size → Option FaultKind
 size_fault size =

@@ -1,6 +1,7 @@
 //! What is wrong with a page, by its FORM's kind, by a chunk's header, and by its size.
 ghost use Rattle.std.specs.Prelude.{◌≡◌, ◌*◌, ◌<◌, ◌≤◌, None, length};
-ghost use Rattle.page_decoder.specs.Reading.{area_limit, kind_fault, header_fault, size_fault, size_in, is_info, is_mask};
+ghost use Rattle.bit_plane.specs.Pixels.{area_limit};
+ghost use Rattle.page_decoder.specs.Reading.{kind_fault, header_fault, size_fault, size_in, is_info, is_mask};
 ghost use Rattle.djvu_base.specs.Name.{is_listed};
 
 use byteorder::{BigEndian, ByteOrder};

@@ -32,4 +32,6 @@ pub fn work_is_decisions()
 pub fn unrefused_pages_are_drawn()
     ensures { (rows : List Row) (file : File) → file.mark ≢ Open → (texts_of_file rows file).refused ≡ false →
         (layers : Layers) × (last_layers (reading rows file.mark file.bytes).notices ≡ Some layers) × ((texts_of_file rows file).out ≡ raster_text layers) }
-{}
+{
+    page_decoder::laws::ends();
+}

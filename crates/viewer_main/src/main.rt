@@ -11,13 +11,10 @@ use std::alloc::AllocError;
 use std::process::ExitCode;
 use viewer_run::run;
 
-/// The status of a run for which there is no memory.
-const NO_MEMORY: u8 = 5;
-
 fn main(rt: HostRuntime) -> ExitCode {
     match start(&rt) {
         Ok(status) => ExitCode::from(status.0),
-        Err(_) => ExitCode::from(NO_MEMORY),
+        Err(_) => ExitCode::from(Status::NO_MEMORY.0),
     }
 }
 

@@ -35,7 +35,7 @@ loop-at-preserved g c =
       counts = counts_more c.loop-at.all c.in_ok-shown.shown c.with-all.result _ _ _ with inv.counts c.in_ok-shown.ensures.counts;
       out_faults = c.in_ok-shown.ensures.sinks_end.0 ∙ inv.out_faults;
       report_faults = c.in_ok-shown.ensures.sinks_end.1 ∙ inv.report_faults;
-      only_ticks = only_both _ _ _ inv.only_ticks c.show_page.ensures.only_ticks;
+      only_ticks = only_both (g.M.Meter.count c.args.meter.now) (g.M.Meter.count c.loop-at.meter) (g.M.Meter.count c.show_page.new.meter) inv.only_ticks c.show_page.ensures.only_ticks;
       still = λ info. c.show_page.ensures.still info ∙ inv.still info;
     }
 
@@ -45,4 +45,4 @@ returns-clause-told g c told files =
     shows_named c.args.mode.now told (take c.loop-at.at names) names (Ok c.loop-at.all) _ _ _ _ _ _ _ _ (take_all c.loop-at.at names c.loop-at-test.false) (c.loop-at.invariant.drawn told files)
 
 pub returns-in_err-shown-clause-only_ticks : goal.returns-in_err-shown-clause-only_ticks
-returns-in_err-shown-clause-only_ticks g c = only_both _ _ _ c.loop-at.invariant.only_ticks c.show_page.ensures.only_ticks
+returns-in_err-shown-clause-only_ticks g c = only_both (g.M.Meter.count c.args.meter.now) (g.M.Meter.count c.loop-at.meter) (g.M.Meter.count c.show_page.new.meter) c.loop-at.invariant.only_ticks c.show_page.ensures.only_ticks

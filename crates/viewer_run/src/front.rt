@@ -60,9 +60,7 @@ pub fn find_front<F: Folder>(
 {
     viewer_words::laws::named_files_are_words();
     match read_words(alloc, words) {
-        Ok(Command::Draw { table, pages }) => {
-            front_of_draw(alloc, words, &table, pages, folder)
-        }
+        Ok(Command::Draw { table, pages }) => { front_of_draw(alloc, words, &table, pages, folder) }
         Ok(Command::Info { pages }) => front_of_info(alloc, words, pages, folder),
         Err(WordsError::Refused(number)) => {
             Ok(Front::Refused(Items::of(words_line(alloc, number)?)))

@@ -1,0 +1,4 @@
+pub mod Included
+pub mod Outlines
+pub mod Verdicts
+pub mod Worked

@@ -1,0 +1,72 @@
+-- The verdict on a file: a walk over the outlines of files, depth first, with the path of files that it went down by.
+use Rattle.std.specs.Prelude.{ℕ, zero, suc, ◌+◌, eqb, Bool, true, false, List, [], ◌∷◌, ◌++◌, length, Option, Some, None, if◌then◌else◌, bytes_eq}
+use Rattle.std.specs.List.{list_any}
+use Rattle.djvu_base.specs.declared.faults.FaultKind.{FaultKind}
+use Rattle.djvu_base.specs.declared.faults.FaultKind.TheVariants as fault
+use Rattle.include_graph.specs.declared.outline.Outline.{Outline}
+use Rattle.include_graph.specs.declared.outline.OutlineItem.{OutlineItem}
+use Rattle.include_graph.specs.declared.outline.OutlineItem.TheVariants as item
+use Rattle.include_graph.specs.declared.verdicts.Verdict.{Verdict}
+use Rattle.include_graph.specs.declared.verdicts.Verdict.TheVariants.{Files, NeedOutline, Refused}
+
+-- the files of a folder: their names in order, and the outlines that are known, by the numbers of the names
+pub record Graph : Type 0 where
+  pub names : List (List ℕ)
+  pub outlines : ℕ → Option Outline
+
+-- the number of the first name that is this one, where the first has this number
+abbrev pub number_from : ℕ → List ℕ → List (List ℕ) → Option ℕ
+number_from first name [] = None
+number_from first name (listed ∷ names) = if bytes_eq name listed then Some first else number_from (suc first) name names
+
+abbrev pub number_of : List ℕ → List (List ℕ) → Option ℕ
+number_of name names = number_from 0 name names
+
+abbrev pub is_among : ℕ → List ℕ → Bool
+is_among file files = list_any (eqb file) files
+
+-- a part of a walk: it goes on with these files left so far, in the order in which they were left, or it has a verdict
+pub data Walked : Type 0 where
+  Left : List ℕ → Walked
+  Halts : Verdict → Walked
+
+abbrev pub walk_then : Walked → (List ℕ → Walked) → Walked
+walk_then (Left left) next = next left
+walk_then (Halts verdict) next = Halts verdict
+
+abbrev pub refused : FaultKind → ℕ → ℕ → Walked
+refused kind file offset = Halts (Refused (record { kind = kind; place = record { file = file; offset = offset } }))
+
+-- at an include whose target is on the path or not, and was left before or not
+abbrev pub at_target : (ℕ → List ℕ → Walked) → Bool → Bool → ℕ → ℕ → ℕ → List ℕ → Walked
+at_target go true was_left file offset target left = refused fault.CyclicInclude file offset
+at_target go false true file offset target left = Left left
+at_target go false false file offset target left = go target left
+
+-- at the include of a file, by the number of the name that it holds: `go` goes down into the target. The path ends with the file
+abbrev pub at_include : (ℕ → List ℕ → Walked) → List ℕ → ℕ → ℕ → Option ℕ → List ℕ → Walked
+at_include go path file offset None left = refused fault.MissingInclude file offset
+at_include go path file offset (Some target) left = at_target go (is_among target path) (is_among target left) file offset target left
+
+-- the items of a file, in order; behind the last one the file is left
+abbrev pub at_items : (ℕ → List ℕ → Walked) → List (List ℕ) → List ℕ → ℕ → List OutlineItem → List ℕ → Walked
+at_items go names path file [] left = Left (left ++ file ∷ [])
+at_items go names path file (item.Include name offset ∷ items) left = walk_then (at_include go path file offset (number_of name names) left) (at_items go names path file items)
+at_items go names path file (item.Broken kind offset ∷ items) left = refused kind file offset
+
+abbrev pub at_outline : (ℕ → List ℕ → Walked) → List (List ℕ) → List ℕ → ℕ → Option Outline → List ℕ → Walked
+at_outline go names path file None left = Halts (NeedOutline file)
+at_outline go names path file (Some outline) left = at_items go names path file outline.items left
+
+-- down into a file, where this path led to it, and at most so many files further down. Without any it can't go there
+abbrev pub visit : Graph → ℕ → List ℕ → ℕ → List ℕ → Walked
+visit graph zero path file left = Halts (NeedOutline file)
+visit graph (suc most) path file left = at_outline (visit graph most (file ∷ path)) graph.names (file ∷ path) file (graph.outlines file) left
+
+abbrev pub verdict_by : Walked → Verdict
+verdict_by (Left left) = Files left
+verdict_by (Halts verdict) = verdict
+
+-- the verdict on a file. No path is longer than there are names
+abbrev pub verdict_of : Graph → ℕ → Verdict
+verdict_of graph file = verdict_by (visit graph (length graph.names) [] file [])

@@ -1,0 +1,1 @@
+//! Laws of the definitions: each is a clause of a function that does nothing.

@@ -1,0 +1,11 @@
+//! Which files an included file includes: its outline, which a reader makes of the file's bytes, and the verdict on a file,
+//! which a walk over outlines gives.
+#![tactic(auto)]
+
+pub mod laws;
+mod outline;
+mod verdicts;
+mod worked;
+
+pub use outline::{Outline, OutlineItem};
+pub use verdicts::Verdict;

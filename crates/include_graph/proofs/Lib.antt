@@ -1,0 +1,4 @@
+mod Among
+mod Knowing
+mod Ordering
+mod Serving

@@ -2,7 +2,8 @@
 use Rattle.std.specs.Prelude.{ℕ, zero, suc, ◌+◌, eqb, Bool, true, false, List, [], ◌∷◌, ◌++◌, length, Option, Some, None, if◌then◌else◌, bytes_eq}
 use Rattle.std.specs.List.{list_any}
 use Rattle.djvu_base.specs.declared.faults.FaultKind.{FaultKind}
-use Rattle.djvu_base.specs.declared.faults.FaultKind.TheVariants as fault
+use Rattle.djvu_base.specs.declared.faults.FaultKind.TheVariants as kinds
+use Rattle.djvu_base.specs.declared.faults.Fault.{Fault}
 use Rattle.include_graph.specs.declared.outline.Outline.{Outline}
 use Rattle.include_graph.specs.declared.outline.OutlineItem.{OutlineItem}
 use Rattle.include_graph.specs.declared.outline.OutlineItem.TheVariants as item
@@ -25,27 +26,30 @@ number_of name names = number_from 0 name names
 abbrev pub is_among : ℕ → List ℕ → Bool
 is_among file files = list_any (eqb file) files
 
--- a part of a walk: it goes on with these files left so far, in the order in which they were left, or it has a verdict
+-- a part of a walk: it goes on with these files left so far, in the order in which they were left, or it stops at a file
+-- whose outline isn't known, or at a fault
 pub data Walked : Type 0 where
   Left : List ℕ → Walked
-  Halts : Verdict → Walked
+  Unknown : ℕ → Walked
+  Faulty : Fault → Walked
 
 abbrev pub walk_then : Walked → (List ℕ → Walked) → Walked
 walk_then (Left left) next = next left
-walk_then (Halts verdict) next = Halts verdict
+walk_then (Unknown file) next = Unknown file
+walk_then (Faulty fault) next = Faulty fault
 
 abbrev pub refused : FaultKind → ℕ → ℕ → Walked
-refused kind file offset = Halts (Refused (record { kind = kind; place = record { file = file; offset = offset } }))
+refused kind file offset = Faulty (record { kind = kind; place = record { file = file; offset = offset } })
 
 -- at an include whose target is on the path or not, and was left before or not
 abbrev pub at_target : (ℕ → List ℕ → Walked) → Bool → Bool → ℕ → ℕ → ℕ → List ℕ → Walked
-at_target go true was_left file offset target left = refused fault.CyclicInclude file offset
+at_target go true was_left file offset target left = refused kinds.CyclicInclude file offset
 at_target go false true file offset target left = Left left
 at_target go false false file offset target left = go target left
 
 -- at the include of a file, by the number of the name that it holds: `go` goes down into the target. The path ends with the file
 abbrev pub at_include : (ℕ → List ℕ → Walked) → List ℕ → ℕ → ℕ → Option ℕ → List ℕ → Walked
-at_include go path file offset None left = refused fault.MissingInclude file offset
+at_include go path file offset None left = refused kinds.MissingInclude file offset
 at_include go path file offset (Some target) left = at_target go (is_among target path) (is_among target left) file offset target left
 
 -- the items of a file, in order; behind the last one the file is left
@@ -55,17 +59,18 @@ at_items go names path file (item.Include name offset ∷ items) left = walk_the
 at_items go names path file (item.Broken kind offset ∷ items) left = refused kind file offset
 
 abbrev pub at_outline : (ℕ → List ℕ → Walked) → List (List ℕ) → List ℕ → ℕ → Option Outline → List ℕ → Walked
-at_outline go names path file None left = Halts (NeedOutline file)
+at_outline go names path file None left = Unknown file
 at_outline go names path file (Some outline) left = at_items go names path file outline.items left
 
 -- down into a file, where this path led to it, and at most so many files further down. Without any it can't go there
 abbrev pub visit : Graph → ℕ → List ℕ → ℕ → List ℕ → Walked
-visit graph zero path file left = Halts (NeedOutline file)
+visit graph zero path file left = Unknown file
 visit graph (suc most) path file left = at_outline (visit graph most (file ∷ path)) graph.names (file ∷ path) file (graph.outlines file) left
 
 abbrev pub verdict_by : Walked → Verdict
 verdict_by (Left left) = Files left
-verdict_by (Halts verdict) = verdict
+verdict_by (Unknown file) = NeedOutline file
+verdict_by (Faulty fault) = Refused fault
 
 -- the verdict on a file. No path is longer than there are names
 abbrev pub verdict_of : Graph → ℕ → Verdict

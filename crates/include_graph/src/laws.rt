@@ -1,1 +1,21 @@
 //! Laws of the definitions: each is a clause of a function that does nothing.
+ghost use Rattle.std.specs.Prelude.{◌≡◌, ℕ, ◌<◌, ◌≤◌, true, List, [], length, Option};
+ghost use Rattle.include_graph.specs.declared.outline.Outline.{Outline};
+ghost use Rattle.include_graph.specs.declared.verdicts.Verdict.TheVariants.{Files};
+ghost use Rattle.include_graph.specs.Verdicts.{Graph, is_among, verdict_of};
+ghost use Rattle.include_graph.specs.Graphs.{KnownOn, VerdictOn, InOrder};
+
+/// With more outlines known a verdict is the same, or it was unknown at an outline that is known now. So files and faults
+/// stay, and an unknown outline stays the one that is asked for until it is known.
+pub fn verdicts_stay()
+    ensures { (names : List (List ℕ)) (less more : ℕ → Option Outline) (file : ℕ) → KnownOn less more → VerdictOn more (verdict_of (record { names = names; outlines = less }) file) (verdict_of (record { names = names; outlines = more }) file) }
+{}
+
+/// In the list of a verdict each file stands once, after all that it includes. The file itself is listed, and each that is
+/// listed has itself a list as its verdict. A list is at most as long as the names.
+pub fn lists()
+    ensures order { (graph : Graph) (file : ℕ) (files : List ℕ) → file < length graph.names → verdict_of graph file ≡ Files files → InOrder graph [] files }
+    ensures itself { (graph : Graph) (file : ℕ) (files : List ℕ) → file < length graph.names → verdict_of graph file ≡ Files files → is_among file files ≡ true }
+    ensures listed { (graph : Graph) (target file : ℕ) (files : List ℕ) → target < length graph.names → verdict_of graph target ≡ Files files → is_among file files ≡ true → (list : List ℕ) × (verdict_of graph file ≡ Files list) }
+    ensures length { (graph : Graph) (file : ℕ) (files : List ℕ) → file < length graph.names → verdict_of graph file ≡ Files files → length files ≤ length graph.names }
+{}

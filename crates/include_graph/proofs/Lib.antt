@@ -1,4 +1,7 @@
 mod Among
 mod Knowing
+mod Marking
 mod Ordering
 mod Serving
+mod Stepping
+mod Walking

@@ -1,6 +1,8 @@
 -- The verdict on a file: a walk over the outlines of files, depth first, with the path of files that it went down by.
-use Rattle.std.specs.Prelude.{ℕ, zero, suc, ◌+◌, eqb, Bool, true, false, List, [], ◌∷◌, ◌++◌, length, Option, Some, None, if◌then◌else◌, bytes_eq}
-use Rattle.std.specs.List.{list_any}
+use Rattle.std.specs.Prelude.{ℕ, zero, suc, ◌+◌, eqb, Bool, true, false, List, [], ◌∷◌, ◌++◌, length, map, Option, Some, None, if◌then◌else◌, bytes_eq}
+use Rattle.std.specs.Arc.{arc_value}
+use Rattle.std.specs.List.{list_any, position_from}
+use Rattle.std.specs.declared.sync.Arc.{Arc}
 use Rattle.djvu_base.specs.declared.faults.FaultKind.{FaultKind}
 use Rattle.djvu_base.specs.declared.faults.FaultKind.TheVariants as kinds
 use Rattle.djvu_base.specs.declared.faults.Fault.{Fault}
@@ -15,13 +17,23 @@ pub record Graph : Type 0 where
   pub names : List (List ℕ)
   pub outlines : ℕ → Option Outline
 
--- the number of the first name that is this one, where the first has this number
-abbrev pub number_from : ℕ → List ℕ → List (List ℕ) → Option ℕ
-number_from first name [] = None
-number_from first name (listed ∷ names) = if bytes_eq name listed then Some first else number_from (suc first) name names
+-- the outlines of a list, by their places in it, and none elsewhere
+abbrev pub in_list : List (Option Outline) → ℕ → Option Outline
+in_list [] file = None
+in_list (outline ∷ outlines) zero = outline
+in_list (outline ∷ outlines) (suc file) = in_list outlines file
 
+abbrev pub outline_in : {Z : Type 0} → Option (Arc Outline Z) → Option Outline
+outline_in None = None
+outline_in (Some outline) = Some (arc_value outline)
+
+-- the files of these names, whose outlines, where they are known, are these
+abbrev pub graph_in : {Z : Type 0} → List (List ℕ) → List (Option (Arc Outline Z)) → Graph
+graph_in names outlines = record { names = names; outlines = in_list (map outline_in outlines) }
+
+-- the number of a name
 abbrev pub number_of : List ℕ → List (List ℕ) → Option ℕ
-number_of name names = number_from 0 name names
+number_of name names = position_from (bytes_eq name) 0 names
 
 abbrev pub is_among : ℕ → List ℕ → Bool
 is_among file files = list_any (eqb file) files

@@ -1,10 +1,10 @@
 -- Files and graphs of files that are worked out.
-use Rattle.std.specs.Prelude.{ℕ, zero, suc, ◌++◌, List, [], ◌∷◌, Option, Some, None, codes}
+use Rattle.std.specs.Prelude.{ℕ, ◌++◌, List, [], ◌∷◌, Option, Some, None, codes}
 use Rattle.iff_chunks.specs.Worked.{form_with, header}
 use Rattle.include_graph.specs.declared.outline.Outline.{Outline}
 use Rattle.include_graph.specs.declared.outline.OutlineItem.{OutlineItem}
 use Rattle.include_graph.specs.declared.outline.OutlineItem.TheVariants as item
-use Rattle.include_graph.specs.Verdicts.{Graph}
+use Rattle.include_graph.specs.Verdicts.{Graph, in_list}
 
 -- an included file with these chunks
 abbrev pub included_file : ℕ → List ℕ → List ℕ
@@ -30,12 +30,6 @@ one_include name = outline_with (item.Include name 16 ∷ [])
 
 abbrev pub no_include : Option Outline
 no_include = outline_with []
-
--- the outlines of a list, by their places in it, and none elsewhere
-abbrev pub in_list : List (Option Outline) → ℕ → Option Outline
-in_list [] file = None
-in_list (outline ∷ outlines) zero = outline
-in_list (outline ∷ outlines) (suc file) = in_list outlines file
 
 -- four files of names a to d, with these outlines
 abbrev pub four_files : List (Option Outline) → Graph

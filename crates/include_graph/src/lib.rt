@@ -2,10 +2,14 @@
 //! which a walk over outlines gives.
 #![tactic(auto)]
 
+mod items;
 pub mod laws;
 mod outline;
+mod stack;
 mod verdicts;
+mod walk;
 mod worked;
 
 pub use outline::{Outline, OutlineItem};
 pub use verdicts::Verdict;
+pub use walk::verdict;

@@ -1,4 +1,5 @@
 mod Among
+mod ByEvents
 mod Knowing
 mod Marking
 mod Ordering

@@ -69,17 +69,20 @@ items_in rest has_dictionary [] = rest has_dictionary
 items_in rest has_dictionary (chunk ∷ chunks) =
     unless_faulty (chunk_fault has_dictionary chunk.id) chunk.offset (chunk_then chunk (items_in rest (has_dictionary || is_dictionary chunk.id) chunks))
 
--- all chunks of a file, by its FORM's kind, where the file ends so
-abbrev pub items_of : Option Form → List Chunk → Tail → Tail → Items
-items_of None whole tail ended = items_at_end ended
-items_of (Some form) whole tail ended = unless_faulty (kind_fault form.kind) 0 (items_in (items_at_tail tail (items_at_end ended)) false whole)
+abbrev pub form_fault : Option Form → Option FaultKind
+form_fault None = None
+form_fault (Some form) = kind_fault form.kind
+
+-- all chunks of a file, by its FORM, where the file ends so
+abbrev pub items_of : Option Form → List Chunk → Tail → Items → Items
+items_of form whole tail ended = unless_faulty (form_fault form) 0 (items_in (items_at_tail tail ended) false whole)
 
 abbrev pub outline_by : Items → Option Outline
 outline_by items = if items.is_known then Some (record { items = items.items }) else None
 
 -- the items of a file with these bytes, of whose end this is known
 abbrev pub outlined : Mark → List ℕ → Items
-outlined mark bytes = items_of (chunks_of bytes).form (chunks_of bytes).whole (chunks_of bytes).tail (file_end mark bytes)
+outlined mark bytes = items_of (chunks_of bytes).form (chunks_of bytes).whole (chunks_of bytes).tail (items_at_end (file_end mark bytes))
 
 -- the outline of a file with these bytes, of whose end this is known. It is known once no item can come any more
 abbrev pub outline_of : Mark → List ℕ → Option Outline

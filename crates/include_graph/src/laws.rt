@@ -2,6 +2,9 @@
 ghost use Rattle.std.specs.Prelude.{◌≡◌, ℕ, ◌<◌, ◌≤◌, true, List, [], length, Option};
 ghost use Rattle.include_graph.specs.declared.outline.Outline.{Outline};
 ghost use Rattle.include_graph.specs.declared.verdicts.Verdict.TheVariants.{Files};
+ghost use Rattle.djvu_base.specs.Library.{Mark};
+ghost use Rattle.include_graph.specs.Outlines.{outlined};
+ghost use Rattle.include_graph.specs.Reading.{items_by_events};
 ghost use Rattle.include_graph.specs.Verdicts.{Graph, is_among, verdict_of};
 ghost use Rattle.include_graph.specs.Graphs.{KnownOn, VerdictOn, InOrder};
 
@@ -18,4 +21,9 @@ pub fn lists()
     ensures itself { (graph : Graph) (file : ℕ) (files : List ℕ) → file < length graph.names → verdict_of graph file ≡ Files files → is_among file files ≡ true }
     ensures listed { (graph : Graph) (target file : ℕ) (files : List ℕ) → target < length graph.names → verdict_of graph target ≡ Files files → is_among file files ≡ true → (list : List ℕ) × (verdict_of graph file ≡ Files list) }
     ensures length { (graph : Graph) (file : ℕ) (files : List ℕ) → file < length graph.names → verdict_of graph file ≡ Files files → length files ≤ length graph.names }
+{}
+
+/// An outline can be read event by event.
+pub fn by_events()
+    ensures { (mark : Mark) (bytes : List ℕ) → items_by_events mark bytes ≡ outlined mark bytes }
 {}

@@ -4,5 +4,6 @@ mod Knowing
 mod Marking
 mod Ordering
 mod Serving
+mod Staying
 mod Stepping
 mod Walking

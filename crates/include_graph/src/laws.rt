@@ -1,9 +1,10 @@
 //! Laws of the definitions: each is a clause of a function that does nothing.
-ghost use Rattle.std.specs.Prelude.{◌≡◌, ℕ, ◌<◌, ◌≤◌, true, List, [], length, Option};
+ghost use Rattle.std.specs.Prelude.{◌≡◌, ℕ, ◌<◌, ◌≤◌, true, List, [], length, Option, Some, is_some, ◌++◌};
 ghost use Rattle.include_graph.specs.declared.outline.Outline.{Outline};
 ghost use Rattle.include_graph.specs.declared.verdicts.Verdict.TheVariants.{Files};
-ghost use Rattle.djvu_base.specs.Library.{Mark};
-ghost use Rattle.include_graph.specs.Outlines.{outlined};
+ghost use Rattle.djvu_base.specs.Library.{Mark, Open, Whole};
+ghost use Rattle.djvu_base.specs.Library as library;
+ghost use Rattle.include_graph.specs.Outlines.{outlined, outline_of};
 ghost use Rattle.include_graph.specs.Reading.{items_by_events};
 ghost use Rattle.include_graph.specs.Verdicts.{Graph, is_among, verdict_of};
 ghost use Rattle.include_graph.specs.Graphs.{KnownOn, VerdictOn, InOrder};
@@ -27,3 +28,13 @@ pub fn lists()
 pub fn by_events()
     ensures { (mark : Mark) (bytes : List ℕ) → items_by_events mark bytes ≡ outlined mark bytes }
 {}
+
+/// An outline that is known stays, whatever follows and however the file ends. It is known where the file is closed.
+pub fn outlines_stay()
+    ensures stays { (mark : Mark) (bytes more : List ℕ) (outline : Outline) → outline_of Open bytes ≡ Some outline → outline_of mark (bytes ++ more) ≡ Some outline }
+    ensures whole { (bytes : List ℕ) → is_some (outline_of Whole bytes) ≡ true }
+    ensures broken { (bytes : List ℕ) → is_some (outline_of library.Broken bytes) ≡ true }
+{
+    iff_chunks::laws::chunks_stay();
+    iff_chunks::laws::never_cut();
+}

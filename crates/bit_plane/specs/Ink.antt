@@ -1,5 +1,5 @@
 -- The ink box of a plane: the least and greatest columns and rows that have a black pixel.
-use Rattle.std.specs.Prelude.{◌≡◌, ℕ, zero, suc, Bool, true, false, ◌||◌, ℤ, pos, negsuc, ◌+ℤ◌, ◌≤ℤ◌, ◌<ℤ◌, if◌then◌else◌}
+use Rattle.std.specs.Prelude.{◌≡◌, ℕ, zero, suc, Bool, true, false, ◌||◌, ℤ, pos, negsuc, ◌+ℤ◌, ◌-ℤ◌, ◌≤ℤ◌, ◌<ℤ◌, if◌then◌else◌}
 use Rattle.bit_plane.specs.declared.ink.InkBox.{InkBox}
 use Rattle.bit_plane.specs.Pixels.{Pixels, is_black, is_black_at}
 
@@ -40,6 +40,15 @@ ink_box_of plane =
       top = pos (greatest_below (has_ink_row plane) plane.height);
     }
     else no_ink
+
+-- a number that isn't negative, without its sign
+abbrev pub unsigned : ℤ → ℕ
+unsigned (pos n) = n
+unsigned (negsuc n) = 0
+
+-- how many columns or rows there are from the least to the greatest one
+abbrev pub extent : ℤ → ℤ → ℕ
+extent low high = unsigned (high -ℤ low +ℤ pos 1)
 
 -- a column with a black pixel
 abbrev pub InkColumn : Pixels → ℤ → Type 0

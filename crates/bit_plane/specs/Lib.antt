@@ -1,6 +1,7 @@
 pub mod Bits
 pub mod Pixels
 pub mod Packed
+pub mod Rows
 pub mod Spans
 pub mod Ink
 pub mod Columns

@@ -8,9 +8,13 @@ pub record Pixels : Type 0 where
   -- whether each pixel is black, row after row from the bottom, each row from the left
   pub black : List Bool
 
--- so large an area a plane may have
+-- the largest area of a plane, in pixels
 abbrev pub area_limit : ℕ
 area_limit = 67_108_864
+
+-- the longest side that a format gives a mask or a shape, in pixels
+abbrev pub side_limit : ℕ
+side_limit = 65_535
 
 -- whether a place is one of the plane's
 abbrev pub is_inside : Pixels → ℤ → ℤ → Bool

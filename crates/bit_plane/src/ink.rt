@@ -1,7 +1,7 @@
 //! Ink boxes, by words.
-ghost use Rattle.std.specs.Prelude.{◌≡◌, ℕ, ◌+◌, ◌*◌, ◌^◌, ◌<◌, ◌≤◌, length, MatchOption, pos};
+ghost use Rattle.std.specs.Prelude.{◌≡◌, ℕ, ◌+◌, ◌*◌, ◌^◌, ◌<◌, ◌≤◌, ◌≤ℤ◌, ◌+ℤ◌, ◌-ℤ◌, length, MatchOption, pos};
 ghost use Rattle.bit_plane.specs.Pixels.{area_limit};
-ghost use Rattle.bit_plane.specs.Ink.{no_ink};
+ghost use Rattle.bit_plane.specs.Ink.{no_ink, extent};
 ghost use Rattle.bit_plane.specs.Columns.{IsInk, IsLeft, IsBehind, IsFirst, IsLast, IsClear};
 
 use crate::words::read_bits;
@@ -14,6 +14,45 @@ pub struct InkBox {
     pub right: i32,
     pub bottom: i32,
     pub top: i32,
+}
+
+impl InkBox {
+    /// How many columns there are from the left side to the right one.
+    pub fn width(&self) -> u32
+        requires least { pos 0 ≤ℤ self.now.left }
+        requires order { self.now.left ≤ℤ (self.now.right +ℤ pos 1) }
+        ensures extent { result ≡ extent self.now.left self.now.right }
+        ensures difference { pos result ≡ self.now.right -ℤ self.now.left +ℤ pos 1 }
+    {
+        extent(self.left, self.right)
+    }
+
+    /// How many rows there are from the bottom to the top.
+    pub fn height(&self) -> u32
+        requires least { pos 0 ≤ℤ self.now.bottom }
+        requires order { self.now.bottom ≤ℤ (self.now.top +ℤ pos 1) }
+        ensures extent { result ≡ extent self.now.bottom self.now.top }
+        ensures difference { pos result ≡ self.now.top -ℤ self.now.bottom +ℤ pos 1 }
+    {
+        extent(self.bottom, self.top)
+    }
+}
+
+/// How many columns or rows there are from the least to the greatest one.
+fn extent(low: i32, high: i32) -> u32
+    requires least { pos 0 ≤ℤ low }
+    requires order { low ≤ℤ (high +ℤ pos 1) }
+    ensures extent { result ≡ extent low high }
+    ensures difference { pos result ≡ high -ℤ low +ℤ pos 1 }
+{
+    difference(low, high) as u32
+}
+
+/// From the least to the greatest one, and one more.
+fn difference(low: i32, high: i32) -> i64
+    ensures { result ≡ high -ℤ low +ℤ pos 1 }
+{
+    i64::from(high) - i64::from(low) + 1
 }
 
 /// The box of a plane without a black pixel.

@@ -5,18 +5,16 @@
 //! by word: they read up to 64 bits at any bit, and never walk over what falls outside of a plane.
 //!
 //! `specs/` has the definitions: `Pixels` (planes, and what painting makes of them), `Ink` (ink boxes), `Bits` and
-//! `Packed` (bits of words, and the pixels that they are), `Spans` (where a shape meets a plane), `Columns` (what the
+//! `Packed` (bits of words, and the pixels that they are), `Rows` (pixels of a row in a word), `Spans` (where a shape
+//! meets a plane), `Columns` (what the
 //! walks over words find) and `Worked` (small planes).
 #![tactic(auto)]
 
 mod ink;
-mod laws;
+pub mod laws;
 mod painting;
 mod planes;
-#[cfg(test)]
-mod tests;
 mod words;
 
 pub use ink::InkBox;
-pub use laws::{count_laws, ink_laws, paint_laws, pixel_laws, worked_boxes};
-pub use planes::Plane;
+pub use planes::{AREA_LIMIT, Plane, SIDE_LIMIT};

@@ -1,6 +1,7 @@
 //! Planes of pixels.
 ghost use Rattle.std.specs.Prelude.{◌≡◌, ℕ, ◌+◌, ◌*◌, ◌^◌, ◌<◌, ◌≤◌, IfOk, MatchOption, ℤ, pos, ◌-ℤ◌, false, ◌&&◌, ◌||◌, replicate, if◌then◌else◌};
 ghost use Rattle.bit_plane.specs.Bits.{digit};
+ghost use Rattle.bit_plane.specs.Rows.{IsRun};
 ghost use Rattle.bit_plane.specs.Pixels.{IsPlane, is_black, is_black_at, is_inside, is_place, area_limit, black_count, blank, with_black, painted};
 ghost use Rattle.bit_plane.specs.Ink.{ink_box_of, IsInkBox, IsWithin};
 
@@ -9,6 +10,12 @@ use crate::painting::{or_rows, overlap};
 use crate::words::{count_set, is_set, or_bits, read_bits};
 use std::alloc::{AllocError, Global};
 use std::marker::Model;
+
+/// The largest area of a plane, in pixels.
+pub const AREA_LIMIT: u64 = 67_108_864;
+
+/// The longest side that a format gives a mask or a shape, in pixels.
+pub const SIDE_LIMIT: u32 = 65_535;
 
 /// Black and white pixels, one bit each. Places count from 0 at the bottom left.
 #[derive(Debug, Drop)]
@@ -69,7 +76,8 @@ impl Plane {
         let Some(row) = place(y, self.rows) else {
             return false;
         };
-        is_set(&self.words, row * self.columns as usize + column)
+        let at = row as usize * self.columns as usize + column as usize;
+        is_set(&self.words, at)
     }
 
     /// Up to 64 pixels of a row as the lowest digits of a word: the leftmost is the lowest, and a black one is 1.
@@ -83,6 +91,36 @@ impl Plane {
     {
         let first = x as usize + y as usize * self.columns as usize;
         read_bits(&self.words, first, count as usize)
+    }
+
+    /// 64 pixels of a row from a place on, wherever that is, as the digits of a word: the leftmost is the lowest, and a
+    /// black one is 1. What lies outside is white.
+    pub fn row_from(&self, x: i64, y: i64) -> u64
+        ensures { IsRun self.now x y 64 result }
+    {
+        let Some(row) = place(y, self.height()) else {
+            return 0;
+        };
+        if let Some(column) = place(x, self.width()) {
+            self.row_within(column, row)
+        } else if -64 < x && x < 0 {
+            self.row_within(0, row) << x.unsigned_abs() as u32
+        } else {
+            0
+        }
+    }
+
+    /// 64 pixels of a row from a column on.
+    fn row_within(&self, column: u32, row: u32) -> u64
+        requires { row < self.now.height }
+        ensures { IsRun self.now (pos column) (pos row) 64 result }
+    {
+        let width = self.width();
+        if column < width {
+            self.bits(column, row, (width - column).min(64))
+        } else {
+            0
+        }
     }
 
     /// How many pixels are black.
@@ -154,12 +192,12 @@ impl Plane {
     }
 }
 
-/// A coordinate as an index, where it is one of so many.
-fn place(at: i64, size: u32) -> Option<usize>
+/// A coordinate as a column or a row, where it is one of so many.
+fn place(at: i64, size: u32) -> Option<u32>
     ensures { MatchOption result ((a : ℕ) → a < size → at ≡ pos a → ⊥) (λ a. (at ≡ pos a) × (a < size)) }
 {
     if 0 <= at && at < i64::from(size) {
-        Some(at as usize)
+        Some(at as u32)
     } else {
         None
     }

@@ -1,5 +1,5 @@
 -- How ticks raise a count.
-use Rattle.std.proofs.Common.{◌≡◌, ℕ, suc, ◌+◌, ◌^◌, ◌-◌, ◌≤◌, min, ◌∙◌, ap, sym, arith}
+use Rattle.std.proofs.Common.{◌≡◌, ℕ, suc, ◌+◌, ◌≤◌, min, ◌∙◌, ap, sym, arith}
 use Rattle.std.proofs.lemmas.Grind.{common_steps}
 use Rattle.djvu_base.specs.Meter.{ticked_once, ticked, TicksExactly, TicksAtMost}
 
@@ -27,6 +27,9 @@ pub ticks_both : (first last before mid after : ℕ) → TicksExactly first befo
 ticks_both first last before mid after is_mid is_after =
     let turned : last + first ≡ first + last = omega arith in
     is_after ∙ ap (ticked last) is_mid ∙ ticked_both last first before ∙ ap (λ n. ticked n before) turned
+
+pub ticks_one : (before after : ℕ) → after ≡ ticked_once before → TicksExactly 1 before after
+ticks_one before after is = is ∙ sym (ticked_one before)
 
 -- one tick after others
 pub ticks_next : (ticks before mid after : ℕ) → TicksExactly ticks before mid → after ≡ ticked_once mid → TicksExactly (suc ticks) before after

@@ -180,7 +180,7 @@ pub short_length : (offset : ℕ) (bytes : List ℕ) → length bytes < 4 → le
 short_length offset bytes h = cond_true (ltb (length bytes) 4) in_head (whole_length offset (big_number 4 (take 4 bytes)) (drop 4 bytes)) (lt-ltb _ _ h)
 
 pub short_kind : (offset size : ℕ) (bytes : List ℕ) → length bytes < 4 → kind_at offset size bytes ≡ in_head
-short_kind offset size bytes h = cond_true (ltb (length bytes) 4) in_head (in_form (record { kind = take 4 bytes; size = size }) (rest_at (offset + 12) (size - 4) (drop 4 bytes))) (lt-ltb _ _ h)
+short_kind offset size bytes h = cond_true (ltb (length bytes) 4) in_head (in_form (record { offset = offset; kind = take 4 bytes; size = size }) (rest_at (offset + 12) (size - 4) (drop 4 bytes))) (lt-ltb _ _ h)
 
 pub length_there : (offset : ℕ) (four more : List ℕ) → length four ≡ 4 → length_at offset (four ++ more) ≡ whole_length offset (big_number 4 four) more
 length_there offset four more e =
@@ -188,11 +188,11 @@ length_there offset four more e =
     ∙ ap (λ f. whole_length offset (big_number 4 f) (drop 4 (four ++ more))) (take_front 4 four more e)
     ∙ ap (whole_length offset (big_number 4 four)) (drop_front 4 four more e)
 
-pub kind_there : (offset size : ℕ) (four more : List ℕ) → length four ≡ 4 → kind_at offset size (four ++ more) ≡ in_form (record { kind = four; size = size }) (rest_at (offset + 12) (size - 4) more)
+pub kind_there : (offset size : ℕ) (four more : List ℕ) → length four ≡ 4 → kind_at offset size (four ++ more) ≡ in_form (record { offset = offset; kind = four; size = size }) (rest_at (offset + 12) (size - 4) more)
 kind_there offset size four more e =
-    cond_false (ltb (length (four ++ more)) 4) in_head (in_form (record { kind = take 4 (four ++ more); size = size }) (rest_at (offset + 12) (size - 4) (drop 4 (four ++ more)))) (le-ltb _ _ (omega (arith, length-append four more)))
-    ∙ ap (λ f. in_form (record { kind = f; size = size }) (rest_at (offset + 12) (size - 4) (drop 4 (four ++ more)))) (take_front 4 four more e)
-    ∙ ap (λ m. in_form (record { kind = four; size = size }) (rest_at (offset + 12) (size - 4) m)) (drop_front 4 four more e)
+    cond_false (ltb (length (four ++ more)) 4) in_head (in_form (record { offset = offset; kind = take 4 (four ++ more); size = size }) (rest_at (offset + 12) (size - 4) (drop 4 (four ++ more)))) (le-ltb _ _ (omega (arith, length-append four more)))
+    ∙ ap (λ f. in_form (record { offset = offset; kind = f; size = size }) (rest_at (offset + 12) (size - 4) (drop 4 (four ++ more)))) (take_front 4 four more e)
+    ∙ ap (λ m. in_form (record { offset = offset; kind = four; size = size }) (rest_at (offset + 12) (size - 4) m)) (drop_front 4 four more e)
 
 pub length_part : (offset : ℕ) (got now : Gathered) (piece : List ℕ) (used : ℕ) → Filled got now piece used 4 → now.count < 4 → offset ≤ 4 → Feeds (stage.Length offset got) piece (record { used = length piece; stage = stage.Length offset now; step = step.NeedBytes })
 length_part offset got now piece used f short early = gather_part (stage.Length offset got) (stage.Length offset now) (length_at offset) got now piece used 4 f short (early, record { room = f.room; short = short }) (λ taken told s. s) (λ taken told s. s) (short_length offset) tt
@@ -236,13 +236,13 @@ kind_whole offset size got now fresh piece used f enough form none empty = recor
     whole = [];
     first = refl;
     in_form = record {
-      form = record { kind = gathered now; size = size };
+      form = record { offset = offset; kind = gathered now; size = size };
       told_so = ap (λ t. t ++ Begun (gathered now) size ∷ []) s.1;
       on = λ more.
           moved taken (λ m. kind_at offset size (gathered got ++ m)) (take used piece) s.0 more
           ∙ ap (kind_at offset size) (gathers (gathered got) (gathered now) (take used piece) more f.bytes)
           ∙ kind_there offset size (gathered now) more (whole_length_of got now piece used 4 f enough)
-          ∙ ap (λ g. in_form (record { kind = gathered now; size = size }) (rest_at (offset + 12) (size - 4) (g ++ more))) (sym none);
+          ∙ ap (λ g. in_form (record { offset = offset; kind = gathered now; size = size }) (rest_at (offset + 12) (size - 4) (g ++ more))) (sym none);
     };
   };
 }

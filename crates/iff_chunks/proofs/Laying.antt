@@ -1,17 +1,15 @@
 -- A file's bytes are its FORM's head, its chunks and its tail, one behind the other.
-use Rattle.std.proofs.Common.{◌≡◌, ◌≢◌, ℕ, ◌+◌, ◌-◌, ◌%◌, ◌<◌, ◌≤◌, zero, suc, Bool, true, false, cond, Option, Some, None, List, [], ◌∷◌, ◌++◌, inl, inr, length, take, drop, eqb, ltb, refl, sym, ap, ◌∙◌, subst, arith, append_assoc}
-use Rattle.std.specs.Cmp.{second_so}
+use Rattle.std.proofs.Common.{◌≡◌, ◌≢◌, ℕ, ◌+◌, ◌-◌, ◌≤◌, zero, suc, Bool, true, false, cond, Option, Some, None, List, [], ◌∷◌, ◌++◌, inl, inr, length, take, drop, eqb, ltb, refl, sym, ap, ◌∙◌, subst, arith, append_assoc}
+use Rattle.std.specs.List.{list_all}
 use Rattle.std.proofs.lemmas.Bool.{eqb-true, eqb-false, ltb-true, ltb-false}
-use Rattle.std.proofs.lemmas.List.{length-drop, length-take-le, drop-drop, take-append-drop}
+use Rattle.std.proofs.lemmas.List.{append-nil, length-drop, length-take-le, drop-drop, take-append-drop}
 use Rattle.byteorder.specs.Endian.{big_number}
 use Rattle.djvu_base.specs.declared.faults.FaultKind.{FaultKind}
-use Rattle.djvu_base.specs.declared.faults.FaultKind.TheVariants.{NotForm, TooLarge, ShortHeader}
+use Rattle.djvu_base.specs.declared.faults.FaultKind.TheVariants.{NotForm, TooLarge, ShortHeader, BadId, Overrun}
 use Rattle.djvu_base.specs.Library.{file_limit}
 use Rattle.iff_chunks.specs.Start.{Start, Begins, Arriving, Differs, start_of}
-use Rattle.iff_chunks.specs.Chunks.{Form, Chunk, Chunks, Rest, Tail, Stops, Has, On, InHeader, InData, FormEnd, Broken, found_so, whole_header, header_at, header_fault, behind_data, pad_at, is_padded, chunks_from, rest_at, in_head, in_form, kind_at, length_fault, size_at, whole_length, length_at, magic, form_word, form_at, after_magic, chunks_of}
-use Rattle.iff_chunks.specs.FirstForm.{IsFront}
-use Rattle.iff_chunks.specs.Layout.{IsNumber, IsHeader, IsPad, Laid, IsLaidForm}
-use Rattle.iff_chunks.proofs.Chunking.{header_fits}
+use Rattle.iff_chunks.specs.Chunks.{Form, Chunk, Chunks, Rest, Tail, Stops, Has, On, InHeader, InData, FormEnd, Broken, found_so, whole_header, header_at, behind_data, pad_at, is_padded, is_id_byte, InPad, chunks_from, rest_at, in_head, in_form, kind_at, length_fault, size_at, whole_length, length_at, magic, form_word, form_at, after_magic, chunks_of}
+use Rattle.iff_chunks.specs.Layout.{IsNumber, IsHeader, IsBegun, left_after, Laid, AtEnd, TooShort, Beginning, NoId, TooLong, DataArriving, PadMissing, Padded, Unpadded, IsPrefix, IsLaidForm}
 
 abbrev LaidRest : ℕ → ℕ → Rest → List ℕ → Type 0
 LaidRest offset left rest bytes = Laid offset left rest.whole rest.tail bytes
@@ -20,83 +18,41 @@ LaidRest offset left rest bytes = Laid offset left rest.whole rest.tail bytes
 abbrev LaysUpTo : ℕ → (ℕ → ℕ → List ℕ → Rest) → Type 0
 LaysUpTo most next = (offset left : ℕ) (bytes : List ℕ) → left ≤ most → LaidRest offset left (next offset left bytes) bytes
 
-pad_found : (size behind : ℕ) (t : Bool) → is_padded size behind ≡ t → t ≡ true → 0 < behind
-pad_found size behind t e h = ltb-true 0 behind (second_so (eqb (size % 2) 1) (ltb 0 behind) (e ∙ h))
+-- a whole chunk, and what stands after its data
+has_laid : (most : ℕ) (next : ℕ → ℕ → List ℕ → Rest) → LaysUpTo most next → (header : List ℕ) (offset left : ℕ) (chunk : Chunk) (after : List ℕ)
+    → IsBegun offset left chunk header → length chunk.bytes ≡ chunk.size → left ≤ suc most
+    → (t : Bool) → is_padded chunk.size (left_after left chunk) ≡ t
+    → LaidRest offset left (found_so next (Has chunk (cond t (pad_at offset (offset + 9 + chunk.size) (left_after left chunk) after) (On (offset + 8 + chunk.size) (left_after left chunk) after)))) (header ++ (chunk.bytes ++ after))
+has_laid most next lays header offset left chunk after begun sized few false e =
+    let room = begun.room in
+    let rest = next (offset + 8 + chunk.size) (left_after left chunk) after in
+    Unpadded offset left chunk header rest.whole rest.tail after begun sized e (lays (offset + 8 + chunk.size) (left_after left chunk) after (omega (arith, room)))
+has_laid most next lays header offset left chunk [] begun sized few true e =
+    subst (λ b. Laid offset left (chunk ∷ []) (InPad offset (eqb (left_after left chunk) 1)) (header ++ b)) (sym (append-nil chunk.bytes)) (PadMissing offset left chunk header begun sized e)
+has_laid most next lays header offset left chunk (p ∷ after) begun sized few true e =
+    let room = begun.room in
+    let rest = next (offset + 9 + chunk.size) (left_after left chunk - 1) after in
+    Padded offset left chunk header p rest.whole rest.tail after begun sized e (lays (offset + 9 + chunk.size) (left_after left chunk - 1) after (omega (arith, room)))
 
--- a whole chunk, and what stands behind its data
-has_laid : (most : ℕ) (next : ℕ → ℕ → List ℕ → Rest) → LaysUpTo most next → (id number header : List ℕ) (offset size left : ℕ) (bytes after all : List ℕ)
-    → IsHeader header id size → length bytes ≡ size → size ≤ left - 8 → 8 ≤ left → left ≤ suc most → all ≡ header ++ (bytes ++ after)
-    → (t : Bool) → is_padded size (left - 8 - size) ≡ t
-    → LaidRest offset left (found_so next (Has (record { id = id; offset = offset; size = size; bytes = bytes }) (cond t (pad_at offset (offset + 9 + size) (left - 8 - size) after) (On (offset + 8 + size) (left - 8 - size) after)))) all
-has_laid most next lays id number header offset size left bytes after all is_header sized fits room few same false e = (
-  header,
-  [],
-  after,
-  record {
-    place = refl;
-    is_header = is_header;
-    data_size = sized;
-    room = omega arith;
-    is_pad = subst (λ p. IsPad p [] after) (sym e) refl;
-    same = same;
-  },
-  subst (λ o. LaidRest o (left - (8 + size + 0)) (next (offset + 8 + size) (left - 8 - size) after) after) (omega arith)
-      (subst (λ l. LaidRest (offset + 8 + size) l (next (offset + 8 + size) (left - 8 - size) after) after) (omega arith) (lays (offset + 8 + size) (left - 8 - size) after (omega arith))),
-)
-has_laid most next lays id number header offset size left bytes [] all is_header sized fits room few same true e =
-    let some = pad_found size (left - 8 - size) true e refl in (
-      header,
-      [],
-      [],
-      record {
-        place = refl;
-        is_header = is_header;
-        data_size = sized;
-        room = omega (arith, some);
-        is_pad = subst (λ p. IsPad p [] []) (sym e) (inr (refl, refl));
-        same = same;
-      },
-      (refl, ap (λ n. eqb n 1) (omega arith), omega (arith, some)),
-    )
-has_laid most next lays id number header offset size left bytes (p ∷ after) all is_header sized fits room few same true e =
-    let some = pad_found size (left - 8 - size) true e refl in (
-      header,
-      p ∷ [],
-      after,
-      record {
-        place = refl;
-        is_header = is_header;
-        data_size = sized;
-        room = omega (arith, some);
-        is_pad = subst (λ t. IsPad t (p ∷ []) after) (sym e) (inl refl);
-        same = same;
-      },
-      subst (λ o. LaidRest o (left - (8 + size + 1)) (next (offset + 9 + size) (left - 8 - size - 1) after) after) (omega arith)
-          (subst (λ l. LaidRest (offset + 9 + size) l (next (offset + 9 + size) (left - 8 - size - 1) after) after) (omega arith) (lays (offset + 9 + size) (left - 8 - size - 1) after (omega arith))),
-    )
-
-data_laid : (most : ℕ) (next : ℕ → ℕ → List ℕ → Rest) → LaysUpTo most next → (id number header : List ℕ) (offset size left : ℕ) (bytes all : List ℕ)
-    → IsHeader header id size → size ≤ left - 8 → 8 ≤ left → left ≤ suc most → all ≡ header ++ bytes
+data_laid : (most : ℕ) (next : ℕ → ℕ → List ℕ → Rest) → LaysUpTo most next → (id header : List ℕ) (offset size left : ℕ) (bytes : List ℕ)
+    → IsHeader header id size → list_all is_id_byte id ≡ true → size ≤ left - 8 → 8 ≤ left → left ≤ suc most
     → (few : Bool) → ltb (length bytes) size ≡ few
-    → LaidRest offset left (found_so next (cond few (Stops (InData (record { id = id; offset = offset; size = size; bytes = bytes }))) (Has (record { id = id; offset = offset; size = size; bytes = take size bytes }) (behind_data offset size (left - 8 - size) (drop size bytes))))) all
-data_laid most next lays id number header offset size left bytes all is_header fits room less same true e = record {
-  header = header;
-  place = refl;
-  is_header = is_header;
-  short = ltb-true _ _ e;
-  room = omega arith;
-  same = same;
-}
-data_laid most next lays id number header offset size left bytes all is_header fits room less same false e =
-    has_laid most next lays id number header offset size left (take size bytes) (drop size bytes) all is_header (length-take-le size bytes (ltb-false _ _ e)) fits room less
-    (same ∙ ap (λ b. header ++ b) (sym (take-append-drop size bytes))) (is_padded size (left - 8 - size)) refl
+    → LaidRest offset left (found_so next (cond few (Stops (InData (record { id = id; offset = offset; size = size; bytes = bytes }))) (Has (record { id = id; offset = offset; size = size; bytes = take size bytes }) (behind_data offset size (left - 8 - size) (drop size bytes))))) (header ++ bytes)
+data_laid most next lays id header offset size left bytes is_header named fits room less true e =
+    DataArriving offset left (record { id = id; offset = offset; size = size; bytes = bytes }) header (record { place = refl; is_header = is_header; printable = named; room = omega arith }) (ltb-true _ _ e)
+data_laid most next lays id header offset size left bytes is_header named fits room less false e =
+    let chunk : Chunk = record { id = id; offset = offset; size = size; bytes = take size bytes } in
+    subst (λ b. LaidRest offset left (found_so next (Has chunk (behind_data offset size (left - 8 - size) (drop size bytes)))) (header ++ b)) (take-append-drop size bytes)
+    (has_laid most next lays header offset left chunk (drop size bytes) (record { place = refl; is_header = is_header; printable = named; room = omega arith }) (length-take-le size bytes (ltb-false _ _ e)) less (is_padded size (left - 8 - size)) refl)
 
-header_laid : (most : ℕ) (next : ℕ → ℕ → List ℕ → Rest) → LaysUpTo most next → (id number header : List ℕ) (offset size left : ℕ) (bytes all : List ℕ)
-    → IsHeader header id size → 8 ≤ left → left ≤ suc most → all ≡ header ++ bytes
-    → (fault : Option FaultKind) → header_fault id size (left - 8) ≡ fault → LaidRest offset left (found_so next (header_at fault id offset size (left - 8) bytes)) all
-header_laid most next lays id number header offset size left bytes all is_header room less same (Some kind) e = (refl, omega arith)
-header_laid most next lays id number header offset size left bytes all is_header room less same None e =
-    data_laid most next lays id number header offset size left bytes all is_header (header_fits id size (left - 8) e) room less same (ltb (length bytes) size) refl
+header_laid : (most : ℕ) (next : ℕ → ℕ → List ℕ → Rest) → LaysUpTo most next → (id header : List ℕ) (offset size left : ℕ) (bytes : List ℕ)
+    → IsHeader header id size → 8 ≤ left → left ≤ suc most
+    → (named over : Bool) → list_all is_id_byte id ≡ named → ltb (left - 8) size ≡ over
+    → LaidRest offset left (found_so next (header_at (cond named (cond over (Some Overrun) None) (Some BadId)) id offset size (left - 8) bytes)) (header ++ bytes)
+header_laid most next lays id header offset size left bytes is_header room less false over n o = NoId offset left size header id bytes room is_header n
+header_laid most next lays id header offset size left bytes is_header room less true true n o = TooLong offset left size header id bytes room is_header n (ltb-true _ _ o)
+header_laid most next lays id header offset size left bytes is_header room less true false n o =
+    data_laid most next lays id header offset size left bytes is_header n (ltb-false _ _ o) room less (ltb (length bytes) size) refl
 
 split_header : (bytes : List ℕ) → bytes ≡ (take 4 bytes ++ take 4 (drop 4 bytes)) ++ drop 8 bytes
 split_header bytes =
@@ -107,25 +63,26 @@ split_header bytes =
 
 found_laid : (most : ℕ) (next : ℕ → ℕ → List ℕ → Rest) → LaysUpTo most next → (offset left : ℕ) (bytes : List ℕ) → left ≤ suc most → (ended short few : Bool) → eqb left 0 ≡ ended → ltb left 8 ≡ short → ltb (length bytes) 8 ≡ few
     → LaidRest offset left (found_so next (cond ended (Stops FormEnd) (cond short (Stops (Broken ShortHeader offset)) (cond few (Stops (InHeader offset bytes)) (whole_header (take 4 bytes) offset (big_number 4 (take 4 (drop 4 bytes))) (left - 8) (drop 8 bytes)))))) bytes
-found_laid most next lays offset left bytes less true short few z s f = eqb-true left 0 z
-found_laid most next lays offset left bytes less false true few z s f = let some : left ≢ 0 = eqb-false left 0 z in (refl, omega arith)
-found_laid most next lays offset left bytes less false false true z s f = (refl, refl, ltb-true _ _ f, ltb-false _ _ s)
+found_laid most next lays offset left bytes less true short few z s f = subst (λ n. Laid offset n [] FormEnd bytes) (sym (eqb-true left 0 z)) (AtEnd offset bytes)
+found_laid most next lays offset left bytes less false true few z s f = let some : left ≢ 0 = eqb-false left 0 z in TooShort offset left bytes (omega arith) (ltb-true _ _ s)
+found_laid most next lays offset left bytes less false false true z s f = Beginning offset left bytes (ltb-false _ _ s) (ltb-true _ _ f)
 found_laid most next lays offset left bytes less false false false z s f =
     let id = take 4 bytes in
     let number = take 4 (drop 4 bytes) in
     let size = big_number 4 number in
     let enough : 8 ≤ length bytes = ltb-false _ _ f in
-    header_laid most next lays id number (id ++ number) offset size left (drop 8 bytes) bytes
+    subst (λ b. LaidRest offset left (found_so next (whole_header id offset size (left - 8) (drop 8 bytes))) b) (sym (split_header bytes))
+    (header_laid most next lays id (id ++ number) offset size left (drop 8 bytes)
     (record {
       four = length-take-le 4 bytes (omega arith);
       number = number;
       is_size = record { four = length-take-le 4 (drop 4 bytes) (omega (arith, length-drop 4 bytes)); value = refl };
       same = refl;
     })
-    (ltb-false _ _ s) less (split_header bytes) (header_fault id size (left - 8)) refl
+    (ltb-false _ _ s) less (list_all is_id_byte id) (ltb (left - 8) size) refl refl)
 
 from_laid : (most : ℕ) → LaysUpTo most (chunks_from most)
-from_laid zero = λ offset left bytes less. omega arith
+from_laid zero = λ offset left bytes less. let none : 0 ≡ left = omega arith in subst (λ n. Laid offset n [] FormEnd bytes) none (AtEnd offset bytes)
 from_laid (suc most) = λ offset left bytes less. found_laid most (chunks_from most) (from_laid most) offset left bytes less (eqb left 0) (ltb left 8) (ltb (length bytes) 8) refl refl refl
 
 -- the head
@@ -142,14 +99,15 @@ begins_so (w ∷ wanted) (b ∷ bytes) rest e = compared w b (start_of wanted by
 
 -- the bytes behind the FORM's word
 pub record IsLaidHead (bytes : List ℕ) (offset : ℕ) (form : Form) (chunks : List Chunk) (tail : Tail) : Type 0 where
+  pub place : form.offset ≡ offset
   pub number : List ℕ
   pub after : List ℕ
   pub is_size : IsNumber number form.size
   pub four : length form.kind ≡ 4
   pub room : 4 ≤ form.size
-  pub within : offset + 8 + form.size ≤ file_limit
+  pub within : form.offset + 8 + form.size ≤ file_limit
   pub same : bytes ≡ number ++ (form.kind ++ after)
-  pub body : Laid (offset + 12) (form.size - 4) chunks tail after
+  pub body : Laid (form.offset + 12) (form.size - 4) chunks tail after
 
 -- the FORM's length has no fault
 length_fits : (offset size : ℕ) → (small large : Bool) → ltb size 4 ≡ small → ltb file_limit (offset + 8 + size) ≡ large → cond small (Some NotForm) (cond large (Some TooLarge) None) ≡ None → (4 ≤ size) × (offset + 8 + size ≤ file_limit)
@@ -159,15 +117,16 @@ length_fits offset size false false a b e = (ltb-false _ _ a, ltb-false _ _ b)
 
 kind_laid : (offset size : ℕ) (bytes number all : List ℕ) (form : Form) → IsNumber number size → 4 ≤ size → offset + 8 + size ≤ file_limit → all ≡ number ++ bytes
     → (few : Bool) → ltb (length bytes) 4 ≡ few
-    → (chunks : Chunks) → cond few in_head (in_form (record { kind = take 4 bytes; size = size }) (rest_at (offset + 12) (size - 4) (drop 4 bytes))) ≡ chunks → chunks.form ≡ Some form → IsLaidHead all offset form chunks.whole chunks.tail
+    → (chunks : Chunks) → cond few in_head (in_form (record { offset = offset; kind = take 4 bytes; size = size }) (rest_at (offset + 12) (size - 4) (drop 4 bytes))) ≡ chunks → chunks.form ≡ Some form → IsLaidHead all offset form chunks.whole chunks.tail
 kind_laid offset size bytes number all form is_size room within same true f chunks c e = let none : None ≡ Some form = ap (λ x. x.form) c ∙ e in cc
 kind_laid offset size bytes number all form is_size room within same false f chunks c e =
-    let here : Form = record { kind = take 4 bytes; size = size } in
+    let here : Form = record { offset = offset; kind = take 4 bytes; size = size } in
     let rest = rest_at (offset + 12) (size - 4) (drop 4 bytes) in
     let some : Some here ≡ Some form = ap (λ x. x.form) c ∙ e in
     let is : here ≡ form = cc in
     subst (λ (x : Chunks). IsLaidHead all offset form x.whole x.tail) c
     (subst (λ x. IsLaidHead all offset x rest.whole rest.tail) is (record {
+      place = refl;
       number = number;
       after = drop 4 bytes;
       is_size = is_size;
@@ -193,9 +152,10 @@ length_laid offset bytes form false f chunks c e =
     (size_laid offset size (drop 4 bytes) (take 4 bytes) bytes form (record { four = length-take-le 4 bytes (ltb-false _ _ f); value = refl }) (sym (take-append-drop 4 bytes)) (length_fault offset size) refl (ap (λ x. x.form) c ∙ e))
 
 -- with what stands before the FORM
-with_front : (front bytes rest : List ℕ) (form : Form) (chunks : List Chunk) (tail : Tail) → IsFront front → bytes ≡ front ++ (form_word ++ rest) → IsLaidHead rest (length front) form chunks tail → IsLaidForm bytes form chunks tail
-with_front front bytes rest form chunks tail leads same head = record {
-  front = front;
+with_prefix : (prefix bytes rest : List ℕ) (form : Form) (chunks : List Chunk) (tail : Tail) → IsPrefix prefix → bytes ≡ prefix ++ (form_word ++ rest) → IsLaidHead rest (length prefix) form chunks tail → IsLaidForm bytes form chunks tail
+with_prefix prefix bytes rest form chunks tail leads same head = record {
+  prefix = prefix;
+  place = head.place;
   number = head.number;
   after = head.after;
   may_lead = leads;
@@ -203,16 +163,16 @@ with_front front bytes rest form chunks tail leads same head = record {
   four = head.four;
   room = head.room;
   within = head.within;
-  same = same ∙ ap (λ r. front ++ (form_word ++ r)) head.same;
+  same = same ∙ ap (λ r. prefix ++ (form_word ++ r)) head.same;
   body = head.body;
 }
 
-word_laid : (front bytes behind : List ℕ) (form : Form) → IsFront front → bytes ≡ front ++ behind → (start : Start) → start_of form_word behind ≡ start → (form_at (length front) start).form ≡ Some form → IsLaidForm bytes form (form_at (length front) start).whole (form_at (length front) start).tail
-word_laid front bytes behind form leads same (Begins rest) s e =
-    with_front front bytes rest form (length_at (length front) rest).whole (length_at (length front) rest).tail leads (same ∙ ap (λ b. front ++ b) (begins_so form_word behind rest s))
-    (length_laid (length front) rest form (ltb (length rest) 4) refl (length_at (length front) rest) refl e)
-word_laid front bytes behind form leads same Arriving s e = cc
-word_laid front bytes behind form leads same Differs s e = cc
+word_laid : (prefix bytes behind : List ℕ) (form : Form) → IsPrefix prefix → bytes ≡ prefix ++ behind → (start : Start) → start_of form_word behind ≡ start → (form_at (length prefix) start).form ≡ Some form → IsLaidForm bytes form (form_at (length prefix) start).whole (form_at (length prefix) start).tail
+word_laid prefix bytes behind form leads same (Begins rest) s e =
+    with_prefix prefix bytes rest form (length_at (length prefix) rest).whole (length_at (length prefix) rest).tail leads (same ∙ ap (λ b. prefix ++ b) (begins_so form_word behind rest s))
+    (length_laid (length prefix) rest form (ltb (length rest) 4) refl (length_at (length prefix) rest) refl e)
+word_laid prefix bytes behind form leads same Arriving s e = cc
+word_laid prefix bytes behind form leads same Differs s e = cc
 
 magic_laid : (bytes : List ℕ) (form : Form) (start : Start) → start_of magic bytes ≡ start → (after_magic start bytes).form ≡ Some form → IsLaidForm bytes form (after_magic start bytes).whole (after_magic start bytes).tail
 magic_laid bytes form (Begins rest) s e = word_laid magic bytes rest form (inr refl) (begins_so magic bytes rest s) (start_of form_word rest) refl e

@@ -1,5 +1,5 @@
 -- A walk over a file that is held as a whole: how it begins, goes on and ends.
-use Rattle.std.proofs.Common.{◌≡◌, ℕ, ◌+◌, ◌*◌, ◌<◌, ◌≤◌, true, false, List, [], ◌∷◌, ◌++◌, length, take, drop, refl, sym, ap, ◌∙◌, subst, arith, append_assoc}
+use Rattle.std.proofs.Common.{◌≡◌, ℕ, ◌+◌, ◌*◌, ◌<◌, true, false, List, [], ◌++◌, length, take, drop, refl, sym, ap, ◌∙◌, subst, arith, append_assoc}
 use Rattle.std.proofs.lemmas.Bool.{true≢false}
 use Rattle.std.proofs.lemmas.List.{append-nil, take-append-drop, take_all, length-drop}
 use Rattle.djvu_base.specs.declared.ends.FileEnd.{FileEnd}
@@ -93,9 +93,11 @@ same_closed : (end : FileEnd) (arrived : ℕ) (whole chunks : List Chunk) (tail 
 same_closed known.Whole arrived whole chunks tail last e = e
 same_closed known.Broken arrived whole chunks tail last e = ap (broken_off arrived) e
 
--- what the walker then says of the file's end
-pub walk_end : (file : List ℕ) (walker : Walking) (end : FileEnd) (answer : WalkEnd) → HasToldAll file walker
-    → ((taken : List ℕ) (told : List Event) → Told taken told walker → tail_of answer ≡ closed (mark_of end) (length file) (chunks_of taken).whole (chunks_of taken).tail)
-    → tail_of answer ≡ file_end (mark_of end) file
+-- what a walker says of the end of a file of so many bytes
+abbrev pub Finishes : Walking → FileEnd → ℕ → WalkEnd → Type 0
+Finishes walker end arrived answer = (taken : List ℕ) (told : List Event) → Told taken told walker → tail_of answer ≡ closed (mark_of end) arrived (chunks_of taken).whole (chunks_of taken).tail
+
+-- once it told every event, that is the end of the file
+pub walk_end : (file : List ℕ) (walker : Walking) (end : FileEnd) (answer : WalkEnd) → HasToldAll file walker → Finishes walker end (length file) answer → tail_of answer ≡ file_end (mark_of end) file
 walk_end file walker end answer t says =
     says t.taken (events_of (chunks_of file)) t.is_told ∙ same_closed end (length file) (chunks_of t.taken).whole (chunks_of file).whole (chunks_of t.taken).tail (chunks_of file).tail t.same_end

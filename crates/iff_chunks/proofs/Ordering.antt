@@ -39,9 +39,9 @@ form_order form rest = rest_order rest.whole rest.tail
 kind_order : (offset size : ℕ) (bytes : List ℕ) → Ordered (kind_at offset size bytes)
 kind_order offset size bytes = by (ltb (length bytes) 4)
   where
-    by : (few : Bool) → Ordered (cond few in_head (in_form (record { kind = take 4 bytes; size = size }) (rest_at (offset + 12) (size - 4) (drop 4 bytes))))
+    by : (few : Bool) → Ordered (cond few in_head (in_form (record { offset = offset; kind = take 4 bytes; size = size }) (rest_at (offset + 12) (size - 4) (drop 4 bytes))))
     by true = tt
-    by false = form_order (record { kind = take 4 bytes; size = size }) (rest_at (offset + 12) (size - 4) (drop 4 bytes))
+    by false = form_order (record { offset = offset; kind = take 4 bytes; size = size }) (rest_at (offset + 12) (size - 4) (drop 4 bytes))
 
 size_order : (fault : Option FaultKind) (offset size : ℕ) (bytes : List ℕ) → Ordered (size_at fault offset size bytes)
 size_order (Some kind) offset size bytes = tt

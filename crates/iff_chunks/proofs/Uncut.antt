@@ -56,7 +56,7 @@ chunks : (most offset left : ℕ) (bytes : List ℕ) → IsUncut (chunks_from mo
 chunks zero offset left bytes = λ place e. cc
 chunks (suc most) offset left bytes = next_found (chunks_from most) (chunks most) (found_at offset left bytes) (found offset left bytes (eqb left 0) (ltb left 8) (ltb (length bytes) 8))
 
-kind : (offset size : ℕ) (bytes : List ℕ) (t : Bool) → IsUncut (cond {A = Chunks} t (record { form = None; whole = []; tail = InHead }) (record { form = Some (record { kind = take 4 bytes; size = size }); whole = (rest_at (offset + 12) (size - 4) (drop 4 bytes)).whole; tail = (rest_at (offset + 12) (size - 4) (drop 4 bytes)).tail })).tail
+kind : (offset size : ℕ) (bytes : List ℕ) (t : Bool) → IsUncut (cond {A = Chunks} t (record { form = None; whole = []; tail = InHead }) (record { form = Some (record { offset = offset; kind = take 4 bytes; size = size }); whole = (rest_at (offset + 12) (size - 4) (drop 4 bytes)).whole; tail = (rest_at (offset + 12) (size - 4) (drop 4 bytes)).tail })).tail
 kind offset size bytes true = λ place e. cc
 kind offset size bytes false = chunks (size - 4) (offset + 12) (size - 4) (drop 4 bytes)
 

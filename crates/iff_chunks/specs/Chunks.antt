@@ -7,8 +7,9 @@ use Rattle.djvu_base.specs.declared.faults.FaultKind.TheVariants.{Truncated, Not
 use Rattle.djvu_base.specs.Library.{file_limit}
 use Rattle.iff_chunks.specs.Start.{Start, Begins, Arriving, Differs, start_of}
 
--- a FORM's kind, and its length, which counts the kind and the chunks
+-- a FORM: its place in the file, its kind, and its length, which counts the kind and the chunks
 pub record Form : Type 0 where
+  pub offset : ℕ
   pub kind : List ℕ
   pub size : ℕ
 
@@ -135,7 +136,7 @@ abbrev pub kind_at : ℕ → ℕ → List ℕ → Chunks
 kind_at offset size bytes =
     if nat_lt (length bytes) 4
     then in_head
-    else in_form (record { kind = take 4 bytes; size = size }) (rest_at (offset + 12) (size - 4) (drop 4 bytes))
+    else in_form (record { offset = offset; kind = take 4 bytes; size = size }) (rest_at (offset + 12) (size - 4) (drop 4 bytes))
 
 -- a FORM's length has room for the kind, and the FORM ends within what is read of a file
 abbrev pub length_fault : ℕ → ℕ → Option FaultKind

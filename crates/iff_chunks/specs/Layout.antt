@@ -1,9 +1,10 @@
--- How a file's bytes are made up of the FORM's head, headers, data and pad bytes, one behind the other.
-use Rattle.std.specs.Prelude.{ℕ, Bool, true, false, ◌≡◌, ◌+◌, ◌-◌, ◌<◌, ◌≤◌, ◌==◌, ◌++◌, ◌⊎◌, List, [], ◌∷◌, length}
+-- The grammar of a file's bytes: the FORM's head, and then headers, data and pad bytes, one after the other.
+use Rattle.std.specs.Prelude.{ℕ, true, false, ◌≡◌, ◌+◌, ◌-◌, ◌<◌, ◌≤◌, ◌==◌, ◌++◌, ◌⊎◌, List, [], ◌∷◌, length}
+use Rattle.std.specs.List.{list_all}
 use Rattle.byteorder.specs.Endian.{big_number}
+use Rattle.djvu_base.specs.declared.faults.FaultKind.TheVariants.{ShortHeader, BadId, Overrun}
 use Rattle.djvu_base.specs.Library.{file_limit}
-use Rattle.iff_chunks.specs.Chunks.{Form, Chunk, Tail, InHead, InHeader, InData, InPad, FormEnd, Broken, is_padded, form_word}
-use Rattle.iff_chunks.specs.FirstForm.{IsFront}
+use Rattle.iff_chunks.specs.Chunks.{Form, Chunk, Tail, InHeader, InData, InPad, FormEnd, Broken, is_padded, is_id_byte, magic, form_word}
 
 -- these bytes are the number, the highest byte first
 pub record IsNumber (bytes : List ℕ) (number : ℕ) : Type 0 where
@@ -17,54 +18,55 @@ pub record IsHeader (header id : List ℕ) (size : ℕ) : Type 0 where
   pub is_size : IsNumber number size
   pub same : header ≡ id ++ number
 
--- the pad byte behind data, or none, where these bytes follow; whether data of this length have one
-abbrev pub IsPad : Bool → List ℕ → List ℕ → Type 0
-IsPad true pad after = (length pad ≡ 1) ⊎ ((pad ≡ []) × (after ≡ []))
-IsPad false pad after = pad ≡ []
-
--- a whole chunk at this place, in front of which the FORM has so many bytes left
-pub record IsLaid (offset left : ℕ) (chunk : Chunk) (header pad after bytes : List ℕ) : Type 0 where
+-- a chunk may begin with this header at this place, where the FORM has so many bytes left
+pub record IsBegun (offset left : ℕ) (chunk : Chunk) (header : List ℕ) : Type 0 where
   pub place : chunk.offset ≡ offset
   pub is_header : IsHeader header chunk.id chunk.size
-  pub data_size : length chunk.bytes ≡ chunk.size
-  pub room : 8 + chunk.size + length pad ≤ left
-  pub is_pad : IsPad (is_padded chunk.size (left - 8 - chunk.size)) pad after
-  pub same : bytes ≡ header ++ (chunk.bytes ++ (pad ++ after))
-
--- a chunk that has begun
-pub record IsLaidOpen (offset left : ℕ) (chunk : Chunk) (bytes : List ℕ) : Type 0 where
-  pub header : List ℕ
-  pub place : chunk.offset ≡ offset
-  pub is_header : IsHeader header chunk.id chunk.size
-  pub short : length chunk.bytes < chunk.size
+  pub printable : list_all is_id_byte chunk.id ≡ true
   pub room : 8 + chunk.size ≤ left
-  pub same : bytes ≡ header ++ chunk.bytes
 
--- the tail at this place, and the bytes from there on; behind the FORM and behind a break any may follow
-abbrev pub LaidTail : ℕ → ℕ → Tail → List ℕ → Type 0
-LaidTail offset left InHead bytes = ⊥
-LaidTail offset left (InHeader place got) bytes = (place ≡ offset) × (got ≡ bytes) × (length bytes < 8) × (8 ≤ left)
-LaidTail offset left (InData chunk) bytes = IsLaidOpen offset left chunk bytes
-LaidTail offset left (InPad place is_last) bytes = (bytes ≡ []) × (is_last ≡ (left == 1)) × (0 < left)
-LaidTail offset left FormEnd bytes = left ≡ 0
-LaidTail offset left (Broken kind place) bytes = (place ≡ offset) × (0 < left)
+-- how many bytes the FORM has after the chunk's data, of so many from its header on
+abbrev pub left_after : ℕ → Chunk → ℕ
+left_after left chunk = left - 8 - chunk.size
 
--- the chunks and the tail stand one behind the other, and nothing stands between them
-abbrev pub Laid : ℕ → ℕ → List Chunk → Tail → List ℕ → Type 0
-Laid offset left [] tail bytes = LaidTail offset left tail bytes
-Laid offset left (chunk ∷ chunks) tail bytes =
-    (header : List ℕ) × (pad : List ℕ) × (after : List ℕ) × IsLaid offset left chunk header pad after bytes
-    × Laid (offset + (8 + chunk.size + length pad)) (left - (8 + chunk.size + length pad)) chunks tail after
+-- the chunks and the tail from a place of the FORM on, which has so many bytes left there; all bytes from there on
+pub data Laid : ℕ → ℕ → List Chunk → Tail → List ℕ → Type 0 where
+  -- the FORM ends, and any bytes may follow
+  AtEnd : (offset : ℕ) (bytes : List ℕ) → Laid offset 0 [] FormEnd bytes
+  -- the FORM has too few bytes left for a header
+  TooShort : (offset left : ℕ) (bytes : List ℕ) → 0 < left → left < 8 → Laid offset left [] (Broken ShortHeader offset) bytes
+  -- the bytes end in a header, or before it
+  Beginning : (offset left : ℕ) (bytes : List ℕ) → 8 ≤ left → length bytes < 8 → Laid offset left [] (InHeader offset bytes) bytes
+  -- a byte of the identifier isn't printable
+  NoId : (offset left size : ℕ) (header id more : List ℕ) → 8 ≤ left → IsHeader header id size → list_all is_id_byte id ≡ false → Laid offset left [] (Broken BadId offset) (header ++ more)
+  -- the data would go past the FORM's end
+  TooLong : (offset left size : ℕ) (header id more : List ℕ) → 8 ≤ left → IsHeader header id size → list_all is_id_byte id ≡ true → left - 8 < size → Laid offset left [] (Broken Overrun offset) (header ++ more)
+  -- the bytes end in the data of a chunk, or before them
+  DataArriving : (offset left : ℕ) (chunk : Chunk) (header : List ℕ) → IsBegun offset left chunk header → length chunk.bytes < chunk.size → Laid offset left [] (InData chunk) (header ++ chunk.bytes)
+  -- the bytes end before the pad byte of a chunk, which is or isn't the last byte of the FORM
+  PadMissing : (offset left : ℕ) (chunk : Chunk) (header : List ℕ) → IsBegun offset left chunk header → length chunk.bytes ≡ chunk.size → is_padded chunk.size (left_after left chunk) ≡ true
+      → Laid offset left (chunk ∷ []) (InPad offset (left_after left chunk == 1)) (header ++ chunk.bytes)
+  -- a chunk, its pad byte, and what follows it
+  Padded : (offset left : ℕ) (chunk : Chunk) (header : List ℕ) (pad : ℕ) (chunks : List Chunk) (tail : Tail) (after : List ℕ) → IsBegun offset left chunk header → length chunk.bytes ≡ chunk.size → is_padded chunk.size (left_after left chunk) ≡ true
+      → Laid (offset + 9 + chunk.size) (left_after left chunk - 1) chunks tail after → Laid offset left (chunk ∷ chunks) tail (header ++ (chunk.bytes ++ (pad ∷ after)))
+  -- a chunk without a pad byte, and what follows it
+  Unpadded : (offset left : ℕ) (chunk : Chunk) (header : List ℕ) (chunks : List Chunk) (tail : Tail) (after : List ℕ) → IsBegun offset left chunk header → length chunk.bytes ≡ chunk.size → is_padded chunk.size (left_after left chunk) ≡ false
+      → Laid (offset + 8 + chunk.size) (left_after left chunk) chunks tail after → Laid offset left (chunk ∷ chunks) tail (header ++ (chunk.bytes ++ after))
+
+-- what may stand before the FORM
+abbrev pub IsPrefix : List ℕ → Type 0
+IsPrefix prefix = (prefix ≡ []) ⊎ (prefix ≡ magic)
 
 -- all bytes of a file whose FORM's head is there
 pub record IsLaidForm (bytes : List ℕ) (form : Form) (chunks : List Chunk) (tail : Tail) : Type 0 where
-  pub front : List ℕ
+  pub prefix : List ℕ
   pub number : List ℕ
   pub after : List ℕ
-  pub may_lead : IsFront front
+  pub may_lead : IsPrefix prefix
+  pub place : form.offset ≡ length prefix
   pub is_size : IsNumber number form.size
   pub four : length form.kind ≡ 4
   pub room : 4 ≤ form.size
-  pub within : length front + 8 + form.size ≤ file_limit
-  pub same : bytes ≡ front ++ (form_word ++ (number ++ (form.kind ++ after)))
-  pub body : Laid (length front + 12) (form.size - 4) chunks tail after
+  pub within : form.offset + 8 + form.size ≤ file_limit
+  pub same : bytes ≡ prefix ++ (form_word ++ (number ++ (form.kind ++ after)))
+  pub body : Laid (form.offset + 12) (form.size - 4) chunks tail after

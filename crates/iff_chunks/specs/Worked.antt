@@ -23,7 +23,11 @@ abbrev pub blank_file : List ℕ
 blank_file = page 22 []
 
 abbrev pub page_form : ℕ → Form
-page_form size = record { kind = codes "DJVU"; size = size }
+page_form size = record { offset = 4; kind = codes "DJVU"; size = size }
+
+-- the FORM of a page without "AT&T"
+abbrev pub bare_form : ℕ → Form
+bare_form size = record { offset = 0; kind = codes "DJVU"; size = size }
 
 -- the ten bytes of its INFO
 abbrev pub info_bytes : List ℕ

@@ -1,13 +1,14 @@
 //! Laws of the definitions, apart from the walker: each is a clause of a function that does nothing.
-ghost use Rattle.std.specs.Prelude.{◌≡◌, ◌≢◌, ℕ, ◌+◌, ◌≤◌, ◌↔◌, ◌++◌, List, [], ◌∷◌, Some, None, true, false, length, take, drop, codes};
+ghost use Rattle.std.specs.Prelude.{◌≡◌, ◌≢◌, ℕ, ◌*◌, ◌<◌, ◌≤◌, ◌++◌, List, [], ◌∷◌, Some, None, true, false, length, take, drop, codes};
 ghost use Rattle.djvu_base.specs.declared.faults.FaultKind.{FaultKind};
 ghost use Rattle.djvu_base.specs.declared.faults.FaultKind.TheVariants.{Truncated, NotForm, TooLarge, ShortHeader, BadId, Overrun};
-ghost use Rattle.iff_chunks.specs.Chunks.{Form, Chunk, FormEnd, Broken, InHead, InHeader, InData, InPad, chunks_of, chunks_in_all, chunks_from, rest_at, found_at, found_so, magic};
+ghost use Rattle.iff_chunks.specs.Chunks.{Form, Chunk, Tail, FormEnd, Broken, InHead, InHeader, InData, InPad, chunks_of, chunks_in_all, chunks_from, rest_at, found_at, found_so, magic};
 ghost use Rattle.iff_chunks.specs.Events.{Begun, Header, Data, ChunkEnd, events_of, GoesOn};
-ghost use Rattle.iff_chunks.specs.FirstForm.{IsFront, IsFirstForm, IsOneInfo, first_form, page_form as one_info_form, info_chunk as one_info};
+ghost use Rattle.djvu_base.specs.Library.{file_limit};
+ghost use Rattle.iff_chunks.specs.Growth.{IsStillThere};
 ghost use Rattle.iff_chunks.specs.Layout.{IsLaidForm};
 ghost use Rattle.iff_chunks.specs.Order.{InOrder, AtForm};
-ghost use Rattle.iff_chunks.specs.Worked.{page, page_form, info_chunk, info_bytes, mask_header, form_of_length};
+ghost use Rattle.iff_chunks.specs.Worked.{page, page_form, bare_form, info_chunk, info_bytes, mask_header, form_of_length};
 
 /// The chunks from a place on are what is found there, and the chunks from behind it on: the definition's count of how
 /// many there may be is never too small, and any larger count gives the same.
@@ -17,12 +18,13 @@ pub fn recursion()
 {}
 
 /// What the bytes so far settle stays, whatever follows: the chunks of a file whose FORM ended or that broke, the FORM,
-/// the whole chunks, and the events.
+/// the complete chunks, the header of a chunk whose data are arriving, and the events.
 pub fn chunks_stay()
     ensures ended { (bytes more : List ℕ) → (chunks_of bytes).tail ≡ FormEnd → chunks_of (bytes ++ more) ≡ chunks_of bytes }
     ensures broken { (bytes more : List ℕ) (kind : FaultKind) (offset : ℕ) → (chunks_of bytes).tail ≡ Broken kind offset → chunks_of (bytes ++ more) ≡ chunks_of bytes }
     ensures form { (bytes more : List ℕ) (form : Form) → (chunks_of bytes).form ≡ Some form → (chunks_of (bytes ++ more)).form ≡ Some form }
     ensures whole { (bytes more : List ℕ) → (later : List Chunk) × ((chunks_of (bytes ++ more)).whole ≡ (chunks_of bytes).whole ++ later) }
+    ensures open { (bytes more : List ℕ) (chunk : Chunk) → (chunks_of bytes).tail ≡ InData chunk → IsStillThere (chunks_of bytes).whole chunk (chunks_of (bytes ++ more)) }
     ensures events { (bytes more : List ℕ) → GoesOn (events_of (chunks_of bytes)) (events_of (chunks_of (bytes ++ more))) }
 {}
 
@@ -31,25 +33,24 @@ pub fn never_cut()
     ensures { (bytes : List ℕ) (offset : ℕ) → (chunks_of bytes).tail ≢ Broken Truncated offset }
 {}
 
-/// Once a file's FORM is there, its bytes are what may stand before it, its head, and then the chunks and the tail one
-/// behind the other: every byte before the tail belongs to one header, to the data of one chunk, or is one pad byte.
+/// Once a file's FORM is there, its bytes are what may stand before it, its head, and then the chunks and the tail, one
+/// after the other. Bytes that are laid out so have that FORM, these chunks and this tail, and no others.
 pub fn layout()
-    ensures { (bytes : List ℕ) (form : Form) → (chunks_of bytes).form ≡ Some form → IsLaidForm bytes form (chunks_of bytes).whole (chunks_of bytes).tail }
+    ensures laid { (bytes : List ℕ) (form : Form) → (chunks_of bytes).form ≡ Some form → IsLaidForm bytes form (chunks_of bytes).whole (chunks_of bytes).tail }
+    ensures only { (bytes : List ℕ) (form : Form) (chunks : List Chunk) (tail : Tail) → IsLaidForm bytes form chunks tail → chunks_of bytes ≡ record { form = Some form; whole = chunks; tail = tail } }
+{}
+
+/// What the limit on files and a FORM's length bound: a file whose bytes end too early is shorter than the limit, and a
+/// complete chunk takes at least eight bytes of its FORM.
+pub fn bounds()
+    ensures cut_is_early { (bytes : List ℕ) (offset : ℕ) → (chunks_in_all bytes).tail ≡ Broken Truncated offset → length bytes < file_limit }
+    ensures few_chunks { (bytes : List ℕ) (form : Form) → (chunks_of bytes).form ≡ Some form → 8 * length (chunks_of bytes).whole ≤ form.size }
 {}
 
 /// The events of a file come in their order: the FORM; then of each chunk its header, its data if there are some, and
 /// its end.
 pub fn order()
     ensures { (bytes : List ℕ) → InOrder AtForm (events_of (chunks_of bytes)) }
-{}
-
-/// A file has a FORM of kind `DJVU` and length 22 and in it one whole chunk, an `INFO` of 10 bytes, exactly where its
-/// bytes are of the first form: what may stand before a FORM, the head of such a page, the header of the `INFO`, ten
-/// bytes, and anything. The FORM then ends, and the `INFO` stands 12 bytes behind the FORM's place.
-pub fn first_form()
-    ensures only { (bytes : List ℕ) → IsOneInfo (chunks_of bytes) ↔ IsFirstForm bytes }
-    ensures chunks { (front info after : List ℕ) → IsFront front → length info ≡ 10 →
-        chunks_of (first_form front info after) ≡ record { form = Some one_info_form; whole = one_info (length front + 12) info ∷ []; tail = FormEnd } }
 {}
 
 /// The chunks of a page of 46 bytes, of its fronts, and of files a little other than it.
@@ -68,7 +69,7 @@ pub fn worked_chunks()
     ensures no_form { chunks_of (codes "AT&TFORN") ≡ record { form = None; whole = []; tail = Broken NotForm 0 } }
     ensures half_magic { chunks_of (codes "AT&FORM") ≡ record { form = None; whole = []; tail = Broken NotForm 0 } }
     ensures length_3 { chunks_of (form_of_length (0 ∷ 0 ∷ 0 ∷ 3 ∷ [])) ≡ record { form = None; whole = []; tail = Broken NotForm 0 } }
-    ensures length_4 { chunks_of (form_of_length (0 ∷ 0 ∷ 0 ∷ 4 ∷ codes "DJVU")) ≡ record { form = Some (page_form 4); whole = []; tail = FormEnd } }
+    ensures length_4 { chunks_of (form_of_length (0 ∷ 0 ∷ 0 ∷ 4 ∷ codes "DJVU")) ≡ record { form = Some (bare_form 4); whole = []; tail = FormEnd } }
 {}
 
 /// The longest FORM ends behind byte 2,097,152 of the file: its length is 2,097,144, and four less behind `AT&T`.

@@ -9,13 +9,10 @@
 //! line are this project's own profile after it (`docs/iw44.md`).
 #![tactic(auto)]
 
-mod laws;
+pub mod laws;
 mod neighbours;
 mod passes;
 mod samples;
-#[cfg(test)]
-mod tests;
 mod transform;
 
-pub use laws::{lines_stay_apart, values_stay_small, worked_grids, worked_lines};
 pub use transform::inverse;

@@ -9,8 +9,7 @@ use Rattle.zp_decoder.specs.declared.decoder.Decision.TheVariants as decision
 use Rattle.zp_decoder.specs.Decision.{Interval, Form, Outcome, Adaptive, interval_at, split_of, is_determined, outcome_of, outcome_at}
 use Rattle.zp_decoder.specs.Decoder.{IsStanding}
 use Rattle.zp_decoder.specs.Runs.{IsFormOf, room}
-use Rattle.zp_decoder.proofs.Growing.{grown}
-use Rattle.zp_decoder.proofs.Within.{Comes, comes, needs, exhausts, moves, standing, state_below, fewer, le_from_le_true, between_facts, between-from_facts}
+use Rattle.zp_decoder.proofs.Lemmas.{grown, Comes, comes, needs, exhausts, moves, standing, state_below, fewer, le_from_le_true, between_facts, between-from_facts}
 use Rattle.jb2_numbers.specs.declared.phases.Phase.{Phase}
 use Rattle.jb2_numbers.specs.declared.phases.Phase.TheVariants.{Sign, Doubling, Halving, Known}
 use Rattle.jb2_numbers.specs.Contexts.{Name, is_same, store}

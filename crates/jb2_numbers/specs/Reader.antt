@@ -1,14 +1,13 @@
 -- How a reader of numbers, the contexts, a decoder and a meter stand to the definition.
-use Rattle.std.specs.Prelude.{◌≡◌, ℕ, ◌≤ℤ◌, ℤ, pos, negsuc, Bool, List, [], Option}
+use Rattle.std.specs.Prelude.{◌≡◌, ℕ, ◌≤ℤ◌, ℤ, pos, negsuc, Bool, List}
 use Rattle.djvu_base.specs.Meter.{TicksExactly}
-use Rattle.zp_decoder.specs.Decision.{Interval}
 use Rattle.zp_decoder.specs.Decoder.{Decoder, Fed}
 use Rattle.jb2_numbers.specs.declared.reader.NumberStep.{NumberStep}
 use Rattle.jb2_numbers.specs.declared.roots.Root.{Root}
 use Rattle.jb2_numbers.specs.declared.contexts.Path.{Path}
 use Rattle.jb2_numbers.specs.declared.phases.Phase.{Phase}
 use Rattle.jb2_numbers.specs.Contexts.{Numbers, states_of, path_of}
-use Rattle.jb2_numbers.specs.Number.{Wanted, Chunk, Reading, phase_after, begun, chunk, step, answer_at}
+use Rattle.jb2_numbers.specs.Number.{Wanted, Chunk, Reading, phase_after, step, answer_at}
 
 -- low and high are bounds of a number
 pub record AreBounds (low high : ℤ) : Type 0 where

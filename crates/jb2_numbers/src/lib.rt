@@ -8,18 +8,11 @@
 #![tactic(auto)]
 
 mod contexts;
-mod laws;
+pub mod laws;
 mod phases;
 mod reader;
 mod roots;
-#[cfg(test)]
-mod tests;
 
 pub use contexts::NumberContexts;
-pub use laws::{
-    cuts_change_nothing, names_differ, numbers_end, numbers_lie_within, one_value_codes_nothing,
-    readings_leave_room, readings_stay_within, states_are_below, types_are_coded,
-    worked_numbers,
-};
 pub use reader::{NumberReader, NumberStep};
 pub use roots::Root;

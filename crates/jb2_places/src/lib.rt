@@ -6,10 +6,7 @@
 //! line that is worked out.
 #![tactic(auto)]
 
-mod laws;
+pub mod laws;
 mod places;
-#[cfg(test)]
-mod tests;
 
-pub use laws::{medians, rows, worked_places};
 pub use places::{Places, Spot};

@@ -1,13 +1,15 @@
 -- What a coder's calls answer, by what its decoder and its readers answer.
 use Rattle.std.proofs.Common.{◌≡◌, ◌≢◌, ◌+◌, ◌-◌, ℕ, zero, suc, ℤ, ◌≤ℤ◌, Bool, List, [], refl, sym, ap, subst, ◌∙◌, arith}
 use Rattle.std.specs.Prelude.{Option, Result, Ok, Err, IfOk, int_le, IsTrue}
+use Rattle.djvu_base.specs.Meter.{ticked, ticked_once, TicksExactly}
+use Rattle.djvu_base.proofs.Ticks.{ticks_both, ticks_one, ticks_none}
 use Rattle.zp_table.specs.declared.rows.Row.{Row}
 use Rattle.zp_decoder.specs.declared.decoder.Decision.{Decision}
 use Rattle.zp_decoder.specs.declared.decoder.Decision.TheVariants as decision
 use Rattle.zp_decoder.specs.Decision.{Interval, Adaptive, Outcome, outcome_of}
 use Rattle.zp_decoder.specs.Decision as coding
 use Rattle.zp_decoder.specs.Decoder.{Fed}
-use Rattle.zp_decoder.proofs.Standing.{is_fed}
+use Rattle.zp_decoder.proofs.Lemmas.{is_fed}
 use Rattle.bit_plane.specs.Pixels.{Pixels}
 use Rattle.djvu_base.specs.declared.faults.FaultKind.TheVariants as fault
 use Rattle.jb2_numbers.specs.declared.roots.Root.{Root}
@@ -18,7 +20,7 @@ use Rattle.jb2_numbers.specs.Number as numbers
 use Rattle.jb2_numbers.specs.Number.{Chunk, Wanted, chunk, wanted, begun, read_on, answer_at}
 use Rattle.jb2_numbers.specs.Reader as reading
 use Rattle.jb2_numbers.specs.Reader.{Reader, Reads, AreBounds}
-use Rattle.jb2_numbers.proofs.Ending.{answer_within}
+use Rattle.jb2_numbers.proofs.Lemmas.{answer_within}
 use Rattle.jb2_shapes.specs.declared.steps.ShapeStep.{ShapeStep}
 use Rattle.jb2_shapes.specs.declared.steps.ShapeStep.TheVariants as shape
 use Rattle.jb2_shapes.specs.Numbers as cells
@@ -29,19 +31,7 @@ use Rattle.jb2_shapes.specs.Steps as pixels
 use Rattle.jb2_records.specs.declared.stops.Stop.{Stop}
 use Rattle.jb2_records.specs.declared.stops.Stop.TheVariants as stop
 use Rattle.jb2_records.specs.Coding.{Coder, Need, Wrong, Got, after_number, number_by, read_number, after_flag, read_flag, after_row, read_row, bit_by, after_shape, shape_by, shape_of}
-use Rattle.jb2_records.specs.Reader.{counted}
 use Rattle.jb2_records.specs.Telling.{Parts, Stands, Comes, IsStopped, Told}
-
--- so many ticks more
-ticks_counted : (ticks decisions : ℕ) → numbers.ticked ticks (counted decisions) ≡ counted (decisions + ticks)
-ticks_counted zero decisions = omega arith
-ticks_counted (suc ticks) decisions =
-    let before : numbers.ticked ticks (counted decisions) ≡ counted (decisions + ticks) = ticks_counted ticks decisions in
-    omega arith
-
-pixels_counted : (ticks decisions : ℕ) → pixels.ticked (counted decisions) ticks ≡ counted (decisions + ticks)
-pixels_counted zero decisions = omega arith
-pixels_counted (suc ticks) decisions = omega arith
 
 -- the answer to a number
 abbrev pub result_of : NumberStep → Result ℤ Stop
@@ -97,7 +87,7 @@ pub record Reads_on (wanted : Wanted) (old new : Parts) (first last : Reader) (s
 
 start_of : (source : Chunk) (wanted : Wanted) (at : Coder) (old new : Parts) (first last : Reader) (step : NumberStep) → Reads_on wanted old new first last step → Stands source at old →
     reading.Stands wanted source old.count (begun at.numbers at.place) first old.numbers old.zp old.count
-start_of source wanted at old new first last step on stands = record { reads = on.reads; states = stands.numbers; fed = stands.fed; table = stands.table; ended = stands.ended; ticks = refl }
+start_of source wanted at old new first last step on stands = record { reads = on.reads; states = stands.numbers; fed = stands.fed; table = stands.table; ended = stands.ended; ticks = ticks_none old.count }
 
 is_read : (source : Chunk) (wanted : Wanted) (at : Coder) (old new : Parts) (first last : Reader) (step : NumberStep) → Reads_on wanted old new first last step → Stands source at old →
     IsRead source wanted at step new
@@ -114,8 +104,7 @@ is_read source wanted at old new first last step on stands = record {
         fed = end.fed;
         table = end.table;
         ended = end.ended;
-        count = end.ticks ∙ ap (λ (n : ℕ). numbers.ticked (read_on wanted source (begun at.numbers at.place)).coded n) stands.count
-            ∙ ticks_counted (read_on wanted source (begun at.numbers at.place)).coded at.decisions;
+        count = ticks_both at.decisions (read_on wanted source (begun at.numbers at.place)).coded 0 old.count new.count stands.count end.ticks;
       };
 }
 
@@ -133,7 +122,7 @@ number_there : (root : Root) (low high : ℤ) (old new : Parts) (first last : Re
 number_there root low high old new first last value bounds on payload place fed =
     let source : Chunk = chunk old.zp.table payload old.zp.ended in
     let first_stands : reading.Stands (wanted root low high) source old.count (begun (states_of old.numbers) place) first old.numbers old.zp old.count =
-    record { reads = on.reads; states = refl; fed = fed; table = refl; ended = refl; ticks = refl } in
+    record { reads = on.reads; states = refl; fed = fed; table = refl; ended = refl; ticks = ticks_none old.count } in
     let both = answer_within (wanted root low high) source (states_of old.numbers) place value bounds
     (sym (on.answer (wanted root low high) source old.count (begun (states_of old.numbers) place) (λ memory. cc) first_stands)) in
     (le_of low value both.0, le_of value high both.1)
@@ -170,7 +159,7 @@ pub record HasOutcome (source : Chunk) (state state' : ℕ) (at : Coder) (given 
   pub context : state' ≡ (outcome_of source.table (Adaptive state) source.payload source.ended at.place).state
   pub table : new.zp.table ≡ source.table
   pub ended : new.zp.ended ≡ source.ended
-  pub ticks : new.count ≡ coding.counted given (counted at.decisions)
+  pub ticks : new.count ≡ coding.counted given (ticked at.decisions 0)
   pub numbers : states_of new.numbers ≡ at.numbers
   pub pixels : cells.states_of new.pixels ≡ at.pixels
 
@@ -195,7 +184,7 @@ flag_goes : (source : Chunk) (at : Coder) (given : Decision) (new : Parts) → H
 flag_goes source at (decision.Bit bit) new has row = record {
   next = after_flag at (outcome_of source.table (Adaptive at.flag) source.payload source.ended at.place);
   got = ap (λ (d : Decision). bit_by d (after_flag at (outcome_of source.table (Adaptive at.flag) source.payload source.ended at.place)) at.decisions) (sym has.answer);
-  stands = record { numbers = has.numbers; pixels = has.pixels; flag = has.context; row = row; fed = has.fed; table = has.table; ended = has.ended; count = has.ticks ∙ omega arith };
+  stands = record { numbers = has.numbers; pixels = has.pixels; flag = has.context; row = row; fed = has.fed; table = has.table; ended = has.ended; count = ticks_both at.decisions 1 0 (ticked at.decisions 0) new.count refl (ticks_one (ticked at.decisions 0) new.count has.ticks) };
 }
 flag_goes source at decision.NeedBytes new has row = record {
   decisions = at.decisions;
@@ -212,7 +201,7 @@ row_goes : (source : Chunk) (at : Coder) (given : Decision) (new : Parts) → Ha
 row_goes source at (decision.Bit bit) new has flag = record {
   next = after_row at (outcome_of source.table (Adaptive at.row) source.payload source.ended at.place);
   got = ap (λ (d : Decision). bit_by d (after_row at (outcome_of source.table (Adaptive at.row) source.payload source.ended at.place)) at.decisions) (sym has.answer);
-  stands = record { numbers = has.numbers; pixels = has.pixels; flag = flag; row = has.context; fed = has.fed; table = has.table; ended = has.ended; count = has.ticks ∙ omega arith };
+  stands = record { numbers = has.numbers; pixels = has.pixels; flag = flag; row = has.context; fed = has.fed; table = has.table; ended = has.ended; count = ticks_both at.decisions 1 0 (ticked at.decisions 0) new.count refl (ticks_one (ticked at.decisions 0) new.count has.ticks) };
 }
 row_goes source at decision.NeedBytes new has flag = record {
   decisions = at.decisions;
@@ -245,7 +234,7 @@ pub record HasReading (source : Chunk) (at : Coder) (reading : shapes.Reading) (
   pub fed : Fed source.payload reading.at.place new.zp
   pub table : new.zp.table ≡ source.table
   pub ended : new.zp.ended ≡ source.ended
-  pub count : new.count ≡ counted (at.decisions + reading.at.sketch.number)
+  pub count : TicksExactly (at.decisions + reading.at.sketch.number) 0 new.count
   pub numbers : states_of new.numbers ≡ at.numbers
   pub flag : new.flag ≡ at.flag
   pub row : new.row ≡ at.row
@@ -274,9 +263,6 @@ shape_exhausted source at reading told sketch new has needs = record {
   count = has.count;
 }
 
-pub shape_count : (new old decisions number : ℕ) → new ≡ pixels.ticked old number → old ≡ counted decisions → new ≡ counted (decisions + number)
-shape_count new old decisions number ticks is = ticks ∙ ap (λ (n : ℕ). pixels.ticked n number) is ∙ pixels_counted number decisions
-
 -- what a reader of shapes did
 pub record ReadsShape (reading : List Row → List ℕ → Bool → shapes.Progress → shapes.Reading) (old new : Parts) (first last : Sketch) (told : ShapeStep) : Type 0 where
   pub answer : (payload : List ℕ) (place : Option Interval) → Fed payload place old.zp →
@@ -289,7 +275,7 @@ pub record ReadsShape (reading : List Row → List ℕ → Bool → shapes.Progr
       Fed payload (reading old.zp.table payload old.zp.ended (progress first (cells.states_of old.pixels) place)).at.place new.zp
   pub table : new.zp.table ≡ old.zp.table
   pub ended : new.zp.ended ≡ old.zp.ended
-  pub ticks : new.count ≡ pixels.ticked old.count (last.number - first.number)
+  pub ticks : TicksExactly (last.number - first.number) old.count new.count
   pub numbers : new.numbers ≡ old.numbers
   pub flag : new.flag ≡ old.flag
   pub row : new.row ≡ old.row
@@ -320,9 +306,8 @@ shape_read reading old new first last told width height reads is source at stand
       fed = subst (λ (r : shapes.Reading). Fed source.payload r.at.place new.zp) there (reads.fed source.payload at.place stands.fed);
       table = reads.table ∙ stands.table;
       ended = reads.ended ∙ stands.ended;
-      count = reads.ticks ∙ ap (λ (n : ℕ). pixels.ticked old.count n) (number_left last.number first.number (ap (λ (s : Sketch). s.number) is) ∙ ap (λ (s : Sketch). s.number) last_is)
-          ∙ ap (λ (n : ℕ). pixels.ticked n (reading source.table source.payload source.ended (progress (empty_sketch width height) at.pixels at.place)).at.sketch.number) stands.count
-          ∙ pixels_counted (reading source.table source.payload source.ended (progress (empty_sketch width height) at.pixels at.place)).at.sketch.number at.decisions;
+      count = ticks_both at.decisions (reading source.table source.payload source.ended (progress (empty_sketch width height) at.pixels at.place)).at.sketch.number 0 old.count new.count stands.count
+          (reads.ticks ∙ ap (λ (n : ℕ). ticked n old.count) (number_left last.number first.number (ap (λ (s : Sketch). s.number) is) ∙ ap (λ (s : Sketch). s.number) last_is));
       numbers = ap states_of reads.numbers ∙ stands.numbers;
       flag = reads.flag ∙ stands.flag;
       row = reads.row ∙ stands.row;

@@ -3,15 +3,16 @@ use Rattle.std.proofs.Common.{◌≡◌, ◌≤◌, ◌+◌, ℕ, min, add-one, 
 use Rattle.std.specs.Prelude.{Option, Some, None, Result, Ok, Err, OnOk, is_ok, if◌then◌else◌}
 use Rattle.zp_table.specs.declared.rows.Row.{Row}
 use Rattle.std.proofs.lemmas.List.{length-append, append-nil}
+use Rattle.djvu_base.specs.Meter.{ticked}
 use Rattle.bit_plane.specs.Pixels.{Pixels}
 use Rattle.jb2_records.specs.declared.reader.Jb2Step.{Jb2Step}
 use Rattle.jb2_records.specs.declared.reader.Jb2Step.TheVariants as answer
 use Rattle.jb2_records.specs.Records.{placed_shapes}
 use Rattle.jb2_records.specs.Reading.{Input, Outcome, records_of}
 use Rattle.jb2_records.specs.Mask.{mask_of, mask_drawn}
-use Rattle.jb2_records.specs.Reader.{Masking, Fed, Settles, input_of, counted, standing}
+use Rattle.jb2_records.specs.Reader.{Masking, Fed, Settles, input_of, standing}
 use Rattle.jb2_records.specs.Holding.{IsFinal, IsHeld, IsDecoded, with_decoded}
-use Rattle.jb2_numbers.specs.Number.{Chunk, chunk, ticked}
+use Rattle.jb2_numbers.specs.Number.{Chunk, chunk}
 use Rattle.jb2_records.specs.Coding.{chunk_start}
 use Rattle.jb2_records.specs.Telling.{Parts, Stands}
 use Rattle.jb2_records.specs.Drawing.{Task, Scene, drawn, Shows, IsBegun, DrawsAll}
@@ -21,9 +22,6 @@ use Rattle.jb2_records.proofs.Growing.{records_go_on}
 -- a reader with more bytes
 abbrev pub grown : Masking → List ℕ → Bool → Masking
 grown reader more ended = record reader { ended = ended; kept = record { bytes = reader.kept.bytes ++ more; mask = reader.kept.mask } }
-
-more_counted : (n m : ℕ) → n ≤ m → counted n ≤ counted m
-more_counted n m le = omega arith
 
 mask_same : (width height : ℕ) (shorter longer : Input) → longer.inherited ≡ shorter.inherited → records_of longer ≡ records_of shorter → mask_drawn width height shorter ≡ mask_drawn width height longer
 mask_same width height shorter longer dictionary records =
@@ -36,8 +34,8 @@ settles_on width height shorter longer None units decisions mask dictionary goes
 settles_on width height shorter longer (Some step) units decisions mask dictionary goes final settles =
     let same : records_of longer ≡ records_of shorter = goes.settled (λ needs. final (settles.0 ∙ needs)) in (
       settles.0 ∙ ap (λ (o : Outcome). o.answer) (sym same),
-      settles.1 ∙ ap (λ (o : Outcome). counted (length o.records)) (sym same),
-      settles.2 ∙ ap (λ (o : Outcome). counted o.decisions) (sym same),
+      settles.1 ∙ ap (λ (o : Outcome). ticked (length o.records) 0) (sym same),
+      settles.2 ∙ ap (λ (o : Outcome). ticked o.decisions 0) (sym same),
       λ finished. settles.3 finished ∙ mask_same width height shorter longer dictionary same,
     )
 
@@ -48,8 +46,8 @@ fed_grown reader more ended held goes =
     let all : Input = input_of (grown reader more ended) (reader.kept.bytes ++ more) in
     let on : GoesOn (records_of some) (records_of all) = records_go_on some more ended held.rows goes in
     let longer : length (records_of all).records ≡ length on.later + length (records_of some).records = ap length on.entries ∙ length-append on.later (records_of some).records in
-    let units : reader.units ≤ counted (length (records_of some).records) = held.fed.1 in
-    let decisions : reader.decisions ≤ counted (records_of some).decisions = held.fed.2 in
+    let units : reader.units ≤ ticked (length (records_of some).records) 0 = held.fed.1 in
+    let decisions : reader.decisions ≤ ticked (records_of some).decisions 0 = held.fed.2 in
     let fewer : (records_of some).decisions ≤ (records_of all).decisions = on.decisions in (
       refl,
       omega arith,
@@ -81,7 +79,7 @@ fed_held payload reader held same = subst (λ (bytes : List ℕ). Fed bytes read
 
 -- counts of a reader that was fed a payload are at most the definition's
 pub fed_at_most : (payload : List ℕ) (reader : Masking) → Fed payload reader →
-    (reader.units ≤ counted (length (records_of (input_of reader payload)).records)) × (reader.decisions ≤ counted (records_of (input_of reader payload)).decisions)
+    (reader.units ≤ ticked (length (records_of (input_of reader payload)).records) 0) × (reader.decisions ≤ ticked (records_of (input_of reader payload)).decisions 0)
 unfolding Fed
 fed_at_most payload reader fed = (fed.1, fed.2)
 
@@ -103,8 +101,8 @@ final_standing answer.NeedBytes = tt
 final_standing (answer.Refused kind) = λ same. cc
 final_standing answer.OutOfMemory = tt
 
-settles_standing : (input : Input) (width height : ℕ) (step : Jb2Step) (units decisions : ℕ) (mask : Pixels) → step ≡ (records_of input).answer → units ≡ counted (length (records_of input).records) →
-    decisions ≡ counted (records_of input).decisions → mask ≡ mask_drawn width height input → Settles input width height (standing step None) units decisions mask
+settles_standing : (input : Input) (width height : ℕ) (step : Jb2Step) (units decisions : ℕ) (mask : Pixels) → step ≡ (records_of input).answer → units ≡ ticked (length (records_of input).records) 0 →
+    decisions ≡ ticked (records_of input).decisions 0 → mask ≡ mask_drawn width height input → Settles input width height (standing step None) units decisions mask
 settles_standing input width height answer.Finished units decisions mask same entries made drawn = (same, entries, made, λ finished. drawn)
 settles_standing input width height answer.NeedBytes units decisions mask same entries made drawn = tt
 settles_standing input width height (answer.Refused kind) units decisions mask same entries made drawn = (same, entries, made, λ finished. drawn)
@@ -113,8 +111,8 @@ settles_standing input width height answer.OutOfMemory units decisions mask same
 pub fed_decoded : (reader : Masking) (told : Jb2Step) (records made : ℕ) (picture : Pixels) → IsDecoded reader told records made picture → Fed reader.kept.bytes (with_decoded reader told records made picture)
 unfolding Fed
 fed_decoded reader told records made picture is =
-    let entries : records ≡ counted (length (records_of (input_of reader reader.kept.bytes)).records) = is.entries in
-    let decided : made ≡ counted (records_of (input_of reader reader.kept.bytes)).decisions = is.decided in (
+    let entries : records ≡ ticked (length (records_of (input_of reader reader.kept.bytes)).records) 0 = is.entries in
+    let decided : made ≡ ticked (records_of (input_of reader reader.kept.bytes)).decisions 0 = is.decided in (
       refl,
       omega arith,
       omega arith,
@@ -133,15 +131,15 @@ held_decoded reader told records made picture held is = record {
 pub units_grow : (reader : Masking) (told : Jb2Step) (records made : ℕ) (picture : Pixels) → IsHeld reader → IsDecoded reader told records made picture → reader.units ≤ records
 unfolding Fed
 units_grow reader told records made picture held is =
-    let before : reader.units ≤ counted (length (records_of (input_of reader reader.kept.bytes)).records) = held.fed.1 in
-    let entries : records ≡ counted (length (records_of (input_of reader reader.kept.bytes)).records) = is.entries in
+    let before : reader.units ≤ ticked (length (records_of (input_of reader reader.kept.bytes)).records) 0 = held.fed.1 in
+    let entries : records ≡ ticked (length (records_of (input_of reader reader.kept.bytes)).records) 0 = is.entries in
     omega arith
 
 pub decisions_grow : (reader : Masking) (told : Jb2Step) (records made : ℕ) (picture : Pixels) → IsHeld reader → IsDecoded reader told records made picture → reader.decisions ≤ made
 unfolding Fed
 decisions_grow reader told records made picture held is =
-    let before : reader.decisions ≤ counted (records_of (input_of reader reader.kept.bytes)).decisions = held.fed.2 in
-    let decided : made ≡ counted (records_of (input_of reader reader.kept.bytes)).decisions = is.decided in
+    let before : reader.decisions ≤ ticked (records_of (input_of reader reader.kept.bytes)).decisions 0 = held.fed.2 in
+    let decided : made ≡ ticked (records_of (input_of reader reader.kept.bytes)).decisions 0 = is.decided in
     omega arith
 
 -- a standing answer is the definition's, with its counts
@@ -150,12 +148,12 @@ unfolding Fed
 settled_answer reader payload step fed is =
     let settles = subst (λ (a : Option Jb2Step). Settles (input_of reader payload) reader.width reader.height a reader.units reader.decisions reader.kept.mask) is fed.3 in settles.0
 
-pub settled_units : (reader : Masking) (payload : List ℕ) (step : Jb2Step) → Fed payload reader → reader.answered ≡ Some step → reader.units ≡ counted (length (records_of (input_of reader payload)).records)
+pub settled_units : (reader : Masking) (payload : List ℕ) (step : Jb2Step) → Fed payload reader → reader.answered ≡ Some step → reader.units ≡ ticked (length (records_of (input_of reader payload)).records) 0
 unfolding Fed
 settled_units reader payload step fed is =
     let settles = subst (λ (a : Option Jb2Step). Settles (input_of reader payload) reader.width reader.height a reader.units reader.decisions reader.kept.mask) is fed.3 in settles.1
 
-pub settled_decisions : (reader : Masking) (payload : List ℕ) (step : Jb2Step) → Fed payload reader → reader.answered ≡ Some step → reader.decisions ≡ counted (records_of (input_of reader payload)).decisions
+pub settled_decisions : (reader : Masking) (payload : List ℕ) (step : Jb2Step) → Fed payload reader → reader.answered ≡ Some step → reader.decisions ≡ ticked (records_of (input_of reader payload)).decisions 0
 unfolding Fed
 settled_decisions reader payload step fed is =
     let settles = subst (λ (a : Option Jb2Step). Settles (input_of reader payload) reader.width reader.height a reader.units reader.decisions reader.kept.mask) is fed.3 in settles.2
@@ -219,7 +217,3 @@ decoded_all reader told records made picture parts scene all count mask = record
   decided = count ∙ all.decisions;
   drawn = mask ∙ all.picture;
 }
-
--- ticks, one after the other
-pub tick_more : (ticks count next start : ℕ) → count ≡ ticked ticks start → next ≡ min (count + 1) 0xffff_ffff_ffff_ffff → next ≡ ticked (ticks + 1) start
-tick_more ticks count next start is more = more ∙ ap (λ (n : ℕ). min (n + 1) 0xffff_ffff_ffff_ffff) is ∙ ap (λ (n : ℕ). ticked n start) (sym (add-one ticks))

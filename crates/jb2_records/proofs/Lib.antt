@@ -1,18 +1,37 @@
-pub mod Bounding
-pub mod Continuing
-pub mod Ending
-pub mod Finishing
-pub mod Following
-pub mod Growing
-pub mod Keeping
-pub mod Leaving
-pub mod Joining
-pub mod Calling
-pub mod Showing
-pub mod Libraries
-pub mod Sizing
-pub mod Recording
-pub mod Feeding
-pub mod Looping
-pub mod Texting
-pub mod Settling
+-- The lemmas of this crate, lowest first; behind each the functions and laws whose clauses it ends in, or the files that cite it.
+-- Finishing
+mod Bounding
+-- src/coder.rt
+mod Calling
+-- Continuing
+mod Following
+-- src/records.rt, src/shapes.rt
+mod Joining
+-- Continuing, Ending, Leaving
+mod Keeping
+-- Growing, Leaving
+mod Continuing
+-- laws readings_stay_within
+mod Leaving
+-- laws records_end
+mod Ending
+-- laws more_bytes_go_on
+mod Growing
+-- src/reader.rt
+mod Feeding
+-- Dictionary::shape, Scene::shape_at
+mod Libraries
+-- read_records
+mod Looping
+-- src/records.rt
+mod Recording
+-- Finishing
+mod Settling
+-- laws records_end
+mod Finishing
+-- Scene::place, Scene::place_plain, next_spot
+mod Showing
+-- read_own, read_refinement
+mod Sizing
+-- read_comment
+mod Texting

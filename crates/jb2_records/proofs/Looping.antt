@@ -1,8 +1,10 @@
 -- Records that are read one after the other are those of the chunk.
 use Rattle.std.proofs.Common.{◌≡◌, ◌≢◌, ◌<◌, ◌+◌, ℕ, zero, suc, min, Bool, true, false, List, [], ◌∷◌, length, refl, sym, ap, subst, ◌∙◌, arith}
 use Rattle.zp_decoder.specs.Decoder.{room_left}
-use Rattle.zp_decoder.proofs.Standing.{room_is}
+use Rattle.zp_decoder.proofs.Lemmas.{room_is}
 use Rattle.zp_decoder.specs.Runs.{room}
+use Rattle.djvu_base.specs.Meter.{ticked_once, ticked, TicksExactly}
+use Rattle.djvu_base.proofs.Ticks.{ticks_next}
 use Rattle.djvu_base.specs.declared.faults.FaultKind.{FaultKind}
 use Rattle.jb2_records.specs.declared.reader.Jb2Step.{Jb2Step}
 use Rattle.jb2_records.specs.declared.reader.Jb2Step.TheVariants as answer
@@ -10,7 +12,6 @@ use Rattle.jb2_records.specs.Records.{Record, is_end, placed_shapes}
 use Rattle.jb2_records.specs.Coding.{Coder, chunk_start, Why, Need, Wrong, Read, Got, Stops}
 use Rattle.jb2_records.specs.Reading.{Input, Outcome, outcome, answer_of, after_record, after_end, read_record, records_from, records_of, most_records}
 use Rattle.jb2_records.specs.Mask.{mask_of}
-use Rattle.jb2_records.specs.Reader.{counted}
 use Rattle.jb2_records.specs.Growth.{IsSound}
 use Rattle.jb2_records.specs.Telling.{Parts, Stands, IsStopped}
 use Rattle.jb2_records.specs.Drawing.{Task, input_for, Scene, drawn, Shows, Adds, DrawsAll, IsBegun}
@@ -24,7 +25,7 @@ pub record GoesAll (task : Task) (parts : Parts) (scene : Scene) (units : ℕ) :
   pub stands : Stands task.chunk at parts
   pub shows : Shows (drawn task before) scene
   pub sound : IsSound task.chunk at
-  pub count : units ≡ counted (length before)
+  pub count : TicksExactly (length before) 0 units
   pub enough : room task.chunk.payload at.place < fuel
   pub goes : records_from fuel (input_for task) before at ≡ records_of (input_for task)
 
@@ -51,12 +52,9 @@ from_stop : (fuel : ℕ) (input : Input) (before : List Record) (at : Coder) (wh
     records_from (suc fuel) input before at ≡ outcome (answer_of why) before decisions
 from_stop fuel input before at why decisions stops = ap (λ (r : Read Record). after_record r before (λ records at. records_from fuel input records at)) stops
 
-count_more : (units more n : ℕ) → units ≡ counted n → more ≡ min (units + 1) 0xffff_ffff_ffff_ffff → more ≡ counted (suc n)
-count_more units more n is next = omega arith
-
-goes_on : (task : Task) (parts new : Parts) (scene next_scene : Scene) (units more fuel : ℕ) (before : List Record) (at : Coder) → Stands task.chunk at parts → IsSound task.chunk at → units ≡ counted (length before) →
+goes_on : (task : Task) (parts new : Parts) (scene next_scene : Scene) (units more fuel : ℕ) (before : List Record) (at : Coder) → Stands task.chunk at parts → IsSound task.chunk at → TicksExactly (length before) 0 units →
     room task.chunk.payload at.place < fuel → records_from fuel (input_for task) before at ≡ records_of (input_for task) →
-    Adds task before (read_record (input_for task) before at) false new next_scene → more ≡ min (units + 1) 0xffff_ffff_ffff_ffff → GoesAll task new next_scene more
+    Adds task before (read_record (input_for task) before at) false new next_scene → more ≡ ticked_once units → GoesAll task new next_scene more
 goes_on task parts new scene next_scene units more zero before at stands sound count enough goes adds next = absurd (omega arith)
 goes_on task parts new scene next_scene units more (suc fuel) before at stands sound count enough goes adds next =
     let left = record_leaves (input_for task) before at adds.next adds.entry sound adds.got in
@@ -68,44 +66,44 @@ goes_on task parts new scene next_scene units more (suc fuel) before at stands s
       stands = adds.stands;
       shows = adds.shows;
       sound = left.0;
-      count = count_more units more (length before) count next;
+      count = ticks_next (length before) 0 units more count next;
       enough = omega arith;
       goes = ap (λ (b : Bool). after_end b (adds.entry ∷ before) adds.next (λ records at. records_from fuel (input_for task) records at)) (sym adds.last)
           ∙ sym (from_record fuel (input_for task) before at adds.next adds.entry adds.got) ∙ goes;
     }
 
 pub goes_next : (task : Task) (parts new : Parts) (scene next_scene : Scene) (units more : ℕ) (all : GoesAll task parts scene units) (is_last : Bool) →
-    Adds task all.before (read_record (input_for task) all.before all.at) is_last new next_scene → is_last ≡ false → more ≡ min (units + 1) 0xffff_ffff_ffff_ffff → GoesAll task new next_scene more
+    Adds task all.before (read_record (input_for task) all.before all.at) is_last new next_scene → is_last ≡ false → more ≡ ticked_once units → GoesAll task new next_scene more
 goes_next task parts new scene next_scene units more all is_last adds is next =
     goes_on task parts new scene next_scene units more all.fuel all.before all.at all.stands all.sound all.count all.enough all.goes
     (subst (λ (b : Bool). Adds task all.before (read_record (input_for task) all.before all.at) b new next_scene) is adds) next
 
 -- the records end
 pub ends_with : (task : Task) (told : Jb2Step) (records : List Record) (decisions units : ℕ) (parts : Parts) (scene : Scene) → records_of (input_for task) ≡ outcome told records decisions → told ≢ answer.OutOfMemory →
-    units ≡ counted (length records) → parts.count ≡ counted decisions → Shows (drawn task records) scene → DrawsAll task told units parts scene
+    TicksExactly (length records) 0 units → TicksExactly decisions 0 parts.count → Shows (drawn task records) scene → DrawsAll task told units parts scene
 ends_with task told records decisions units parts scene is some count decided shows = record {
   same = sym (ap (λ (o : Outcome). o.answer) is);
   some = some;
-  entries = count ∙ sym (ap (λ (o : Outcome). counted (length o.records)) is);
-  decisions = decided ∙ sym (ap (λ (o : Outcome). counted o.decisions) is);
+  entries = count ∙ sym (ap (λ (o : Outcome). ticked (length o.records) 0) is);
+  decisions = decided ∙ sym (ap (λ (o : Outcome). ticked o.decisions 0) is);
   picture = shows.picture ∙ sym (ap (λ (o : Outcome). mask_of task.width task.height (placed_shapes task.inherited o.records)) is);
 }
 
-end_on : (task : Task) (new : Parts) (next_scene : Scene) (units more fuel : ℕ) (before : List Record) (at : Coder) → units ≡ counted (length before) → room task.chunk.payload at.place < fuel →
-    records_from fuel (input_for task) before at ≡ records_of (input_for task) → Adds task before (read_record (input_for task) before at) true new next_scene → more ≡ min (units + 1) 0xffff_ffff_ffff_ffff →
+end_on : (task : Task) (new : Parts) (next_scene : Scene) (units more fuel : ℕ) (before : List Record) (at : Coder) → TicksExactly (length before) 0 units → room task.chunk.payload at.place < fuel →
+    records_from fuel (input_for task) before at ≡ records_of (input_for task) → Adds task before (read_record (input_for task) before at) true new next_scene → more ≡ ticked_once units →
     DrawsAll task answer.Finished more new next_scene
 end_on task new next_scene units more zero before at count enough goes adds next = absurd (omega arith)
 end_on task new next_scene units more (suc fuel) before at count enough goes adds next =
     ends_with task answer.Finished (adds.entry ∷ before) adds.next.decisions more new next_scene
     (sym goes ∙ from_record fuel (input_for task) before at adds.next adds.entry adds.got
     ∙ ap (λ (b : Bool). after_end b (adds.entry ∷ before) adds.next (λ records at. records_from fuel (input_for task) records at)) adds.last)
-    (λ same. cc) (count_more units more (length before) count next) adds.stands.count adds.shows
+    (λ same. cc) (ticks_next (length before) 0 units more count next) adds.stands.count adds.shows
 
 pub end_all : (task : Task) (parts new : Parts) (scene next_scene : Scene) (units more : ℕ) (all : GoesAll task parts scene units) →
-    Adds task all.before (read_record (input_for task) all.before all.at) true new next_scene → more ≡ min (units + 1) 0xffff_ffff_ffff_ffff → DrawsAll task answer.Finished more new next_scene
+    Adds task all.before (read_record (input_for task) all.before all.at) true new next_scene → more ≡ ticked_once units → DrawsAll task answer.Finished more new next_scene
 end_all task parts new scene next_scene units more all adds next = end_on task new next_scene units more all.fuel all.before all.at all.count all.enough all.goes adds next
 
-stop_on : (task : Task) (new : Parts) (next_scene : Scene) (units fuel : ℕ) (before : List Record) (at : Coder) (why : Why) → units ≡ counted (length before) → room task.chunk.payload at.place < fuel →
+stop_on : (task : Task) (new : Parts) (next_scene : Scene) (units fuel : ℕ) (before : List Record) (at : Coder) (why : Why) → TicksExactly (length before) 0 units → room task.chunk.payload at.place < fuel →
     records_from fuel (input_for task) before at ≡ records_of (input_for task) → IsStopped (read_record (input_for task) before at) why new → Shows (drawn task before) next_scene → answer_of why ≢ answer.OutOfMemory →
     DrawsAll task (answer_of why) units new next_scene
 stop_on task new next_scene units zero before at why count enough goes stopped shows some = absurd (omega arith)

@@ -1,11 +1,13 @@
 -- What is drawn by the records that were read, and how a scene stands to it.
 use Rattle.std.specs.Prelude.{◌≡◌, ◌≢◌, ℕ, ◌+◌, ◌*◌, ◌≤◌, ℤ, Bool, true, false, not, ◌&&◌, ◌||◌, List, [], ◌∷◌, ◌++◌, length, All, Option, Some, None, Result, Ok, Err, nat_lt, if◌then◌else◌}
+use Rattle.djvu_base.specs.Meter.{TicksExactly}
 use Rattle.zp_table.specs.Rows.{IsTable}
-use Rattle.bit_plane.specs.Pixels.{Pixels}
+use Rattle.bit_plane.specs.Pixels.{Pixels, area_limit, side_limit}
 use Rattle.djvu_base.specs.declared.faults.FaultKind.{FaultKind}
 use Rattle.djvu_base.specs.declared.faults.FaultKind.TheVariants as fault
 use Rattle.jb2_numbers.specs.Number.{Chunk}
-use Rattle.jb2_shapes.specs.Refined.{unsigned}
+use Rattle.bit_plane.specs.Ink.{unsigned}
+use Rattle.jb2_records.specs.Limits.{shape_limit, placed_limit, placed_pixel_limit}
 use Rattle.jb2_places.specs.Place.{Placement}
 use Rattle.jb2_places.specs.After.{Lead, IsAfter}
 use Rattle.jb2_records.specs.declared.stops.Stop.{Stop}
@@ -17,9 +19,9 @@ use Rattle.jb2_records.specs.declared.reader.Jb2Step.TheVariants as step
 use Rattle.jb2_records.specs.declared.frames.Steps.{Steps}
 use Rattle.jb2_records.specs.Records.{Record, Relative, NewRow, SameRow, Extent, Mark, PlacedShape, is_end, is_started, image_size, own_count, own_pixels, area, taken, own_library, placements, placement_of, placed_shapes, placed_mark, placed_plain, pixels_of_placed, whole_mark}
 use Rattle.jb2_records.specs.Coding.{Coder, Read, Got, chunk_start, then_read}
-use Rattle.jb2_records.specs.Reading.{Input, Mask, is_number, is_side, shape_limit, placed_limit, placed_pixel_limit, read_match, matched_in, read_refinement, records_of}
+use Rattle.jb2_records.specs.Reading.{Input, Mask, is_number, is_side, read_match, matched_in, read_refinement, records_of}
 use Rattle.jb2_records.specs.Mask.{mask_of, mask_drawn}
-use Rattle.jb2_records.specs.Reader.{IsMaskSize, counted}
+use Rattle.jb2_records.specs.Reader.{IsMaskSize}
 use Rattle.jb2_records.specs.Sides.{IsShape}
 use Rattle.jb2_records.specs.Telling.{Parts, Stands, Halts}
 
@@ -118,11 +120,11 @@ pub record ArePlaced (count : ℕ) (places : Lead) : Type 0 where
 -- what a scene keeps to
 pub record IsScene (scene : Scene) : Type 0 where
   pub sides : All IsShape scene.library
-  pub shapes : scene.taken + scene.count ≤ 65536
+  pub shapes : scene.taken + scene.count ≤ shape_limit
   pub library_size : length scene.library ≤ scene.taken + scene.count
-  pub own_area : scene.pixels ≤ 67108864
-  pub marks : scene.placed ≤ 262144
-  pub mark_area : scene.placed_pixels ≤ 1073741824
+  pub own_area : scene.pixels ≤ area_limit
+  pub marks : scene.placed ≤ placed_limit
+  pub mark_area : scene.placed_pixels ≤ placed_pixel_limit
   pub size : IsMaskSize scene.mask.width scene.mask.height
   pub unstarted : scene.started ≡ false → scene.count ≡ 0
   pub rows : ArePlaced scene.placed scene.places
@@ -148,22 +150,22 @@ pub record Shows (drawn : Drawn) (scene : Scene) : Type 0 where
 pub record IsAddable (shape : Pixels) (scene : Scene) : Type 0 where
   pub sides : IsShape shape
   pub started : scene.started ≡ true
-  pub room : scene.taken + scene.count + 1 ≤ 65536
-  pub area_room : scene.pixels + area shape ≤ 67108864
+  pub room : scene.taken + scene.count + 1 ≤ shape_limit
+  pub area_room : scene.pixels + area shape ≤ area_limit
 
 -- the same of a size
 pub record HasRoomFor (width height : ℕ) (scene : Scene) : Type 0 where
-  pub width_fits : width ≤ 65535
-  pub height_fits : height ≤ 65535
+  pub width_fits : width ≤ side_limit
+  pub height_fits : height ≤ side_limit
   pub started : scene.started ≡ true
-  pub room : scene.taken + scene.count + 1 ≤ 65536
-  pub area_room : scene.pixels + width * height ≤ 67108864
+  pub room : scene.taken + scene.count + 1 ≤ shape_limit
+  pub area_room : scene.pixels + width * height ≤ area_limit
 
 -- and for one more to be placed
 pub record IsPlaceable (shape : Pixels) (scene : Scene) : Type 0 where
   pub sides : IsShape shape
-  pub room : scene.placed + 1 ≤ 262144
-  pub area_room : scene.placed_pixels + area shape ≤ 1073741824
+  pub room : scene.placed + 1 ≤ placed_limit
+  pub area_room : scene.placed_pixels + area shape ≤ placed_pixel_limit
 
 -- what is wrong with a count of inherited shapes, where there are so many
 abbrev pub fault_of_count : ℕ → ℤ → Option FaultKind
@@ -174,7 +176,7 @@ abbrev pub fault_of_shape : ℕ → ℕ → ℤ → ℤ → Option FaultKind
 fault_of_shape shapes pixels width height =
     if not (is_side width && is_side height) then Some fault.Jb2ShapeSize
     else if nat_lt shape_limit (shapes + 1) then Some fault.Jb2Limit
-    else if nat_lt 67108864 (pixels + unsigned width * unsigned height) then Some fault.Jb2Limit
+    else if nat_lt area_limit (pixels + unsigned width * unsigned height) then Some fault.Jb2Limit
     else None
 
 -- what is wrong with a placed shape of so many pixels behind so many shapes and pixels
@@ -235,8 +237,8 @@ pub record MakesMark (with_shape : Drawn → Pixels → Drawn) (shape : Pixels) 
 pub record DrawsAll (task : Task) (answer : Jb2Step) (units : ℕ) (parts : Parts) (scene : Scene) : Type 0 where
   pub same : answer ≡ (records_of (input_for task)).answer
   pub some : answer ≢ step.OutOfMemory
-  pub entries : units ≡ counted (length (records_of (input_for task)).records)
-  pub decisions : parts.count ≡ counted (records_of (input_for task)).decisions
+  pub entries : TicksExactly (length (records_of (input_for task)).records) 0 units
+  pub decisions : TicksExactly (records_of (input_for task)).decisions 0 parts.count
   pub picture : scene.mask ≡ mask_drawn task.width task.height (input_for task)
 
 -- no record was read

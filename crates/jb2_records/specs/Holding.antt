@@ -1,12 +1,13 @@
 -- What a reader of a mask keeps to, and what decoding its bytes comes to.
 use Rattle.std.specs.Prelude.{◌≡◌, ◌≢◌, ℕ, Option, Some, None, length}
+use Rattle.djvu_base.specs.Meter.{TicksExactly}
 use Rattle.zp_table.specs.Rows.{IsTable}
 use Rattle.bit_plane.specs.Pixels.{Pixels}
 use Rattle.jb2_records.specs.declared.reader.Jb2Step.{Jb2Step}
 use Rattle.jb2_records.specs.declared.reader.Jb2Step.TheVariants as answer
 use Rattle.jb2_records.specs.Reading.{records_of}
 use Rattle.jb2_records.specs.Mask.{mask_drawn}
-use Rattle.jb2_records.specs.Reader.{Masking, IsMaskSize, Fed, input_of, counted, standing}
+use Rattle.jb2_records.specs.Reader.{Masking, IsMaskSize, Fed, input_of, standing}
 
 -- an answer that stands isn't that bytes are needed
 abbrev pub IsFinal : Option Jb2Step → Type 0
@@ -24,8 +25,8 @@ pub record IsHeld (reader : Masking) : Type 0 where
 pub record IsDecoded (reader : Masking) (told : Jb2Step) (records made : ℕ) (picture : Pixels) : Type 0 where
   pub same : told ≡ (records_of (input_of reader reader.kept.bytes)).answer
   pub some : told ≢ answer.OutOfMemory
-  pub entries : records ≡ counted (length (records_of (input_of reader reader.kept.bytes)).records)
-  pub decided : made ≡ counted (records_of (input_of reader reader.kept.bytes)).decisions
+  pub entries : TicksExactly (length (records_of (input_of reader reader.kept.bytes)).records) 0 records
+  pub decided : TicksExactly (records_of (input_of reader reader.kept.bytes)).decisions 0 made
   pub drawn : picture ≡ mask_drawn reader.width reader.height (input_of reader reader.kept.bytes)
 
 -- the reader that keeps this

@@ -1,9 +1,10 @@
 -- How a reader of a mask stands to the bytes that it was fed.
-use Rattle.std.specs.Prelude.{◌≡◌, ℕ, ◌*◌, ◌≤◌, min, Bool, List, [], length, Option, Some, None}
+use Rattle.std.specs.Prelude.{◌≡◌, ℕ, ◌*◌, ◌≤◌, Bool, List, [], length, Option, Some, None}
 use Rattle.std.specs.Arc.{arc_value}
 use Rattle.std.specs.declared.sync.Arc.{Arc}
+use Rattle.djvu_base.specs.Meter.{ticked, TicksExactly}
 use Rattle.zp_table.specs.declared.rows.Row.{Row}
-use Rattle.bit_plane.specs.Pixels.{Pixels}
+use Rattle.bit_plane.specs.Pixels.{Pixels, area_limit, side_limit}
 use Rattle.jb2_numbers.specs.Number.{chunk}
 use Rattle.jb2_records.specs.declared.reader.Jb2Step.{Jb2Step}
 use Rattle.jb2_records.specs.declared.reader.Jb2Step.TheVariants as answer
@@ -36,25 +37,21 @@ input_of reader payload = record {
   purpose = Mask reader.width reader.height;
 }
 
--- a count of 64 bits stands still at its end
-abbrev pub counted : ℕ → ℕ
-counted count = min count 0xffff_ffff_ffff_ffff
-
 -- an answer that stands is the definition's, with its records, decisions and mask
 abbrev pub Settles : Input → ℕ → ℕ → Option Jb2Step → ℕ → ℕ → Pixels → Type 0
 Settles input width height None units decisions mask = Unit {0}
 Settles input width height (Some step) units decisions mask =
     (step ≡ (records_of input).answer)
-    × (units ≡ counted (length (records_of input).records))
-    × (decisions ≡ counted (records_of input).decisions)
+    × TicksExactly (length (records_of input).records) 0 units
+    × TicksExactly (records_of input).decisions 0 decisions
     × (step ≡ answer.Finished → mask ≡ mask_drawn width height input)
 
 -- the reader was fed this payload
 unfoldable pub Fed : List ℕ → Masking → Type 0
 Fed payload reader =
     (reader.kept.bytes ≡ payload)
-    × (reader.units ≤ counted (length (records_of (input_of reader payload)).records))
-    × (reader.decisions ≤ counted (records_of (input_of reader payload)).decisions)
+    × (reader.units ≤ ticked (length (records_of (input_of reader payload)).records) 0)
+    × (reader.decisions ≤ ticked (records_of (input_of reader payload)).decisions 0)
     × Settles (input_of reader payload) reader.width reader.height reader.answered reader.units reader.decisions reader.kept.mask
 
 -- an answer that is given from then on
@@ -72,7 +69,7 @@ inherited_of (Some dictionary) = arc_value dictionary
 -- a size that a mask may have
 pub record IsMaskSize (width height : ℕ) : Type 0 where
   pub some_columns : 1 ≤ width
-  pub most_columns : width ≤ 65535
+  pub most_columns : width ≤ side_limit
   pub some_rows : 1 ≤ height
-  pub most_rows : height ≤ 65535
-  pub area : width * height ≤ 67_108_864
+  pub most_rows : height ≤ side_limit
+  pub area : width * height ≤ area_limit

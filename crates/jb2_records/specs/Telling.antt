@@ -1,5 +1,6 @@
 -- How a coder stands to the definitions, and what it answers.
 use Rattle.std.specs.Prelude.{◌≡◌, ℕ, ◌<◌, List, length, Option, Some, Result, Ok, Err}
+use Rattle.djvu_base.specs.Meter.{TicksExactly}
 use Rattle.zp_decoder.specs.Decoder.{Decoder, Fed}
 use Rattle.djvu_base.specs.declared.faults.FaultKind.{FaultKind}
 use Rattle.jb2_numbers.specs.Contexts as numbers
@@ -12,7 +13,6 @@ use Rattle.jb2_records.specs.declared.stops.Stop.{Stop}
 use Rattle.jb2_records.specs.declared.stops.Stop.TheVariants as stop
 use Rattle.jb2_records.specs.Records.{Record, Comment}
 use Rattle.jb2_records.specs.Coding.{Coder, Why, Need, Wrong, Read, Got, Stops}
-use Rattle.jb2_records.specs.Reader.{counted}
 
 -- the parts of a coder: a decoder, the contexts, and the count of decisions
 pub record Parts : Type 0 where
@@ -39,7 +39,7 @@ pub record Stands (source : Chunk) (at : Coder) (parts : Parts) : Type 0 where
   pub fed : Fed source.payload at.place parts.zp
   pub table : parts.zp.table ≡ source.table
   pub ended : parts.zp.ended ≡ source.ended
-  pub count : parts.count ≡ counted at.decisions
+  pub count : TicksExactly at.decisions 0 parts.count
 
 -- this was read, and the parts stand behind it
 pub record Comes {A : Type 0} (source : Chunk) (told : Read A) (value : A) (parts : Parts) : Type 0 where
@@ -51,7 +51,7 @@ pub record Comes {A : Type 0} (source : Chunk) (told : Read A) (value : A) (part
 pub record IsStopped {A : Type 0} (told : Read A) (why : Why) (parts : Parts) : Type 0 where
   pub decisions : ℕ
   pub stops : told ≡ Stops why decisions
-  pub count : parts.count ≡ counted decisions
+  pub count : TicksExactly decisions 0 parts.count
 
 -- where there was no memory, nothing is said
 abbrev pub Halts : {A : Type 0} → Read A → Stop → Parts → Type 0

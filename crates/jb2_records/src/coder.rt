@@ -2,7 +2,7 @@
 //! name that it has here, and `specs/Telling.antt` how a coder and its answers stand to that.
 ghost use Rattle.std.specs.Prelude.{◌≡◌, ◌*◌, ◌≤◌, ◌≤ℤ◌, IfOk};
 ghost use Rattle.std.specs.Arc.{arc_value};
-ghost use Rattle.bit_plane.specs.Pixels.{area_limit};
+ghost use Rattle.bit_plane.specs.Pixels.{area_limit, side_limit};
 ghost use Rattle.jb2_numbers.specs.Contexts.{at_start};
 ghost use Rattle.jb2_numbers.specs.Number.{Chunk, chunk};
 ghost use Rattle.jb2_numbers.specs.Reader.{AreBounds};
@@ -120,8 +120,8 @@ impl Coder {
 
     /// A shape of its own.
     pub(crate) fn read_direct(&mut self, width: u32, height: u32) -> Result<Arc<Plane>, Stop>
-        requires width { width ≤ 65535 }
-        requires height { height ≤ 65535 }
+        requires width { width ≤ side_limit }
+        requires height { height ≤ side_limit }
         requires area { width * height ≤ area_limit }
         ensures told { (source : Chunk) (at : Place) → Stands source at self.old →
             Told arc_value source (read_direct source width height at) result self.new }
@@ -143,8 +143,8 @@ impl Coder {
         width: u32,
         height: u32,
     ) -> Result<Arc<Plane>, Stop>
-        requires width { width ≤ 65535 }
-        requires height { height ≤ 65535 }
+        requires width { width ≤ side_limit }
+        requires height { height ≤ side_limit }
         requires area { width * height ≤ area_limit }
         ensures told { (source : Chunk) (at : Place) → Stands source at self.old →
             Told arc_value source (read_refined source (arc_value matched) width height at) result self.new }

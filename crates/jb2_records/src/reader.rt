@@ -1,13 +1,13 @@
 //! The reader of a mask.
 ghost use Rattle.std.specs.Prelude.{◌≡◌, ◌≢◌, ℕ, ◌-◌, ◌*◌, ◌≤◌, List, [], ◌++◌, length, true, false, Option, Some, None, IfOk, OnOk, OnErr};
 ghost use Rattle.std.specs.Arc.{arc_value};
-ghost use Rattle.bit_plane.specs.Pixels.{Pixels};
-ghost use Rattle.jb2_numbers.specs.Number.{ticked};
+ghost use Rattle.bit_plane.specs.Pixels.{Pixels, area_limit, side_limit};
+ghost use Rattle.djvu_base.specs.Meter.{ticked, TicksExactly};
 ghost use Rattle.jb2_records.specs.Reading.{records_of};
 ghost use Rattle.jb2_records.specs.Mask.{mask_drawn};
 ghost use Rattle.zp_table.specs.Rows.{IsTable};
 ghost use Rattle.jb2_records.specs.Holding.{IsDecoded, with_decoded};
-ghost use Rattle.jb2_records.specs.Reader.{Fed, input_of, counted, standing, inherited_of};
+ghost use Rattle.jb2_records.specs.Reader.{Fed, input_of, standing, inherited_of};
 
 use crate::coder::Coder;
 use crate::dictionary::Dictionary;
@@ -89,10 +89,10 @@ impl MaskReader {
         height: u32,
     ) -> Result<MaskReader, AllocError>
         requires some_columns { 1 ≤ width }
-        requires most_columns { width ≤ 65535 }
+        requires most_columns { width ≤ side_limit }
         requires some_rows { 1 ≤ height }
-        requires most_rows { height ≤ 65535 }
-        requires area { width * height ≤ 67_108_864 }
+        requires most_rows { height ≤ side_limit }
+        requires area { width * height ≤ area_limit }
         ensures fed { IfOk result (λ reader. Fed [] reader) }
         ensures table { IfOk result (λ reader. reader.table ≡ arc_value table) }
         ensures inherited { IfOk result (λ reader. reader.inherited ≡ inherited_of inherited) }
@@ -157,19 +157,19 @@ impl MaskReader {
         ensures answer { (payload : List ℕ) → Fed payload self.old → result ≢ Jb2Step.OutOfMemory →
             result ≡ (records_of (input_of self.old payload)).answer }
         ensures units { (payload : List ℕ) → Fed payload self.old → result ≢ Jb2Step.OutOfMemory →
-            self.new.units ≡ counted (length (records_of (input_of self.old payload)).records) }
+            TicksExactly (length (records_of (input_of self.old payload)).records) 0 self.new.units }
         ensures decisions { (payload : List ℕ) → Fed payload self.old → result ≢ Jb2Step.OutOfMemory →
-            self.new.decisions ≡ counted (records_of (input_of self.old payload)).decisions }
+            TicksExactly (records_of (input_of self.old payload)).decisions 0 self.new.decisions }
         // Whatever is answered, counts are at most the definition's.
         ensures at_most { (payload : List ℕ) → Fed payload self.old →
-            (self.new.units ≤ counted (length (records_of (input_of self.old payload)).records)) × (self.new.decisions ≤ counted (records_of (input_of self.old payload)).decisions) }
+            (self.new.units ≤ ticked (length (records_of (input_of self.old payload)).records) 0) × (self.new.decisions ≤ ticked (records_of (input_of self.old payload)).decisions 0) }
         ensures fed { (payload : List ℕ) → Fed payload self.old → Fed payload self.new }
 
         // What stands, and the meter.
         ensures answered { self.new.answered ≡ standing result self.old.answered }
         ensures stays { (step : Jb2Step) → self.old.answered ≡ Some step → (result ≡ step) × (self.new ≡ self.old) }
         ensures out_of_memory { result ≡ Jb2Step.OutOfMemory → (self.new ≡ self.old) × (meter.new ≡ meter.old) }
-        ensures ticks { M.count meter.new ≡ ticked (self.new.decisions - self.old.decisions) (M.count meter.old) }
+        ensures ticks { TicksExactly (self.new.decisions - self.old.decisions) (M.count meter.old) (M.count meter.new) }
         ensures more_units { self.old.units ≤ self.new.units }
         ensures more_decisions { self.old.decisions ≤ self.new.decisions }
 
@@ -289,7 +289,7 @@ fn share(inherited: &Option<Arc<Dictionary>>) -> Result<Option<Arc<Dictionary>>,
 
 /// Ticks a meter so many times.
 fn tick<M: Meter>(meter: &mut M, count: u64)
-    ensures { M.count meter.new ≡ ticked count (M.count meter.old) }
+    ensures { TicksExactly count (M.count meter.old) (M.count meter.new) }
 {
     'ticks: for _ in 0..count {
         meter.tick();

@@ -1,7 +1,7 @@
 //! The shapes that records bring, and those that they match (`specs/Reading.antt`).
 ghost use Rattle.std.specs.Prelude.{◌≡◌, ◌<◌, ◌≤◌, ◌≤ℤ◌, ◌+◌, ◌+ℤ◌, ◌-ℤ◌, ℤ, List, pos, length, true, None, IfOk, IfErr, OnOk};
 ghost use Rattle.std.specs.Arc.{arc_value};
-ghost use Rattle.jb2_shapes.specs.Refined.{extent, unsigned};
+ghost use Rattle.bit_plane.specs.Ink.{extent, unsigned};
 ghost use Rattle.jb2_records.specs.Records.{Record};
 ghost use Rattle.jb2_records.specs.Coding.{Coder as Place};
 ghost use Rattle.jb2_records.specs.Reading.{read_own, read_match, refined_side, read_refinement};
@@ -60,29 +60,11 @@ pub(crate) fn read_match(coder: &mut Coder, scene: &Scene) -> Result<u32, Stop>
     Ok(unsigned(i64::from(number)))
 }
 
-/// A side of a refined shape, where the ink of the matched one reaches from low to high.
-fn refined_side(low: i32, high: i32, difference: i32) -> i64
-    requires low { pos 0 ≤ℤ low }
-    requires high { low ≤ℤ (high +ℤ pos 1) }
-    ensures { result ≡ refined_side low high difference }
+/// A side of a refined shape, by the extent of the matched one's ink.
+fn refined_side(extent: u32, difference: i32) -> i64
+    ensures { result ≡ pos extent +ℤ difference }
 {
-    i64::from(extent(low, high)) + i64::from(difference)
-}
-
-/// How far ink reaches from low to high.
-fn extent(low: i32, high: i32) -> u32
-    requires low { pos 0 ≤ℤ low }
-    requires high { low ≤ℤ (high +ℤ pos 1) }
-    ensures { result ≡ extent low high }
-{
-    reach(low, high) as u32
-}
-
-/// How many columns or rows there are from low to high.
-fn reach(low: i32, high: i32) -> i64
-    ensures { result ≡ high -ℤ low +ℤ pos 1 }
-{
-    i64::from(high) - i64::from(low) + 1
+    i64::from(extent) + i64::from(difference)
 }
 
 /// A shape that refines a matched one.
@@ -99,8 +81,8 @@ pub(crate) fn read_refinement(
     let ink = matched.ink_box();
     let wider = coder.read_number(Root::WidthDifference, LEAST, MOST)?;
     let higher = coder.read_number(Root::HeightDifference, LEAST, MOST)?;
-    let width = refined_side(ink.left, ink.right, wider);
-    let height = refined_side(ink.bottom, ink.top, higher);
+    let width = refined_side(ink.width(), wider);
+    let height = refined_side(ink.height(), higher);
     let (width, height) = checked_size(scene, width, height)?;
     coder.read_refined(matched, width, height)
 }

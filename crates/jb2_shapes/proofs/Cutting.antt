@@ -8,8 +8,7 @@ use Rattle.zp_decoder.specs.declared.decoder.Decision.{Decision}
 use Rattle.zp_decoder.specs.declared.decoder.Decision.TheVariants as decision
 use Rattle.zp_decoder.specs.Decision.{Interval, Form, Outcome, Adaptive, interval_at, is_determined, outcome_of}
 use Rattle.zp_decoder.specs.Decoder.{IsStanding}
-use Rattle.zp_decoder.proofs.Growing.{grown}
-use Rattle.zp_decoder.proofs.Within.{standing, state_below}
+use Rattle.zp_decoder.proofs.Lemmas.{grown, standing, state_below}
 use Rattle.jb2_shapes.specs.Contexts.{States, AreBelow, same_colours, state_or, with_state}
 use Rattle.jb2_shapes.specs.Shape.{Progress, Reading, IsUnread, left_of, progress, with_pixel, after_decision, read_pixels, reading_of}
 use Rattle.jb2_shapes.proofs.Going.{Context, next_colours, after_bit, left_after}

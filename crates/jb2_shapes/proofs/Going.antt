@@ -1,5 +1,5 @@
 -- A loop over pixels does what the definition does.
-use Rattle.std.proofs.Common.{◌≡◌, ℕ, zero, suc, ◌+◌, ◌-◌, ◌<◌, ◌≤◌, Bool, true, false, List, length, Option, ℤ, pos, refl, ap, sym, subst, ◌∙◌, arith, inl, inr, eqb, eq-eqb}
+use Rattle.std.proofs.Common.{◌≡◌, ℕ, suc, ◌+◌, ◌-◌, ◌<◌, ◌≤◌, Bool, true, false, List, length, Option, ℤ, pos, refl, ap, sym, subst, ◌∙◌, arith, inl, inr, eqb, eq-eqb}
 use Rattle.std.proofs.lemmas.Bool.{cases_lt}
 use Rattle.djvu_base.specs.Meter.{ticked, ticked_once}
 use Rattle.djvu_base.proofs.Ticks.{ticked_none, ticks_next}

@@ -7,7 +7,7 @@ use Rattle.zp_decoder.specs.declared.decoder.Decision.TheVariants as decision
 use Rattle.zp_decoder.specs.Decision.{Outcome, Adaptive, outcome_of}
 use Rattle.zp_decoder.specs.Decoder.{IsStanding}
 use Rattle.zp_decoder.specs.Runs.{room}
-use Rattle.zp_decoder.proofs.Within.{standing, state_below, fewer}
+use Rattle.zp_decoder.proofs.Lemmas.{standing, state_below, fewer}
 use Rattle.bit_plane.specs.Pixels.{Pixels}
 use Rattle.jb2_shapes.specs.Contexts.{AreBelow, with_state}
 use Rattle.jb2_shapes.specs.Shape.{Sketch, Progress, Reading, left_of, progress, with_pixel, after_decision, read_pixels, reading_of}

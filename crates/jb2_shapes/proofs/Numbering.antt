@@ -4,7 +4,8 @@ use Rattle.std.proofs.Math.Path.{fun_ext}
 use Rattle.std.proofs.lemmas.Bool.{cases_Bool, cases_lt}
 use Rattle.std.proofs.lemmas.List.{get_or-set_same, get_or-set_other, get_or-replicate, get_or_past, length-replicate}
 use Rattle.jb2_shapes.specs.Contexts.{States, AreBelow, fresh, same_colours, state_or, with_state}
-use Rattle.jb2_shapes.specs.Numbers.{Cells, digit, number_from, number_of, states_of}
+use Rattle.bit_plane.specs.Bits.{digit_of}
+use Rattle.jb2_shapes.specs.Numbers.{Cells, number_from, number_of, states_of}
 
 -- equal lists of colours are the same
 pub same-true : (colours others : List Bool) → same_colours colours others ≡ true → colours ≡ others
@@ -27,7 +28,7 @@ grows [] number = omega arith
 grows (true ∷ colours) number = let later = grows colours (2 * number + 1) in omega arith
 grows (false ∷ colours) number = let later = grows colours (2 * number + 0) in omega arith
 
-digit-step : (x y : Bool) (m n : ℕ) → 2 * m + digit x ≡ 2 * n + digit y → (m ≡ n) × (x ≡ y)
+digit-step : (x y : Bool) (m n : ℕ) → 2 * m + digit_of x ≡ 2 * n + digit_of y → (m ≡ n) × (x ≡ y)
 digit-step true true m n e = (omega arith, refl)
 digit-step true false m n e = absurd (omega arith)
 digit-step false true m n e = absurd (omega arith)
@@ -39,7 +40,7 @@ same_length [] [] m n p e = (e, refl)
 same_length [] (y ∷ b) m n p e = absurd (omega arith)
 same_length (x ∷ a) [] m n p e = absurd (omega arith)
 same_length (x ∷ a) (y ∷ b) m n p e =
-    let rest = same_length a b (2 * m + digit x) (2 * n + digit y) (omega arith) e in
+    let rest = same_length a b (2 * m + digit_of x) (2 * n + digit_of y) (omega arith) e in
     let first = digit-step x y m n rest.0 in
     (first.0, let at : x ≡ y = first.1 in let later : a ≡ b = rest.1 in cc)
 
@@ -47,8 +48,8 @@ longer : (a b : List Bool) (m n : ℕ) → m < 2 * n → length a < length b →
 longer a [] m n p q e = omega arith
 longer a (y ∷ b) m n p q e =
     elim (cases_lt (length a) (length b)) [
-      | inl less ↦ longer a b m (2 * n + digit y) (omega arith) less e
-      | inr more ↦ let first = (same_length a b m (2 * n + digit y) (omega arith) e).0 in omega arith
+      | inl less ↦ longer a b m (2 * n + digit_of y) (omega arith) less e
+      | inr more ↦ let first = (same_length a b m (2 * n + digit_of y) (omega arith) e).0 in omega arith
     ]
 
 pub number-injective : (a b : List Bool) → number_of a ≡ number_of b → a ≡ b

@@ -5,15 +5,11 @@ use Rattle.std.proofs.lemmas.Bool.{cases_Bool, cases_lt, and_parts, eqb-true, eq
 use Rattle.std.proofs.lemmas.Nat.{div_below, mod_below, div-add-mod', div-mul-add, mod-mul-add}
 use Rattle.std.proofs.Math.Nat.{mul_comm}
 use Rattle.bit_plane.specs.Pixels.{Pixels, is_black, is_black_at, is_place, with_black}
-use Rattle.bit_plane.proofs.PixelLaws.{set_is_black}
-use Rattle.bit_plane.proofs.PixelLemmas.{wide}
+use Rattle.bit_plane.proofs.Lemmas.{set_is_black, wide}
 use Rattle.jb2_shapes.specs.Shape.{Sketch, IsUnread, column_of, row_of, with_pixel}
 use Rattle.jb2_shapes.specs.Rows.{ComesYet, IsNext, StandsAt, column_behind, row_behind}
 
 -- ---- the colour of one place, written in two ways
-
-pub same_place : (shape : Pixels) (a b c d : ℤ) → a ≡ c → b ≡ d → is_black shape a b ≡ is_black shape c d
-same_place shape a b c d p q = ap (λ a. is_black shape a b) p ∙ ap (λ b. is_black shape c b) q
 
 -- ---- a pixel that is read leaves the others
 

@@ -3,12 +3,14 @@ use Rattle.std.proofs.Common.{◌≡◌, ℕ, ◌+◌, ◌-◌, ◌*◌, ◌/◌
 use Rattle.std.proofs.lemmas.Int.{ints}
 use Rattle.bit_plane.specs.Bits.{digit as bit_at}
 use Rattle.bit_plane.specs.Pixels.{Pixels, is_black}
-use Rattle.bit_plane.proofs.PixelLemmas.{wide}
+use Rattle.bit_plane.proofs.Lemmas.{wide}
 use Rattle.jb2_shapes.specs.Shape.{Sketch, IsUnread, column_of, row_of, with_pixel}
-use Rattle.jb2_shapes.specs.Numbers.{digit, number_from, number_of, number_limit, IsNumber}
+use Rattle.bit_plane.specs.Bits.{digit_of}
+use Rattle.jb2_shapes.specs.Numbers.{number_from, number_of, number_limit, IsNumber}
 use Rattle.jb2_shapes.specs.declared.windows.RefinedWindow.{RefinedWindow}
 use Rattle.jb2_shapes.specs.Refined.{Matching, matching_context, new_colours, matched_colours}
-use Rattle.jb2_shapes.specs.Rows.{IsRun, IsDigit, IsFirstThree}
+use Rattle.bit_plane.specs.Rows.{IsRun}
+use Rattle.jb2_shapes.specs.Rows.{IsDigit, IsFirstThree}
 use Rattle.jb2_shapes.specs.Windows.{IsRefinedWindow}
 use Rattle.jb2_shapes.proofs.Placing.{still, next_in_row}
 use Rattle.jb2_shapes.proofs.Running.{run_at, run_on, run_still}
@@ -18,7 +20,7 @@ use Rattle.jb2_shapes.proofs.Windowing.{digit-le, three_right, three_same}
 
 pub three_on : (shape : Pixels) (left x y : ℤ) (old new : ℕ) (colour : Bool) → left +ℤ pos 1 ≡ x →
     old ≡ number_from 0 (is_black shape (left -ℤ pos 1) y ∷ is_black shape left y ∷ is_black shape (left +ℤ pos 1) y ∷ []) →
-    new ≡ 2 * (old % 4) + digit colour → colour ≡ is_black shape (x +ℤ pos 1) y →
+    new ≡ 2 * (old % 4) + digit_of colour → colour ≡ is_black shape (x +ℤ pos 1) y →
     new ≡ number_from 0 (is_black shape (x -ℤ pos 1) y ∷ is_black shape x y ∷ is_black shape (x +ℤ pos 1) y ∷ [])
 three_on shape left x y old new colour e p q r =
     let back : left ≡ x -ℤ pos 1 = omega (arith, ints) in
@@ -27,11 +29,11 @@ three_on shape left x y old new colour e p q r =
 
 refined_right : (matching : Matching) (shape : Pixels) (x y : ℤ) (window new : RefinedWindow) (above beside under : Bool) →
     IsRefinedWindow matching shape (x -ℤ pos 1) y window →
-    new.above ≡ 2 * (window.above % 4) + digit above → above ≡ is_black shape (x +ℤ pos 1) (y +ℤ pos 1) →
+    new.above ≡ 2 * (window.above % 4) + digit_of above → above ≡ is_black shape (x +ℤ pos 1) (y +ℤ pos 1) →
     new.left ≡ is_black shape (x -ℤ pos 1) y →
     new.over ≡ is_black matching.matched (x +ℤ matching.right) (y +ℤ matching.up +ℤ pos 1) →
-    new.beside ≡ 2 * (window.beside % 4) + digit beside → beside ≡ is_black matching.matched (x +ℤ matching.right +ℤ pos 1) (y +ℤ matching.up) →
-    new.under ≡ 2 * (window.under % 4) + digit under → under ≡ is_black matching.matched (x +ℤ matching.right +ℤ pos 1) (y +ℤ matching.up -ℤ pos 1) →
+    new.beside ≡ 2 * (window.beside % 4) + digit_of beside → beside ≡ is_black matching.matched (x +ℤ matching.right +ℤ pos 1) (y +ℤ matching.up) →
+    new.under ≡ 2 * (window.under % 4) + digit_of under → under ≡ is_black matching.matched (x +ℤ matching.right +ℤ pos 1) (y +ℤ matching.up -ℤ pos 1) →
     new.above_ahead ≡ window.above_ahead / 2 ^ 1 → new.over_ahead ≡ window.over_ahead / 2 ^ 1 →
     new.beside_ahead ≡ window.beside_ahead / 2 ^ 1 → new.under_ahead ≡ window.under_ahead / 2 ^ 1 → new.more + 1 ≤ window.more →
     IsRefinedWindow matching shape x y new
@@ -60,8 +62,8 @@ refined_right matching shape x y window new above beside under at p a l o q b r 
 -- of which the new colours were at hand
 pub refined_next : (matching : Matching) (shape : Pixels) (x y : ℤ) (window new : RefinedWindow) (above over beside under black : Bool) →
     IsRefinedWindow matching shape (x -ℤ pos 1) y window → is_black shape (x -ℤ pos 1) y ≡ black → 0 < window.more →
-    new.above ≡ 2 * (window.above % 4) + digit above → new.left ≡ black → new.over ≡ over → new.beside ≡ 2 * (window.beside % 4) + digit beside →
-    new.under ≡ 2 * (window.under % 4) + digit under →
+    new.above ≡ 2 * (window.above % 4) + digit_of above → new.left ≡ black → new.over ≡ over → new.beside ≡ 2 * (window.beside % 4) + digit_of beside →
+    new.under ≡ 2 * (window.under % 4) + digit_of under →
     IsDigit window.above_ahead 0 above → IsDigit window.over_ahead 0 over → IsDigit window.beside_ahead 0 beside → IsDigit window.under_ahead 0 under →
     new.above_ahead ≡ window.above_ahead / 2 ^ 1 → new.over_ahead ≡ window.over_ahead / 2 ^ 1 →
     new.beside_ahead ≡ window.beside_ahead / 2 ^ 1 → new.under_ahead ≡ window.under_ahead / 2 ^ 1 → new.more + 1 ≡ window.more →
@@ -90,7 +92,7 @@ refined_next matching shape x y window new above over beside under black at colo
 three_from : (shape : Pixels) (x y : ℤ) (word number : ℕ) → IsRun shape (x -ℤ pos 1) y 64 word → IsFirstThree word number →
     number ≡ number_from 0 (is_black shape (x -ℤ pos 1) y ∷ is_black shape x y ∷ is_black shape (x +ℤ pos 1) y ∷ [])
 three_from shape x y word number run three =
-    let of : (a : ℤ) (i : ℕ) → i < 64 → x -ℤ pos 1 +ℤ pos i ≡ a → bit_at word i ≡ digit (is_black shape a y) =
+    let of : (a : ℤ) (i : ℕ) → i < 64 → x -ℤ pos 1 +ℤ pos i ≡ a → bit_at word i ≡ digit_of (is_black shape a y) =
     λ a i p e. run_at shape (x -ℤ pos 1) y a y 64 word i run p e refl in
     three _ _ _ (of (x -ℤ pos 1) 0 (omega arith) (omega (arith, ints))) (of x 1 (omega arith) (omega (arith, ints))) (of (x +ℤ pos 1) 2 (omega arith) (omega (arith, ints)))
 
@@ -121,12 +123,12 @@ refined_around matching shape x y above own over beside under window a w o b u t
 -- ---- the number of a refined context
 
 pub refined_number : (matching : Matching) (shape : Pixels) (x y : ℤ) (window : RefinedWindow) (number : ℕ) → IsRefinedWindow matching shape x y window →
-    number ≡ 2048 + 256 * window.above + 128 * digit window.left + 64 * digit window.over + 8 * window.beside + window.under →
+    number ≡ 2048 + 256 * window.above + 128 * digit_of window.left + 64 * digit_of window.over + 8 * window.beside + window.under →
     number_of (matching_context matching shape x y) ≡ number
 refined_number matching shape x y window number at e =
     let a = at.above in
-    let l = ap digit at.left in
-    let o = ap digit at.over in
+    let l = ap digit_of at.left in
+    let o = ap digit_of at.over in
     let b = at.beside in
     let u = at.under in
     omega arith
@@ -144,7 +146,7 @@ refined_below matched shape x y a b =
     (is_black matched (a -ℤ pos 1) (b -ℤ pos 1)) (is_black matched a (b -ℤ pos 1)) (is_black matched (a +ℤ pos 1) (b -ℤ pos 1))
 
 pub refined_is_number : (matching : Matching) (shape : Pixels) (x y : ℤ) (window : RefinedWindow) (number : ℕ) → IsRefinedWindow matching shape x y window →
-    number ≡ 2048 + 256 * window.above + 128 * digit window.left + 64 * digit window.over + 8 * window.beside + window.under → IsNumber number
+    number ≡ 2048 + 256 * window.above + 128 * digit_of window.left + 64 * digit_of window.over + 8 * window.beside + window.under → IsNumber number
 unfolding number_limit
 refined_is_number matching shape x y window number at e =
     let is = refined_number matching shape x y window number at e in

@@ -3,49 +3,51 @@ use Rattle.std.proofs.Common.{◌≡◌, ℕ, ◌+◌, ◌-◌, ◌*◌, ◌/◌
 use Rattle.std.proofs.lemmas.Int.{ints}
 use Rattle.bit_plane.specs.Bits.{digit as bit_at}
 use Rattle.bit_plane.specs.Pixels.{Pixels, is_black}
-use Rattle.bit_plane.proofs.PixelLemmas.{wide}
+use Rattle.bit_plane.proofs.Lemmas.{same_place, wide}
 use Rattle.jb2_shapes.specs.Shape.{Sketch, IsUnread, column_of, row_of, with_pixel, direct_context}
-use Rattle.jb2_shapes.specs.Numbers.{digit, number_from, number_of, number_limit, IsNumber}
+use Rattle.bit_plane.specs.Bits.{digit_of}
+use Rattle.jb2_shapes.specs.Numbers.{number_from, number_of, number_limit, IsNumber}
 use Rattle.jb2_shapes.specs.declared.windows.DirectWindow.{DirectWindow}
-use Rattle.jb2_shapes.specs.Rows.{IsRun, IsDigit, IsFirstTwo, IsFirstThree, IsFirstFive}
+use Rattle.bit_plane.specs.Rows.{IsRun}
+use Rattle.jb2_shapes.specs.Rows.{IsDigit, IsFirstTwo, IsFirstThree, IsFirstFive}
 use Rattle.jb2_shapes.specs.Windows.{IsDirectWindow}
-use Rattle.jb2_shapes.proofs.Placing.{same_place, still, next_in_row}
+use Rattle.jb2_shapes.proofs.Placing.{still, next_in_row}
 use Rattle.jb2_shapes.proofs.Running.{run_at, run_on, run_still}
 
-pub digit-le : (colour : Bool) → digit colour ≤ 1
+pub digit-le : (colour : Bool) → digit_of colour ≤ 1
 digit-le true = omega arith
 digit-le false = omega arith
 
 -- ---- one digit more
 
-pub with_digit : (number before other : ℕ) (colour same : Bool) → number ≡ 2 * before + digit colour → before ≡ other → colour ≡ same →
-    number ≡ 2 * other + digit same
-with_digit number before other colour same e p q = e ∙ ap (λ n. 2 * n + digit colour) p ∙ ap (λ c. 2 * other + digit c) q
+pub with_digit : (number before other : ℕ) (colour same : Bool) → number ≡ 2 * before + digit_of colour → before ≡ other → colour ≡ same →
+    number ≡ 2 * other + digit_of same
+with_digit number before other colour same e p q = e ∙ ap (λ n. 2 * n + digit_of colour) p ∙ ap (λ c. 2 * other + digit_of c) q
 
 -- ---- numbers of two, three and five digits move on
 
-two_right : (p q s : Bool) (old new : ℕ) → old ≡ number_from 0 (p ∷ q ∷ []) → new ≡ 2 * (old % 2) + digit s → new ≡ number_from 0 (q ∷ s ∷ [])
+two_right : (p q s : Bool) (old new : ℕ) → old ≡ number_from 0 (p ∷ q ∷ []) → new ≡ 2 * (old % 2) + digit_of s → new ≡ number_from 0 (q ∷ s ∷ [])
 two_right p q s old new e f =
     let c = digit-le q in
-    let d : old % 2 ≡ digit q = omega arith in
+    let d : old % 2 ≡ digit_of q = omega arith in
     omega arith
 
-pub three_right : (p q r s : Bool) (old new : ℕ) → old ≡ number_from 0 (p ∷ q ∷ r ∷ []) → new ≡ 2 * (old % 4) + digit s →
+pub three_right : (p q r s : Bool) (old new : ℕ) → old ≡ number_from 0 (p ∷ q ∷ r ∷ []) → new ≡ 2 * (old % 4) + digit_of s →
     new ≡ number_from 0 (q ∷ r ∷ s ∷ [])
 three_right p q r s old new e f =
     let c = digit-le q in
     let d = digit-le r in
-    let m : old % 4 ≡ 2 * digit q + digit r = omega arith in
+    let m : old % 4 ≡ 2 * digit_of q + digit_of r = omega arith in
     omega arith
 
-five_right : (p q r s t u : Bool) (old new : ℕ) → old ≡ number_from 0 (p ∷ q ∷ r ∷ s ∷ t ∷ []) → new ≡ 2 * (old % 16) + digit u →
+five_right : (p q r s t u : Bool) (old new : ℕ) → old ≡ number_from 0 (p ∷ q ∷ r ∷ s ∷ t ∷ []) → new ≡ 2 * (old % 16) + digit_of u →
     new ≡ number_from 0 (q ∷ r ∷ s ∷ t ∷ u ∷ [])
 five_right p q r s t u old new e f =
     let a = digit-le q in
     let b = digit-le r in
     let c = digit-le s in
     let d = digit-le t in
-    let m : old % 16 ≡ 8 * digit q + 4 * digit r + 2 * digit s + digit t = omega arith in
+    let m : old % 16 ≡ 8 * digit_of q + 4 * digit_of r + 2 * digit_of s + digit_of t = omega arith in
     omega arith
 
 two_same : {p q s t : Bool} → p ≡ s → q ≡ t → number_from 0 (p ∷ q ∷ []) ≡ number_from 0 (s ∷ t ∷ [])
@@ -62,7 +64,7 @@ five_same e f g h i = cc
 
 window_right : (shape : Pixels) (x y : ℤ) (window new : DirectWindow) (far near own : Bool) →
     IsDirectWindow shape (x -ℤ pos 1) y window →
-    new.far ≡ 2 * (window.far % 4) + digit far → new.near ≡ 2 * (window.near % 16) + digit near → new.own ≡ 2 * (window.own % 2) + digit own →
+    new.far ≡ 2 * (window.far % 4) + digit_of far → new.near ≡ 2 * (window.near % 16) + digit_of near → new.own ≡ 2 * (window.own % 2) + digit_of own →
     far ≡ is_black shape (x +ℤ pos 1) (y +ℤ pos 2) → near ≡ is_black shape (x +ℤ pos 2) (y +ℤ pos 1) → own ≡ is_black shape (x -ℤ pos 1) y →
     new.far_ahead ≡ window.far_ahead / 2 ^ 1 → new.near_ahead ≡ window.near_ahead / 2 ^ 1 → new.more + 1 ≤ window.more →
     IsDirectWindow shape x y new
@@ -91,7 +93,7 @@ window_right shape x y window new far near own at p q r f n o g m less =
 -- of which the new colours were at hand
 pub window_next : (shape : Pixels) (x y : ℤ) (window new : DirectWindow) (far near black : Bool) →
     IsDirectWindow shape (x -ℤ pos 1) y window → is_black shape (x -ℤ pos 1) y ≡ black → 0 < window.more →
-    new.far ≡ 2 * (window.far % 4) + digit far → new.near ≡ 2 * (window.near % 16) + digit near → new.own ≡ 2 * (window.own % 2) + digit black →
+    new.far ≡ 2 * (window.far % 4) + digit_of far → new.near ≡ 2 * (window.near % 16) + digit_of near → new.own ≡ 2 * (window.own % 2) + digit_of black →
     IsDigit window.far_ahead 0 far → IsDigit window.near_ahead 0 near →
     new.far_ahead ≡ window.far_ahead / 2 ^ 1 → new.near_ahead ≡ window.near_ahead / 2 ^ 1 → new.more + 1 ≡ window.more → IsDirectWindow shape x y new
 window_next shape x y window new far near black at colour some p q r f n g m less =
@@ -111,11 +113,11 @@ pub window_around : (shape : Pixels) (x y : ℤ) (far near own : ℕ) (window : 
 window_around shape x y far near own window f n o three five two g m rest =
     let up = y +ℤ pos 1 in
     let two_up = y +ℤ pos 2 in
-    let of_far : (a : ℤ) (i : ℕ) → i < 64 → x -ℤ pos 1 +ℤ pos i ≡ a → bit_at far i ≡ digit (is_black shape a two_up) =
+    let of_far : (a : ℤ) (i : ℕ) → i < 64 → x -ℤ pos 1 +ℤ pos i ≡ a → bit_at far i ≡ digit_of (is_black shape a two_up) =
     λ a i p e. run_at shape (x -ℤ pos 1) two_up a two_up 64 far i f p e refl in
-    let of_near : (a : ℤ) (i : ℕ) → i < 64 → x -ℤ pos 2 +ℤ pos i ≡ a → bit_at near i ≡ digit (is_black shape a up) =
+    let of_near : (a : ℤ) (i : ℕ) → i < 64 → x -ℤ pos 2 +ℤ pos i ≡ a → bit_at near i ≡ digit_of (is_black shape a up) =
     λ a i p e. run_at shape (x -ℤ pos 2) up a up 64 near i n p e refl in
-    let of_own : (a : ℤ) (i : ℕ) → i < 64 → x -ℤ pos 2 +ℤ pos i ≡ a → bit_at own i ≡ digit (is_black shape a y) =
+    let of_own : (a : ℤ) (i : ℕ) → i < 64 → x -ℤ pos 2 +ℤ pos i ≡ a → bit_at own i ≡ digit_of (is_black shape a y) =
     λ a i p e. run_at shape (x -ℤ pos 2) y a y 64 own i o p e refl in
     record {
       far = three _ _ _ (of_far (x -ℤ pos 1) 0 (omega arith) (omega (arith, ints))) (of_far x 1 (omega arith) (omega (arith, ints)))

@@ -1,15 +1,12 @@
 -- Numbers of contexts: their colours as digits, behind a one.
-use Rattle.std.specs.Prelude.{◌≡◌, ℕ, ◌+◌, ◌*◌, ◌<◌, Bool, true, false, List, [], ◌∷◌, slice_index}
+use Rattle.std.specs.Prelude.{◌≡◌, ℕ, ◌+◌, ◌*◌, ◌<◌, Bool, List, [], ◌∷◌, slice_index}
+use Rattle.bit_plane.specs.Bits.{digit_of}
 use Rattle.jb2_shapes.specs.Contexts.{States}
-
-abbrev pub digit : Bool → ℕ
-digit true = 1
-digit false = 0
 
 -- a number with these colours as further binary digits, of which black is 1
 abbrev pub number_from : ℕ → List Bool → ℕ
 number_from number [] = number
-number_from number (colour ∷ colours) = number_from (2 * number + digit colour) colours
+number_from number (colour ∷ colours) = number_from (2 * number + digit_of colour) colours
 
 abbrev pub number_of : List Bool → ℕ
 number_of colours = number_from 1 colours

@@ -3,27 +3,18 @@ use Rattle.std.specs.Prelude.{ℕ, ◌/◌, Bool, List, [], ◌∷◌, ◌++◌,
 use Rattle.zp_table.specs.declared.rows.Row.{Row}
 use Rattle.bit_plane.specs.Pixels.{Pixels, is_black}
 use Rattle.bit_plane.specs.declared.ink.InkBox.{InkBox}
-use Rattle.bit_plane.specs.Ink.{ink_box_of}
+use Rattle.bit_plane.specs.Ink.{ink_box_of, extent}
 use Rattle.jb2_shapes.specs.Shape.{Sketch, Progress, Reading, reading_of}
 
--- a number that isn't negative
-abbrev pub unsigned : ℤ → ℕ
-unsigned (pos n) = n
-unsigned (negsuc n) = 0
-
--- how far an ink box reaches, from its least to its greatest column or row
-abbrev pub extent : ℤ → ℤ → ℕ
-extent low high = unsigned (high -ℤ low +ℤ pos 1)
-
--- from a place of a shape of this size to the matched place, for an ink box that reaches from low to high
-abbrev pub shift : ℕ → ℤ → ℤ → ℤ
-shift size low high = (pos (size / 2) -ℤ pos size +ℤ pos 1) -ℤ (pos (extent low high / 2) -ℤ high)
+-- from a place of a shape of this size to the matched place, for ink of this extent that ends at high
+abbrev pub shift : ℕ → ℕ → ℤ → ℤ
+shift size extent high = (pos (size / 2) -ℤ pos size +ℤ pos 1) -ℤ (pos (extent / 2) -ℤ high)
 
 abbrev pub column_shift : Pixels → InkBox → ℤ
-column_shift shape box = shift shape.width box.left box.right
+column_shift shape box = shift shape.width (extent box.left box.right) box.right
 
 abbrev pub row_shift : Pixels → InkBox → ℤ
-row_shift shape box = shift shape.height box.bottom box.top
+row_shift shape box = shift shape.height (extent box.bottom box.top) box.top
 
 -- the colours of four pixels near (x, y) that were read before it
 abbrev pub new_colours : Pixels → ℤ → ℤ → List Bool

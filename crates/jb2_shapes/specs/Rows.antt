@@ -1,30 +1,26 @@
--- Pixels at hand: those of a row from a place on, as the digits of a word; and where the reading of a shape stands.
-use Rattle.std.specs.Prelude.{◌≡◌, ℕ, ◌+◌, ◌-◌, ◌<◌, ◌≤◌, ◌⊎◌, nat_lt, Bool, false, [], ◌∷◌, ℤ, pos, ◌+ℤ◌, if◌then◌else◌}
+-- Pixels at hand, as the digits of a word, and where the reading of a shape stands.
+use Rattle.std.specs.Prelude.{◌≡◌, ℕ, ◌+◌, ◌-◌, ◌<◌, ◌≤◌, ◌⊎◌, nat_lt, Bool, false, [], ◌∷◌, if◌then◌else◌}
 use Rattle.bit_plane.specs.Bits.{digit as bit_at}
-use Rattle.bit_plane.specs.Pixels.{Pixels, is_black, is_black_at}
-use Rattle.jb2_shapes.specs.Numbers.{digit, number_from}
+use Rattle.bit_plane.specs.Pixels.{is_black_at}
+use Rattle.bit_plane.specs.Bits.{digit_of}
+use Rattle.jb2_shapes.specs.Numbers.{number_from}
 use Rattle.jb2_shapes.specs.Shape.{Sketch, IsUnread, column_of, row_of}
-
--- so many pixels of a row, from (x, y) on to the right, are the lowest digits of a word: the leftmost is the lowest, and a
--- black one is 1
-abbrev pub IsRun : Pixels → ℤ → ℤ → ℕ → ℕ → Type 0
-IsRun shape x y count word = (i : ℕ) → i < count → bit_at word i ≡ digit (is_black shape (x +ℤ pos i) y)
 
 -- the first two, three or five digits of a word as a binary number, of which the first one is the highest
 abbrev pub IsFirstTwo : ℕ → ℕ → Type 0
-IsFirstTwo word number = (p q : Bool) → bit_at word 0 ≡ digit p → bit_at word 1 ≡ digit q → number ≡ number_from 0 (p ∷ q ∷ [])
+IsFirstTwo word number = (p q : Bool) → bit_at word 0 ≡ digit_of p → bit_at word 1 ≡ digit_of q → number ≡ number_from 0 (p ∷ q ∷ [])
 
 abbrev pub IsFirstThree : ℕ → ℕ → Type 0
-IsFirstThree word number = (p q r : Bool) → bit_at word 0 ≡ digit p → bit_at word 1 ≡ digit q → bit_at word 2 ≡ digit r → number ≡ number_from 0 (p ∷ q ∷ r ∷ [])
+IsFirstThree word number = (p q r : Bool) → bit_at word 0 ≡ digit_of p → bit_at word 1 ≡ digit_of q → bit_at word 2 ≡ digit_of r → number ≡ number_from 0 (p ∷ q ∷ r ∷ [])
 
 abbrev pub IsFirstFive : ℕ → ℕ → Type 0
 IsFirstFive word number =
-    (p q r s t : Bool) → bit_at word 0 ≡ digit p → bit_at word 1 ≡ digit q → bit_at word 2 ≡ digit r → bit_at word 3 ≡ digit s → bit_at word 4 ≡ digit t →
+    (p q r s t : Bool) → bit_at word 0 ≡ digit_of p → bit_at word 1 ≡ digit_of q → bit_at word 2 ≡ digit_of r → bit_at word 3 ≡ digit_of s → bit_at word 4 ≡ digit_of t →
     number ≡ number_from 0 (p ∷ q ∷ r ∷ s ∷ t ∷ [])
 
 -- whether a digit of a word is 1
 abbrev pub IsDigit : ℕ → ℕ → Bool → Type 0
-IsDigit word at is = (colour : Bool) → bit_at word at ≡ digit colour → is ≡ colour
+IsDigit word at is = (colour : Bool) → bit_at word at ≡ digit_of colour → is ≡ colour
 
 -- (x, y) comes in its turn: it lies at or right of a place in its row, or in a row below it
 abbrev pub ComesYet : ℕ → ℕ → ℕ → ℕ → Type 0

@@ -5,7 +5,7 @@ use Rattle.jb2_shapes.specs.declared.windows.DirectWindow.{DirectWindow}
 use Rattle.jb2_shapes.specs.declared.windows.RefinedWindow.{RefinedWindow}
 use Rattle.jb2_shapes.specs.Refined.{Matching}
 use Rattle.jb2_shapes.specs.Numbers.{number_from}
-use Rattle.jb2_shapes.specs.Rows.{IsRun}
+use Rattle.bit_plane.specs.Rows.{IsRun}
 
 -- the window of (x, y) in a direct shape
 pub record IsDirectWindow (shape : Pixels) (x y : ℤ) (window : DirectWindow) : Type 0 where

@@ -2,9 +2,9 @@
 ghost use Rattle.std.specs.Prelude.{◌≡◌, ◌*◌, ◌<◌, ◌≤◌, ◌==◌, ◌+ℤ◌, IfOk, pos};
 ghost use Rattle.bit_plane.specs.Pixels.{is_black, area_limit};
 ghost use Rattle.jb2_shapes.specs.Shape.{empty_sketch, column_of, row_of, with_pixel, IsUnread};
-ghost use Rattle.jb2_shapes.specs.Rows.{IsRun, column_behind, row_behind};
+ghost use Rattle.bit_plane.specs.Rows.{IsRun};
+ghost use Rattle.jb2_shapes.specs.Rows.{column_behind, row_behind};
 
-use crate::rows::pixels_from;
 use bit_plane::Plane;
 use std::alloc::{AllocError, Global};
 use std::marker::Model;
@@ -76,7 +76,8 @@ impl Canvas {
         requires { IsUnread self.now }
         ensures { IsRun self.now.shape (pos (column_of self.now) +ℤ right) (pos (row_of self.now) +ℤ up) 64 result }
     {
-        pixels_from(&self.shape, moved(self.column, right), moved(self.row, up))
+        self.shape
+            .row_from(moved(self.column, right), moved(self.row, up))
     }
 
     /// Reads the next pixel.

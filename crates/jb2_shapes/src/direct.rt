@@ -1,6 +1,6 @@
 //! Direct shapes.
 ghost use Rattle.std.specs.Prelude.{◌≡◌, ℕ, ◌-◌, ◌*◌, ◌≤◌, length, List, Option, IfOk};
-ghost use Rattle.bit_plane.specs.Pixels.{area_limit};
+ghost use Rattle.bit_plane.specs.Pixels.{area_limit, side_limit};
 ghost use Rattle.djvu_base.specs.Meter.{TicksExactly};
 ghost use Rattle.zp_decoder.specs.Decision.{Interval};
 ghost use Rattle.zp_decoder.specs.Decoder.{Fed, room_left};
@@ -39,8 +39,8 @@ impl Model for DirectReader {
 impl DirectReader {
     /// A reader of a shape of this size in pixels, of which nothing was read.
     pub fn begin(alloc: Global, width: u32, height: u32) -> Result<DirectReader, AllocError>
-        requires width { width ≤ 65535 }
-        requires height { height ≤ 65535 }
+        requires width { width ≤ side_limit }
+        requires height { height ≤ side_limit }
         requires area { width * height ≤ area_limit }
         ensures { IfOk result (λ reader. reader ≡ empty_sketch width height) }
     {

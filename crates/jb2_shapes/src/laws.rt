@@ -7,7 +7,7 @@ ghost use Rattle.zp_decoder.specs.Decision.{interval};
 ghost use Rattle.zp_decoder.specs.Decoder.{IsStanding};
 ghost use Rattle.zp_decoder.specs.Runs.{room};
 ghost use Rattle.bit_plane.specs.Pixels.{Pixels, blank};
-ghost use Rattle.bit_plane.specs.Ink.{ink_box_of};
+ghost use Rattle.bit_plane.specs.Ink.{ink_box_of, extent};
 ghost use Rattle.jb2_shapes.specs.Contexts.{States, AreBelow, fresh, with_state};
 ghost use Rattle.jb2_shapes.specs.Numbers.{number_of};
 ghost use Rattle.jb2_shapes.specs.Shape.{Progress, reading_of, direct_context, direct_reading, progress, stands, empty_sketch};
@@ -54,10 +54,10 @@ pub fn readings_leave_room()
 /// program.
 pub fn worked_shapes()
     // Ink from 2 to 6 in a size of 4, and from 1 to 4 in a size of 3; and the other way round. Without ink.
-    ensures wide { shift 4 (pos 2) (pos 6) ≡ pos 3 }
-    ensures low { shift 3 (pos 1) (pos 4) ≡ pos 1 }
-    ensures high { shift 2 (pos 2) (pos 6) ≡ pos 4 }
-    ensures narrow { shift 5 (pos 0) (pos 2) ≡ negsuc 0 }
+    ensures wide { shift 4 (extent (pos 2) (pos 6)) (pos 6) ≡ pos 3 }
+    ensures low { shift 3 (extent (pos 1) (pos 4)) (pos 4) ≡ pos 1 }
+    ensures high { shift 2 (extent (pos 2) (pos 6)) (pos 6) ≡ pos 4 }
+    ensures narrow { shift 5 (extent (pos 0) (pos 2)) (pos 2) ≡ negsuc 0 }
     ensures no_ink { column_shift (blank 4 3) (ink_box_of (blank 7 7)) ≡ negsuc 1 }
 
     // With the table of one row each bit 0 of the input is a black pixel: 010 for the row above, and 110 for the one below.

@@ -13,21 +13,15 @@
 mod canvas;
 mod contexts;
 mod direct;
-mod laws;
+pub mod laws;
 mod matching;
 mod pixels;
 mod refined;
 mod rows;
 mod steps;
-#[cfg(test)]
-mod tests;
 mod windows;
 
 pub use contexts::ShapeContexts;
 pub use direct::DirectReader;
-pub use laws::{
-    contexts_are_named, cuts_change_nothing, readings_leave_room, readings_stay_within,
-    worked_shapes,
-};
 pub use refined::RefineReader;
 pub use steps::ShapeStep;

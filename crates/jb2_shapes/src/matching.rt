@@ -3,11 +3,11 @@ ghost use Rattle.std.specs.Prelude.{◌≡◌, ◌/◌, ◌+ℤ◌, ◌-ℤ◌, 
 ghost use Rattle.std.specs.Arc.{arc_value};
 ghost use Rattle.bit_plane.specs.Ink.{ink_box_of};
 ghost use Rattle.jb2_shapes.specs.Shape.{IsUnread, column_of, row_of};
-ghost use Rattle.jb2_shapes.specs.Refined.{IsShift, extent, shift};
-ghost use Rattle.jb2_shapes.specs.Rows.{IsRun};
+ghost use Rattle.bit_plane.specs.Ink.{extent};
+ghost use Rattle.jb2_shapes.specs.Refined.{IsShift, shift};
+ghost use Rattle.bit_plane.specs.Rows.{IsRun};
 
 use crate::canvas::Canvas;
-use crate::rows::pixels_from;
 use bit_plane::Plane;
 use std::marker::Model;
 use std::sync::Arc;
@@ -35,14 +35,14 @@ impl Matching {
     /// The matched shape, whose ink lies in the middle of a shape of this size.
     pub(crate) fn new(matched: Arc<Plane>, width: u32, height: u32) -> Matching
         ensures matched { result.matched ≡ arc_value matched }
-        ensures right { result.right ≡ shift width (ink_box_of (arc_value matched)).left (ink_box_of (arc_value matched)).right }
-        ensures up { result.up ≡ shift height (ink_box_of (arc_value matched)).bottom (ink_box_of (arc_value matched)).top }
+        ensures right { result.right ≡ shift width (extent (ink_box_of (arc_value matched)).left (ink_box_of (arc_value matched)).right) (ink_box_of (arc_value matched)).right }
+        ensures up { result.up ≡ shift height (extent (ink_box_of (arc_value matched)).bottom (ink_box_of (arc_value matched)).top) (ink_box_of (arc_value matched)).top }
     {
         let ink = matched.ink_box();
         Matching {
             shape: matched,
-            right: shift(width, ink.left, ink.right),
-            up: shift(height, ink.bottom, ink.top),
+            right: shift(width, ink.width(), ink.right),
+            up: shift(height, ink.height(), ink.top),
         }
     }
 
@@ -54,7 +54,7 @@ impl Matching {
     {
         let x = sum(canvas.column(), self.right, right);
         let y = sum(canvas.row(), self.up, up);
-        pixels_from(&self.shape, x, y)
+        self.shape.row_from(x, y)
     }
 }
 
@@ -64,22 +64,6 @@ fn sum(at: u32, far: i64, by: i8) -> i64
     ensures { result ≡ pos at +ℤ far +ℤ by }
 {
     i64::from(at) + far + i64::from(by)
-}
-
-/// How far ink reaches from low to high.
-fn extent(low: i32, high: i32) -> u32
-    requires low { pos 0 ≤ℤ low }
-    requires high { low ≤ℤ (high +ℤ pos 1) }
-    ensures { result ≡ extent low high }
-{
-    reach(low, high) as u32
-}
-
-/// How many columns or rows there are from low to high.
-fn reach(low: i32, high: i32) -> i64
-    ensures { result ≡ high -ℤ low +ℤ pos 1 }
-{
-    i64::from(high) - i64::from(low) + 1
 }
 
 /// How far the middle of a size is from its end.
@@ -96,12 +80,10 @@ fn ink_middle(extent: u32, high: i32) -> i64
     i64::from(extent / 2) - i64::from(high)
 }
 
-/// How far it is from a place of a shape of this size to the matched place, for ink that reaches from low to high.
-fn shift(size: u32, low: i32, high: i32) -> i64
-    requires low { pos 0 ≤ℤ low }
-    requires high { low ≤ℤ (high +ℤ pos 1) }
-    ensures is { result ≡ shift size low high }
+/// How far it is from a place of a shape of this size to the matched place, for ink of this extent that ends at high.
+fn shift(size: u32, extent: u32, high: i32) -> i64
+    ensures is { result ≡ shift size extent high }
     ensures bound { IsShift result }
 {
-    middle(size) - ink_middle(extent(low, high), high)
+    middle(size) - ink_middle(extent, high)
 }

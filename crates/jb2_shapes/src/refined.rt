@@ -1,7 +1,7 @@
 //! Refined shapes.
 ghost use Rattle.std.specs.Prelude.{◌≡◌, ℕ, ◌-◌, ◌*◌, ◌≤◌, length, List, Option, IfOk};
 ghost use Rattle.std.specs.Arc.{arc_value};
-ghost use Rattle.bit_plane.specs.Pixels.{area_limit};
+ghost use Rattle.bit_plane.specs.Pixels.{area_limit, side_limit};
 ghost use Rattle.djvu_base.specs.Meter.{TicksExactly};
 ghost use Rattle.zp_decoder.specs.Decision.{Interval};
 ghost use Rattle.zp_decoder.specs.Decoder.{Fed, room_left};
@@ -54,8 +54,8 @@ impl RefineReader {
         height: u32,
         matched: Arc<Plane>,
     ) -> Result<RefineReader, AllocError>
-        requires width { width ≤ 65535 }
-        requires height { height ≤ 65535 }
+        requires width { width ≤ side_limit }
+        requires height { height ≤ side_limit }
         requires area { width * height ≤ area_limit }
         ensures { IfOk result (λ reader. reader ≡ record { matched = arc_value matched; sketch = empty_sketch width height }) }
     {

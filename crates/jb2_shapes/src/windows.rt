@@ -2,7 +2,7 @@
 //! the pixel that was decided, and else the next one of those at hand.
 ghost use Rattle.std.specs.Prelude.{◌≡◌, ◌+◌, ◌*◌, ◌<◌, ℤ, pos, ◌-ℤ◌};
 ghost use Rattle.bit_plane.specs.Pixels.{Pixels, is_black};
-ghost use Rattle.jb2_shapes.specs.Numbers.{digit};
+ghost use Rattle.bit_plane.specs.Bits.{digit_of};
 ghost use Rattle.jb2_shapes.specs.Rows.{IsFirstTwo, IsFirstThree, IsFirstFive};
 ghost use Rattle.jb2_shapes.specs.Shape.{IsUnread, column_of, row_of};
 ghost use Rattle.jb2_shapes.specs.Refined.{Matching as Beside};
@@ -15,7 +15,7 @@ use crate::rows::is_set;
 /// A binary number with one more digit, of which black is 1.
 pub(crate) fn joined(number: u16, black: bool) -> u16
     requires { number < 0x4000 }
-    ensures { result ≡ 2 * number + digit black }
+    ensures { result ≡ 2 * number + digit_of black }
 {
     2 * number + u16::from(black)
 }
@@ -191,7 +191,7 @@ impl RefinedWindow {
 
     /// The number of the context that the colours name.
     pub(crate) fn number(self) -> usize
-        ensures { result ≡ 2048 + 256 * self.above + 128 * digit self.left + 64 * digit self.over + 8 * self.beside + self.under }
+        ensures { result ≡ 2048 + 256 * self.above + 128 * digit_of self.left + 64 * digit_of self.over + 8 * self.beside + self.under }
     {
         let new = 2 * usize::from(self.above) + usize::from(self.left);
         let matched = 64 * usize::from(self.over)

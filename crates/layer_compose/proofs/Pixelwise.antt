@@ -4,8 +4,7 @@ use Rattle.std.proofs.lemmas.Bool.{cases_order, cases_lt}
 use Rattle.std.specs.Int.{trailing_zeros}
 use Rattle.std.proofs.lemmas.Nat.{shr-shr}
 use Rattle.bit_plane.specs.Bits.{digit}
-use Rattle.bit_plane.proofs.BitLemmas.{digit-shr, digit_above}
-use Rattle.bit_plane.proofs.InkLemmas.{lowest, digit-zero}
+use Rattle.bit_plane.proofs.Lemmas.{digit-shr, digit_above, lowest, digit-zero}
 use Rattle.layer_compose.specs.Blackening.{Blackens, in_run}
 
 -- a test that takes nothing changes nothing

@@ -4,7 +4,7 @@ use Rattle.std.specs.Int.{div_ceil}
 use Rattle.std.proofs.Math.Nat.{mul_comm, mul_assoc}
 use Rattle.std.proofs.lemmas.Bool.{cases_lt}
 use Rattle.std.proofs.lemmas.Nat.{mul-le, div_below, mod_below, div-add-mod'}
-use Rattle.bit_plane.proofs.PixelLemmas.{wide}
+use Rattle.bit_plane.proofs.Lemmas.{wide}
 use Rattle.layer_compose.specs.Drawing.{step_of}
 
 -- what so many whole steps lead to is within, as long as they are fewer than there are

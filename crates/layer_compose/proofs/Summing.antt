@@ -6,8 +6,7 @@ use Rattle.std.proofs.lemmas.Nat.{div-mul-add, mod-mul-add}
 use Rattle.std.proofs.lemmas.List.{length-replicate, get_or-replicate}
 use Rattle.std.proofs.lemmas.List.FromFn.{fill_by_all}
 use Rattle.bit_plane.specs.Pixels.{Pixels, IsPlane, is_black_at, black_count}
-use Rattle.bit_plane.proofs.Counting.{black_places}
-use Rattle.bit_plane.proofs.Totals.{total, total_same, total_joined, total_front, sum_of_map, sum_of_range}
+use Rattle.bit_plane.proofs.Lemmas.{black_places, total, total_same, total_joined, total_front, sum_of_map, sum_of_range}
 use Rattle.layer_compose.specs.declared.layers.Layers.{Layers}
 use Rattle.layer_compose.specs.Drawing.{MaskFits, in_mask, samples_of, sum_of, white_count}
 use Rattle.layer_compose.proofs.DrawnRows.{sizes_of}

@@ -1,16 +1,23 @@
 -- The drawing of a page: what its places show, its rows, its sum and its preview. Places of a page count from 0 at the
 -- bottom left, those of a drawing from the top left. Channels of a pixel are 0 red, 1 green, 2 blue.
-use Rattle.std.specs.Prelude.{◌≡◌, ℕ, ◌+◌, ◌-◌, ◌*◌, ◌/◌, ◌%◌, max, Bool, false, not, List, map, sum, count_by, Option, Some, None, if◌then◌else◌}
+use Rattle.std.specs.Prelude.{◌≡◌, ℕ, ◌+◌, ◌-◌, ◌*◌, ◌/◌, ◌%◌, ◌≤◌, max, Bool, false, not, List, map, sum, count_by, Option, Some, None, if◌then◌else◌}
 use Rattle.std.specs.Int.{div_ceil}
 use Rattle.std.specs.List.{range_with_len}
 use Rattle.std.specs.Option.{IfSome}
 use Rattle.djvu_base.specs.Picture.{Picture}
-use Rattle.bit_plane.specs.Pixels.{Pixels, is_black_at}
+use Rattle.bit_plane.specs.Pixels.{Pixels, is_black_at, area_limit}
 use Rattle.layer_compose.specs.declared.layers.Layers.{Layers}
 
 -- the mask, where there is one, has the page's size
 abbrev pub MaskFits : Layers → Type 0
 MaskFits layers = IfSome layers.mask (λ mask. (mask.width ≡ layers.width) × (mask.height ≡ layers.height))
+
+-- layers that can be drawn today: an area within the limit, a mask of the page's size, and no colours
+pub record IsDrawable (layers : Layers) : Type 0 where
+  pub area : layers.width * layers.height ≤ area_limit
+  pub mask : MaskFits layers
+  pub front : layers.front ≡ None
+  pub back : layers.back ≡ None
 
 -- whether a mask has the pixel at a place of the page; where there is none, it has none
 abbrev pub in_mask : Option Pixels → ℕ → ℕ → Bool

@@ -16,15 +16,15 @@ pub fn rows_make_the_raster()
     ensures length { (layers : Layers) (from count : ℕ) → length (rows_of layers from count) ≡ 3 * layers.width * count }
 {}
 
-/// Without a mask every sample is white.
+/// Without a mask and without colours every sample is white.
 pub fn white_without_mask()
-    ensures samples { (layers : Layers) → layers.mask ≡ None → samples_of layers ≡ replicate (3 * layers.width * layers.height) 255 }
-    ensures sum { (layers : Layers) → layers.mask ≡ None → sum_of layers ≡ 765 * (layers.width * layers.height) }
+    ensures samples { (layers : Layers) → layers.front ≡ None → layers.back ≡ None → layers.mask ≡ None → samples_of layers ≡ replicate (3 * layers.width * layers.height) 255 }
+    ensures sum { (layers : Layers) → layers.front ≡ None → layers.back ≡ None → layers.mask ≡ None → sum_of layers ≡ 765 * (layers.width * layers.height) }
 {}
 
-/// The sum is 765 for each white pixel of the page.
+/// Without colours the sum is 765 for each white pixel of the page.
 pub fn sums_count_white()
-    ensures { (layers : Layers) → sum_of layers ≡ 765 * white_count layers }
+    ensures { (layers : Layers) → layers.front ≡ None → layers.back ≡ None → sum_of layers ≡ 765 * white_count layers }
 {}
 
 /// A preview's step makes it at most 128 by 128, and no smaller one does.

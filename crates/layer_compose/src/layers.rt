@@ -1,7 +1,6 @@
 //! The layers of a page, and what is drawn of them.
 ghost use Rattle.std.specs.Prelude.{◌≡◌, ℕ, ◌+◌, ◌*◌, ◌<◌, ◌≤◌, length, replicate, IfOk};
-ghost use Rattle.bit_plane.specs.Pixels.{area_limit};
-ghost use Rattle.layer_compose.specs.Drawing.{MaskFits, raster_of, row_of, rows_of, sum_of, step_of, preview_of};
+ghost use Rattle.layer_compose.specs.Drawing.{IsDrawable, raster_of, row_of, rows_of, sum_of, step_of, preview_of};
 
 use crate::masks::{blacken_row, blacken_steps};
 use bit_plane::Plane;
@@ -26,10 +25,7 @@ pub struct Layers {
 impl Layers {
     /// Writes the samples of a row of the drawing, counted from the top: three for each pixel, from the left.
     pub fn row(&self, y: u32, out: &mut [u8])
-        requires area { self.now.width * self.now.height ≤ area_limit }
-        requires mask { MaskFits self.now }
-        requires front { self.now.front ≡ None }
-        requires back { self.now.back ≡ None }
+        requires drawable { IsDrawable self.now }
         requires row { y < self.now.height }
         requires room { length out.old ≡ 3 * self.now.width }
         ensures { out.new ≡ row_of self.now y }
@@ -42,10 +38,7 @@ impl Layers {
 
     /// Writes the samples of so many rows of the drawing, one behind the other, from a row on.
     pub fn rows(&self, from: u32, count: u32, out: &mut [u8])
-        requires area { self.now.width * self.now.height ≤ area_limit }
-        requires mask { MaskFits self.now }
-        requires front { self.now.front ≡ None }
-        requires back { self.now.back ≡ None }
+        requires drawable { IsDrawable self.now }
         requires rows { from + count ≤ self.now.height }
         requires room { length out.old ≡ 3 * self.now.width * count }
         ensures { out.new ≡ rows_of self.now from count }
@@ -59,10 +52,7 @@ impl Layers {
 
     /// The sum of all samples of the drawing, three for each pixel.
     pub fn sum(&self) -> u64
-        requires area { self.now.width * self.now.height ≤ area_limit }
-        requires mask { MaskFits self.now }
-        requires front { self.now.front ≡ None }
-        requires back { self.now.back ≡ None }
+        requires drawable { IsDrawable self.now }
         ensures { result ≡ sum_of self.now }
     {
         let area = u64::from(self.width) * u64::from(self.height);
@@ -75,10 +65,7 @@ impl Layers {
 
     /// The whole drawing.
     pub fn compose(&self, alloc: Global) -> Result<Raster, AllocError>
-        requires area { self.now.width * self.now.height ≤ area_limit }
-        requires mask { MaskFits self.now }
-        requires front { self.now.front ≡ None }
-        requires back { self.now.back ≡ None }
+        requires drawable { IsDrawable self.now }
         ensures { IfOk result (λ raster. raster ≡ raster_of self.now) }
     {
         let mut samples = white(alloc, 3 * self.width as usize * self.height as usize)?;
@@ -89,10 +76,7 @@ impl Layers {
     /// The drawing in small: every so many pixels of it, both ways from the top left, with the least step that leaves at
     /// most 128 by 128.
     pub fn preview(&self, alloc: Global) -> Result<Raster, AllocError>
-        requires area { self.now.width * self.now.height ≤ area_limit }
-        requires mask { MaskFits self.now }
-        requires front { self.now.front ≡ None }
-        requires back { self.now.back ≡ None }
+        requires drawable { IsDrawable self.now }
         ensures { IfOk result (λ raster. raster ≡ preview_of self.now) }
     {
         let step = preview_step(self.width, self.height);

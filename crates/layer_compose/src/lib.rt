@@ -10,14 +10,8 @@
 #![tactic(auto)]
 
 mod blackening;
-mod laws;
+pub mod laws;
 mod layers;
 mod masks;
-#[cfg(test)]
-mod tests;
 
-pub use laws::{
-    previews_fit, rows_make_the_raster, sums_count_white, white_without_mask, worked_drawings,
-    worked_steps,
-};
 pub use layers::Layers;

@@ -8,9 +8,10 @@ use Rattle.zp_table.specs.declared.rows.Row.{Row}
 use Rattle.layer_compose.specs.declared.layers.Layers.{Layers}
 use Rattle.iff_chunks.specs.Chunks.{Form, Chunk, Tail, InHead, InHeader, InData, InPad, FormEnd, Broken, chunks_of}
 use Rattle.iff_chunks.specs.Events.{Event, Begun, Header, Data, ChunkEnd, data_events, chunk_events, tail_events, form_events, events_of}
+use Rattle.iff_chunks.specs.Ends.{file_end}
 use Rattle.page_decoder.specs.declared.places.Head.{Head}
 use Rattle.page_decoder.specs.declared.places.Place.TheVariants as place
-use Rattle.page_decoder.specs.Reading.{Notice, Ending, Fault, Reading, Came, header_fault, kind_fault, came_by, data_came, mask_in, is_drawn, notice_by, stopped, after_chunk, read_chunks, closed, ending_of, at_end, ends, read_tail, read_page, read_form, chunks_place, reading}
+use Rattle.page_decoder.specs.Reading.{Notice, Ending, Fault, Reading, Came, header_fault, kind_fault, came_by, data_came, mask_in, is_drawn, notice_by, stopped, after_chunk, read_chunks, ending_of, at_end, ends, read_tail, read_page, read_form, chunks_place, reading}
 use Rattle.page_decoder.specs.Reading as page
 use Rattle.page_decoder.specs.Progress.{Done, Progress, progress, nothing_done, at_start, begun, head_of, at_header, after_event, after_events, with_chunk, with_decisions, ended_by, behind, concluded}
 
@@ -145,5 +146,5 @@ by_form rows (Some form) origin whole tail end = by_kind (kind_fault form.kind)
     by_kind None = sym (chunks_so rows origin [] nothing_done whole tail end ∙ behind_nothing (read_chunks rows 0 None whole (read_tail rows origin tail end)))
 
 pub reading_by_events : (rows : List Row) (mark : Mark) (bytes : List ℕ)
-    → reading rows mark bytes ≡ concluded rows (chunks_place bytes) (after_events rows at_start (events_of (chunks_of bytes))) (ending_of (closed mark (length bytes) (chunks_of bytes).whole (chunks_of bytes).tail))
-reading_by_events rows mark bytes = by_form rows (chunks_of bytes).form (chunks_place bytes) (chunks_of bytes).whole (chunks_of bytes).tail (ending_of (closed mark (length bytes) (chunks_of bytes).whole (chunks_of bytes).tail))
+    → reading rows mark bytes ≡ concluded rows (chunks_place bytes) (after_events rows at_start (events_of (chunks_of bytes))) (ending_of (file_end mark bytes))
+reading_by_events rows mark bytes = by_form rows (chunks_of bytes).form (chunks_place bytes) (chunks_of bytes).whole (chunks_of bytes).tail (ending_of (file_end mark bytes))

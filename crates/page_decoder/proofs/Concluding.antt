@@ -6,20 +6,21 @@ use Rattle.zp_table.specs.declared.rows.Row.{Row}
 use Rattle.layer_compose.specs.declared.layers.Layers.{Layers}
 use Rattle.iff_chunks.specs.Chunks.{chunks_of}
 use Rattle.iff_chunks.specs.Events.{events_of}
-use Rattle.jb2_numbers.specs.Number.{ticked}
+use Rattle.djvu_base.specs.Meter.{ticked, TicksExactly}
 use Rattle.page_decoder.specs.declared.drawings.Page.{Page}
-use Rattle.page_decoder.specs.declared.ends.FileEnd.{FileEnd}
+use Rattle.djvu_base.specs.declared.ends.FileEnd.{FileEnd}
+use Rattle.djvu_base.specs.Library.{mark_of}
 use Rattle.page_decoder.specs.declared.ends.PageEnd.{PageEnd}
 use Rattle.page_decoder.specs.declared.places.Place.{Place}
 use Rattle.page_decoder.specs.declared.places.Place.TheVariants as place
 use Rattle.page_decoder.specs.declared.reading.PageReading.{PageReading}
 use Rattle.page_decoder.specs.Reading.{Ending, Reading, cut_by, data_came, chunks_place, reading}
-use Rattle.page_decoder.specs.Ends.{mark_of, ending}
+use Rattle.page_decoder.specs.Ends.{ending}
 use Rattle.page_decoder.specs.Found.{IsReading, drawn, last_layers}
 use Rattle.page_decoder.specs.Progress.{Done, progress, at_start, after_events, rest_at, concluded}
 use Rattle.page_decoder.specs.Brought.{IsPage}
 use Rattle.page_decoder.proofs.ByEvents.{reading_by_events}
-use Rattle.page_decoder.proofs.Counting.{ticked_both}
+use Rattle.djvu_base.proofs.Ticks.{ticks_both}
 
 -- behind the whole chunks there is no drawing
 cut_draws_none : (f : Option FaultKind) (offset : ℕ) (end : Ending) (decisions : ℕ) → (cut_by f offset end decisions).notices ≡ []
@@ -53,11 +54,11 @@ concludes rows file at bytes page last done found is notices layers end =
     }
 
 pub concluded_counts : (rows : List Row) (file : List ℕ) (at : Place) (bytes : List ℕ) (page : Page) (last : PageEnd) (done : Done) (start count counted : ℕ) → IsPage done page
-    → count ≡ ticked done.decisions start → counted ≡ ticked (rest_of rows file at bytes page last).decisions count
-    → counted ≡ ticked (concluded rows (chunks_place file) (progress at bytes done) (ending last)).decisions start
+    → TicksExactly done.decisions start count → TicksExactly (rest_of rows file at bytes page last).decisions count counted
+    → TicksExactly (concluded rows (chunks_place file) (progress at bytes done) (ending last)).decisions start counted
 concluded_counts rows file at bytes page last done start count counted is before ticks =
     let rest = rest_at rows (chunks_place file) at bytes done.chunks done.layers (ending last) in
-    ticks ∙ ap (λ (r : Reading). ticked r.decisions count) (sym (same_rest rows file at bytes done page last is)) ∙ ap (ticked rest.decisions) before ∙ ticked_both rest.decisions done.decisions start
+    ticks_both done.decisions rest.decisions start count counted before (ticks ∙ ap (λ (r : Reading). ticked r.decisions count) (sym (same_rest rows file at bytes done page last is)))
 
 -- the events of a file have no more decisions than its reading
 pub events_within : (rows : List Row) (end : FileEnd) (file : List ℕ) → (after_events rows at_start (events_of (chunks_of file))).done.decisions ≤ (reading rows (mark_of end) file).decisions

@@ -1,28 +1,14 @@
--- Ticks of a meter.
-use Rattle.std.proofs.Common.{◌≡◌, ℕ, zero, suc, ◌+◌, ◌-◌, min, refl, sym, ap, ◌∙◌, arith}
-use Rattle.jb2_numbers.specs.Number.{ticked}
-
--- as many ticks as two counts
-pub ticked_both : (a b count : ℕ) → ticked a (ticked b count) ≡ ticked (b + a) count
-ticked_both zero b count = let same : b ≡ b + 0 = omega arith in ap (λ n. ticked n count) same
-ticked_both (suc a) b count = let same : suc (b + a) ≡ b + suc a = omega arith in ap (λ n. min (n + 1) 0xffff_ffff_ffff_ffff) (ticked_both a b count) ∙ ap (λ n. ticked n count) same
-
-ticked_some : (a count : ℕ) → ticked (suc a) count ≡ min (count + a + 1) 0xffff_ffff_ffff_ffff
-ticked_some zero count = omega arith
-ticked_some (suc a) count = let before : ticked (suc a) count ≡ min (count + a + 1) 0xffff_ffff_ffff_ffff = ticked_some a count in omega (arith, before)
+-- Ticks of a meter that a reader of records made.
+use Rattle.std.proofs.Common.{◌≡◌, ℕ, ◌-◌, ap, ◌∙◌, arith}
+use Rattle.std.proofs.lemmas.Grind.{common_steps}
+use Rattle.djvu_base.specs.Meter.{ticked, TicksExactly}
 
 -- a count of 64 bits ticks as often
-pub ticked_counted : (a count : ℕ) → ticked (min a 0xffff_ffff_ffff_ffff) count ≡ ticked a count
-ticked_counted zero count = refl
-ticked_counted (suc a) count =
-    let least : min (suc a) 0xffff_ffff_ffff_ffff ≡ suc (min a 0xffff_ffff_ffff_fffe) = omega arith in
-    let one : ticked (suc (min a 0xffff_ffff_ffff_fffe)) count ≡ min (count + min a 0xffff_ffff_ffff_fffe + 1) 0xffff_ffff_ffff_ffff = ticked_some (min a 0xffff_ffff_ffff_fffe) count in
-    let all : ticked (suc a) count ≡ min (count + a + 1) 0xffff_ffff_ffff_ffff = ticked_some a count in
-    let same : min (count + min a 0xffff_ffff_ffff_fffe + 1) 0xffff_ffff_ffff_ffff ≡ min (count + a + 1) 0xffff_ffff_ffff_ffff = omega arith in
-    ap (λ n. ticked n count) least ∙ one ∙ same ∙ sym all
+ticked_counted : (all count : ℕ) → ticked (ticked all 0) count ≡ ticked all count
+ticked_counted all count = grind (arith, common_steps)
 
 -- what a reader that had read nothing ticks
-pub reader_ticks : (new old all now count : ℕ) → old ≡ 0 → new ≡ min all 0xffff_ffff_ffff_ffff → now ≡ ticked (new - old) count → now ≡ ticked all count
-reader_ticks new old all now count none some ticks =
-    let same : new - old ≡ min all 0xffff_ffff_ffff_ffff = omega arith in
+pub reader_ticks : (new old all count now : ℕ) → old ≡ 0 → TicksExactly all 0 new → TicksExactly (new - old) count now → TicksExactly all count now
+reader_ticks new old all count now none some ticks =
+    let same : new - old ≡ ticked all 0 = omega (arith, none) ∙ some in
     ticks ∙ ap (λ n. ticked n count) same ∙ ticked_counted all count

@@ -2,25 +2,21 @@
 use Rattle.std.proofs.Common.{◌≡◌, ℕ, ◌+◌, ◌≤◌, Bool, true, false, cond, Option, Some, None, List, [], ◌∷◌, length, refl, sym, ap, ◌∙◌, subst, inl, inr, arith}
 use Rattle.std.proofs.lemmas.Bool.{true≢false}
 use Rattle.djvu_base.specs.declared.faults.FaultKind.{FaultKind}
-use Rattle.djvu_base.specs.declared.faults.FaultKind.TheVariants as fault
 use Rattle.zp_table.specs.declared.rows.Row.{Row}
-use Rattle.iff_chunks.specs.declared.walker.WalkStep.{WalkStep}
-use Rattle.iff_chunks.specs.declared.walker.WalkStep.TheVariants as step
-use Rattle.iff_chunks.specs.declared.stages.Stage.{Stage}
-use Rattle.iff_chunks.specs.Chunks.{Tail, chunks_of, chunks_in_all, end_of}
-use Rattle.iff_chunks.specs.Chunks as grammar
-use Rattle.iff_chunks.specs.Events.{Event, Begun, Header, Data, ChunkEnd, events_of, GoesOn, Settles}
-use Rattle.iff_chunks.specs.Told.{Told}
-use Rattle.page_decoder.specs.declared.ends.FileEnd.{FileEnd}
-use Rattle.page_decoder.specs.declared.ends.FileEnd.TheVariants as file_end
-use Rattle.page_decoder.specs.declared.ends.PageEnd.TheVariants as page_end
+use Rattle.iff_chunks.specs.declared.walker.WalkEnd.{WalkEnd}
+use Rattle.iff_chunks.specs.Chunks.{chunks_of}
+use Rattle.iff_chunks.specs.Ends.{file_end, tail_of}
+use Rattle.iff_chunks.specs.Events.{Event, Begun, Header, Data, ChunkEnd, events_of, GoesOn}
+use Rattle.iff_chunks.specs.Told.{Walking}
+use Rattle.djvu_base.specs.declared.ends.FileEnd.{FileEnd}
+use Rattle.djvu_base.specs.Library.{mark_of}
 use Rattle.page_decoder.specs.declared.places.Head.{Head}
 use Rattle.page_decoder.specs.declared.places.Place.{Place}
 use Rattle.page_decoder.specs.declared.places.Place.TheVariants as place
-use Rattle.page_decoder.specs.Reading.{Came, Ending, data_came, closed, broken_off, ending_of, is_cut, chunks_place, reading}
-use Rattle.page_decoder.specs.Ends.{mark_of, ended_so, ending}
+use Rattle.page_decoder.specs.Reading.{Came, Ending, data_came, ending_of, chunks_place, reading}
 use Rattle.page_decoder.specs.Progress.{Done, Progress, progress, at_start, ended_by, after_end, after_event, after_events, concluded, is_refused}
 use Rattle.page_decoder.specs.Walk.{IsWalked}
+use Rattle.iff_chunks.proofs.Lemmas.{Finishes, walk_end}
 use Rattle.page_decoder.proofs.ByEvents.{refused_stays, reading_by_events}
 
 -- with more events a refused page has the same reading
@@ -83,35 +79,15 @@ decisions_grow rows so_far (Data bytes ∷ []) (Begun kind size ∷ events) g = 
 decisions_grow rows so_far (Data bytes ∷ []) (Header id offset size ∷ events) g = let same : Data bytes ≡ Header id offset size = g.0 in absurd (cc)
 decisions_grow rows so_far (Data bytes ∷ []) (ChunkEnd ∷ events) g = let same : Data bytes ≡ ChunkEnd = g.0 in absurd (cc)
 
-by_cut : (cut : Bool) (arrived : ℕ) (kind : FaultKind) (offset : ℕ) → ending_of (cond cut (grammar.Broken fault.Read arrived) (grammar.Broken kind offset)) ≡ ending (cond cut (page_end.Refused fault.Read arrived) (page_end.Refused kind offset))
-by_cut true arrived kind offset = refl
-by_cut false arrived kind offset = refl
-
--- the walker's last answer says where the file ends
-pub ends_same : (end : FileEnd) (arrived : ℕ) (whole : List grammar.Chunk) (tail : Tail) (answer : WalkStep) → Settles answer (end_of whole tail) → ending_of (closed (mark_of end) arrived whole tail) ≡ ending (ended_so answer end arrived)
-ends_same file_end.Whole arrived whole tail step.FormEnd s = ap ending_of s
-ends_same file_end.Whole arrived whole tail (step.Broken kind offset) s = ap ending_of s
-ends_same file_end.Broken arrived whole tail step.FormEnd s = ap (λ t. ending_of (broken_off arrived t)) s
-ends_same file_end.Broken arrived whole tail (step.Broken kind offset) s = ap (λ t. ending_of (broken_off arrived t)) s ∙ by_cut (is_cut kind) arrived kind offset
-ends_same end arrived whole tail (step.Form kind count) s = absurd s
-ends_same end arrived whole tail (step.Header id offset count) s = absurd s
-ends_same end arrived whole tail step.Data s = absurd s
-ends_same end arrived whole tail step.ChunkEnd s = absurd s
-ends_same end arrived whole tail step.NeedBytes s = absurd s
-
 -- the reading of a file is what a walk over it came to
-pub read_so : (rows : List Row) (file : List ℕ) (so_far : Progress) (walker : Stage) (end : FileEnd) (answer : WalkStep) → IsWalked rows file so_far walker
-    → ((taken : List ℕ) (told : List Event) → Told taken told walker → Settles answer (chunks_in_all taken).tail)
-    → reading rows (mark_of end) file ≡ concluded rows (chunks_place file) so_far (ending (ended_so answer end (length file)))
-read_so rows file so_far walker end answer (inl early) settles =
-    let chunks = chunks_of file in
-    let last = ending (ended_so answer end (length file)) in
+pub read_so : (rows : List Row) (file : List ℕ) (so_far : Progress) (walker : Walking) (end : FileEnd) (answer : WalkEnd) → IsWalked rows file so_far walker → Finishes walker end (length file) answer
+    → reading rows (mark_of end) file ≡ concluded rows (chunks_place file) so_far (ending_of (tail_of answer))
+read_so rows file so_far walker end answer (inl early) says =
+    let last = ending_of (tail_of answer) in
     reading_by_events rows (mark_of end) file
-    ∙ refused_by rows (chunks_place file) (chunks_place file) at_start early.told (events_of chunks) (ending_of (closed (mark_of end) (length file) chunks.whole chunks.tail)) last early.goes (ap (λ p. is_refused p.place) (sym early.progress) ∙ early.refused)
+    ∙ refused_by rows (chunks_place file) (chunks_place file) at_start early.told (events_of (chunks_of file)) (ending_of (file_end (mark_of end) file)) last early.goes (ap (λ p. is_refused p.place) (sym early.progress) ∙ early.refused)
     ∙ ap (λ p. concluded rows (chunks_place file) p last) (sym early.progress)
-read_so rows file so_far walker end answer (inr whole) settles =
-    let chunks = chunks_of file in
-    let settled : Settles answer (end_of chunks.whole chunks.tail) = subst (Settles answer) whole.same_end (settles whole.taken (events_of chunks) whole.is_told) in
+read_so rows file so_far walker end answer (inr whole) says =
     reading_by_events rows (mark_of end) file
-    ∙ ap (λ p. concluded rows (chunks_place file) p (ending_of (closed (mark_of end) (length file) chunks.whole chunks.tail))) (sym whole.progress)
-    ∙ ap (concluded rows (chunks_place file) so_far) (ends_same end (length file) chunks.whole chunks.tail answer settled)
+    ∙ ap (λ p. concluded rows (chunks_place file) p (ending_of (file_end (mark_of end) file))) (sym whole.progress)
+    ∙ ap (λ t. concluded rows (chunks_place file) so_far (ending_of t)) (sym (walk_end file walker end answer whole.walk says))

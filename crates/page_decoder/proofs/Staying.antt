@@ -9,12 +9,13 @@ use Rattle.zp_table.specs.Rows.{IsTable}
 use Rattle.iff_chunks.specs.Start.{Start, Begins, Arriving, Differs, start_of}
 use Rattle.iff_chunks.specs.Chunks.{Chunk, Chunks, Tail, InHead, InHeader, InData, InPad, FormEnd, magic, after_magic, chunks_of, end_of}
 use Rattle.iff_chunks.specs.Chunks as grammar
+use Rattle.iff_chunks.specs.Ends.{is_cut, closed, broken_off, file_end}
 use Rattle.iff_chunks.specs.Events.{Event, Begun, Header, Data, ChunkEnd, events_of, GoesOn}
 use Rattle.iff_chunks.specs.Order.{AtForm, InOrder}
 use Rattle.page_decoder.specs.declared.places.Head.{Head}
 use Rattle.page_decoder.specs.declared.places.Place.{Place}
 use Rattle.page_decoder.specs.declared.places.Place.TheVariants as place
-use Rattle.page_decoder.specs.Reading.{Notice, Came, Ending, NeedBytes, Reading, data_came, stopped, cut_by, at_end, is_cut, closed, broken_off, ending_of, place_of, chunks_place, read_form, reading}
+use Rattle.page_decoder.specs.Reading.{Notice, Came, Ending, NeedBytes, Reading, data_came, stopped, cut_by, at_end, ending_of, place_of, chunks_place, read_form, reading}
 use Rattle.page_decoder.specs.Progress.{Done, Progress, progress, at_start, ended_by, after_event, after_events, behind, concluded, is_refused}
 use Rattle.page_decoder.proofs.ByEvents.{refused_chunk, reading_by_events}
 use Rattle.page_decoder.proofs.Concluding.{rest_draws_none}
@@ -220,7 +221,7 @@ fits_all rows bytes more g = all_fit rows AtForm at_start (events_of (chunks_of 
 notices_of : (rows : List Row) (mark : Mark) (bytes : List ℕ) → (reading rows mark bytes).notices ≡ (so_far_of rows bytes).done.notices
 notices_of rows mark bytes =
     let so_far = so_far_of rows bytes in
-    let end = ending_of (closed mark (length bytes) (chunks_of bytes).whole (chunks_of bytes).tail) in
+    let end = ending_of (file_end mark bytes) in
     ap (λ (r : Reading). r.notices) (reading_by_events rows mark bytes)
     ∙ ap (λ n. so_far.done.notices ++ n) (rest_draws_none rows (chunks_place bytes) so_far.place so_far.bytes so_far.done.chunks so_far.done.layers end)
     ∙ append-nil so_far.done.notices
@@ -233,7 +234,7 @@ notices_grow rows mark bytes more g =
 
 decisions_of : (rows : List Row) (mark : Mark) (bytes : List ℕ) → (reading rows mark bytes).decisions ≡ total rows (so_far_of rows bytes)
 decisions_of rows mark bytes =
-    ap (λ (r : Reading). r.decisions) (reading_by_events rows mark bytes) ∙ reading_total rows (chunks_place bytes) (so_far_of rows bytes) (ending_of (closed mark (length bytes) (chunks_of bytes).whole (chunks_of bytes).tail))
+    ap (λ (r : Reading). r.decisions) (reading_by_events rows mark bytes) ∙ reading_total rows (chunks_place bytes) (so_far_of rows bytes) (ending_of (file_end mark bytes))
 
 -- no decision either
 pub decisions_grow : RecordsGoOn → (rows : List Row) → IsTable rows → (mark : Mark) (bytes more : List ℕ) → Grown bytes more → (reading rows Open bytes).decisions ≤ (reading rows mark (bytes ++ more)).decisions

@@ -4,10 +4,11 @@ use Rattle.djvu_base.specs.declared.faults.FaultKind.{FaultKind}
 use Rattle.zp_table.specs.declared.rows.Row.{Row}
 use Rattle.iff_chunks.specs.declared.walker.WalkStep.{WalkStep}
 use Rattle.iff_chunks.specs.declared.walker.WalkStep.TheVariants as step
-use Rattle.iff_chunks.specs.declared.stages.Stage.{Stage}
+use Rattle.iff_chunks.specs.Told.{Walking}
+use Rattle.iff_chunks.specs.Walk.{IsFed}
 use Rattle.iff_chunks.specs.Chunks.{chunks_of}
-use Rattle.iff_chunks.specs.Events.{events_of, Takes}
-use Rattle.jb2_numbers.specs.Number.{ticked}
+use Rattle.iff_chunks.specs.Events.{events_of, Takes, is_event}
+use Rattle.djvu_base.specs.Meter.{ticked, TicksExactly, TicksAtMost}
 use Rattle.page_decoder.specs.declared.brought.Brought.{Brought}
 use Rattle.page_decoder.specs.declared.brought.Brought.TheVariants as brought
 use Rattle.page_decoder.specs.declared.drawings.Page.{Page}
@@ -15,15 +16,14 @@ use Rattle.page_decoder.specs.declared.places.Head.{Head}
 use Rattle.page_decoder.specs.declared.places.Place.{Place}
 use Rattle.page_decoder.specs.declared.places.Place.TheVariants as place
 use Rattle.page_decoder.specs.Reading.{Notice, Came, kind_fault, header_fault, data_came, mask_in, is_drawn, notice_by}
-use Rattle.page_decoder.specs.Ends.{is_quiet}
 use Rattle.page_decoder.specs.Found.{CanDrawLast, drawn}
 use Rattle.page_decoder.specs.Progress.{Done, Progress, progress, at_start, begun, head_of, at_header, with_chunk, ended_by, ended, after_form, after_header, after_end, after_events, after_step, told_bytes, end_decisions, step_decisions}
 use Rattle.page_decoder.specs.Brought.{laid, fault_of, IsBrought, IsPage, IsProgress, open_count, Walks}
 use Rattle.page_decoder.specs.Walk.{Follows}
-use Rattle.page_decoder.proofs.Counting.{ticked_both}
+use Rattle.djvu_base.proofs.Ticks.{ticks_both, at_most_after, at_most_more}
 use Rattle.page_decoder.proofs.Extending.{decisions_grow}
 use Rattle.page_decoder.proofs.Lasting.{last_on}
-use Rattle.page_decoder.proofs.Walks.{Feeds, follows_on}
+use Rattle.page_decoder.proofs.Walks.{follows_on}
 
 pub on_err : {T E P : Type 0} (r : Result T E) → P → OnErr r P
 on_err (Ok x) p = tt
@@ -149,13 +149,13 @@ step_room rows so_far step.FormEnd used taken left all t within h = omega arith
 step_room rows so_far (step.Broken kind offset) used taken left all t within h = omega arith
 
 -- one more event of the walk, for which these bytes were used
-pub walks_on : (rows : List Row) (file rest next : List ℕ) (at now : Place) (bytes told : List ℕ) (page new : Page) (before after : Stage) (start count counted : ℕ) (used : ℕ) (answer : WalkStep)
-    → (w : Walks rows file rest at bytes page before start count) → Feeds before after rest used answer → is_quiet answer ≡ false → next ≡ drop used rest → length next ≡ length rest - used
+pub walks_on : (rows : List Row) (file rest next : List ℕ) (at now : Place) (bytes told : List ℕ) (page new : Page) (before after : Walking) (start count counted : ℕ) (used : ℕ) (answer : WalkStep)
+    → (w : Walks rows file rest at bytes page before start count) → IsFed before rest used answer after → is_event answer ≡ true → next ≡ drop used rest → length next ≡ length rest - used
     → IsProgress (after_step rows (progress at bytes w.done) answer (take used rest)) now new
     → told ≡ told_bytes answer bytes (take used rest)
-    → counted ≡ ticked (step_decisions rows at bytes page.layers answer) count
+    → TicksExactly (step_decisions rows at bytes page.layers answer) count counted
     → Walks rows file next now told new after start counted
-walks_on rows file rest next at now bytes told page new before after start count counted used answer w feeds quiet n size is b ticks =
+walks_on rows file rest next at now bytes told page new before after start count counted used answer w feeds event n size is b ticks =
     let so_far = progress at bytes w.done in
     let later = after_step rows so_far answer (take used rest) in
     let all : later.bytes ≡ told = step_bytes rows so_far answer (take used rest) ∙ sym b in
@@ -168,26 +168,24 @@ walks_on rows file rest next at now bytes told page new before after start count
       done = later.done;
       follows =
           subst (λ l. Follows rows file next (progress now l later.done) after) all
-          (subst (λ p. Follows rows file next (progress p later.bytes later.done) after) (sym is.place) (follows_on rows file rest next so_far before after used answer w.follows feeds quiet n));
+          (subst (λ p. Follows rows file next (progress p later.bytes later.done) after) (sym is.place) (follows_on rows file rest next so_far before after used answer w.follows feeds event n));
       is_page = is.page;
       has_room = record { room = omega (arith, room, chunks, opens, size) };
-      counted = ticks ∙ ap (λ k. ticked k count) layers ∙ ap (ticked (step_decisions rows at bytes w.done.layers answer)) w.counted ∙ ticked_both (step_decisions rows at bytes w.done.layers answer) w.done.decisions start ∙ ap (λ k. ticked k start) (sym adds);
+      counted = subst (λ d. TicksExactly d start counted) (sym adds) (ticks_both w.done.decisions (step_decisions rows at bytes w.done.layers answer) start count counted w.counted (ticks ∙ ap (λ k. ticked k count) layers));
     }
 
 -- where there is no memory, no more decisions were counted than the file has
-pub stops_within : (rows : List Row) (file rest : List ℕ) (at : Place) (bytes : List ℕ) (page : Page) (before after : Stage) (start count counted : ℕ) (used : ℕ) (answer : WalkStep)
-    → (w : Walks rows file rest at bytes page before start count) → Feeds before after rest used answer → is_quiet answer ≡ false
-    → (ticks : ℕ) × (ticks ≤ step_decisions rows at bytes page.layers answer) × (counted ≡ ticked ticks count)
-    → (ticks : ℕ) × (ticks ≤ (after_events rows at_start (events_of (chunks_of file))).done.decisions) × (counted ≡ ticked ticks start)
-stops_within rows file rest at bytes page before after start count counted used answer w feeds quiet some =
+pub stops_within : (rows : List Row) (file rest : List ℕ) (at : Place) (bytes : List ℕ) (page : Page) (before after : Walking) (start count counted : ℕ) (used : ℕ) (answer : WalkStep)
+    → (w : Walks rows file rest at bytes page before start count) → IsFed before rest used answer after → is_event answer ≡ true
+    → TicksAtMost (step_decisions rows at bytes page.layers answer) count counted
+    → TicksAtMost (after_events rows at_start (events_of (chunks_of file))).done.decisions start counted
+stops_within rows file rest at bytes page before after start count counted used answer w feeds event some =
     let so_far = progress at bytes w.done in
     let later = after_step rows so_far answer (take used rest) in
     let adds = step_adds rows so_far answer (take used rest) in
     let layers : step_decisions rows at bytes page.layers answer ≡ step_decisions rows at bytes w.done.layers answer = ap (λ l. step_decisions rows at bytes l answer) (sym w.is_page.layers) in
-    let f = follows_on rows file rest (drop used rest) so_far before after used answer w.follows feeds quiet refl in
+    let f = follows_on rows file rest (drop used rest) so_far before after used answer w.follows feeds event refl in
     let same : later.done.decisions ≡ (after_events rows at_start f.told).done.decisions = ap (λ (p : Progress). p.done.decisions) f.progress in
-    let grow = decisions_grow rows at_start f.told (events_of (chunks_of file)) f.goes in (
-      w.done.decisions + some.0,
-      omega (arith, grow, same, adds, layers, some.1),
-      some.2 ∙ ap (ticked some.0) w.counted ∙ ticked_both some.0 w.done.decisions start,
-    )
+    let grow = decisions_grow rows at_start f.told (events_of (chunks_of file)) f.walk.goes in
+    at_most_more (w.done.decisions + step_decisions rows at bytes page.layers answer) (after_events rows at_start (events_of (chunks_of file))).done.decisions start counted (omega (arith, grow, same, adds, layers))
+    (at_most_after w.done.decisions (step_decisions rows at bytes page.layers answer) start count counted w.counted some)

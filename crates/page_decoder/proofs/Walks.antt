@@ -6,31 +6,20 @@ use Rattle.djvu_base.specs.declared.faults.FaultKind.{FaultKind}
 use Rattle.zp_table.specs.declared.rows.Row.{Row}
 use Rattle.iff_chunks.specs.declared.walker.WalkStep.{WalkStep}
 use Rattle.iff_chunks.specs.declared.walker.WalkStep.TheVariants as step
-use Rattle.iff_chunks.specs.declared.stages.Stage.{Stage}
-use Rattle.iff_chunks.specs.Chunks.{FormEnd, Broken, chunks_of, chunks_in_all, end_of}
-use Rattle.iff_chunks.specs.Events.{Event, Begun, Header, Data, ChunkEnd, events_of, tell, with_data, GoesOn, IsOpen, Ends, Takes}
+use Rattle.iff_chunks.specs.Chunks.{chunks_of}
+use Rattle.iff_chunks.specs.Events.{Event, Begun, Header, Data, ChunkEnd, events_of, tell, with_data, GoesOn, Takes, is_event}
 use Rattle.iff_chunks.specs.Order.{Turn, AtForm, AtHeader, AtData, AtEnd, InOrder}
-use Rattle.iff_chunks.specs.Told.{Told}
+use Rattle.iff_chunks.specs.Told.{Walking, Told}
+use Rattle.iff_chunks.specs.Walk.{IsFed}
 use Rattle.page_decoder.specs.declared.places.Head.{Head}
 use Rattle.page_decoder.specs.declared.places.Place.{Place}
 use Rattle.page_decoder.specs.declared.places.Place.TheVariants as place
 use Rattle.page_decoder.specs.Reading.{Came, kind_fault, header_fault, data_came, mask_in}
-use Rattle.page_decoder.specs.Ends.{is_quiet}
 use Rattle.page_decoder.specs.Progress.{Done, Progress, at_start, begun, head_of, at_header, ended_by, after_form, after_header, after_end, after_event, after_events, after_step, is_refused}
 use Rattle.page_decoder.specs.Brought.{open_count}
 use Rattle.page_decoder.specs.Walk.{ends_in_data, AreAll, NoData, NoBytes, EndNext, Follows, IsRefusedEarly, IsToldWhole}
+use Rattle.iff_chunks.proofs.Lemmas.{walk_begins, walk_goes_on, walk_told, walk_over}
 use Rattle.page_decoder.proofs.ByEvents.{after_both}
-
--- a walker was fed this piece
-pub record Feeds (before after : Stage) (rest : List ℕ) (used : ℕ) (answer : WalkStep) : Type 0 where
-  pub told : (taken : List ℕ) (told : List Event) → Told taken told before → Told (taken ++ take used rest) (tell told answer (take used rest)) after
-  pub events : (taken more : List ℕ) (told : List Event) → Told taken told before → GoesOn (tell told answer (take used rest)) (events_of (chunks_of (taken ++ (take used rest ++ more))))
-  pub order : (taken : List ℕ) (told : List Event) → Told taken told before → InOrder AtForm (tell told answer (take used rest))
-  pub ends : (taken more : List ℕ) (told : List Event) → Told taken told before → Ends answer told (chunks_of (taken ++ (take used rest ++ more)))
-  pub needs : (taken : List ℕ) (told : List Event) → Told taken told before → answer ≡ step.NeedBytes → (used ≡ length rest) × (events_of (chunks_of (taken ++ rest)) ≡ told) × IsOpen (chunks_of (taken ++ rest)).tail
-  pub takes : Takes answer used
-  pub all_data : (taken more : List ℕ) (told : List Event) → Told taken told before → answer ≡ step.Data → (used ≡ length rest) ⊎ GoesOn (tell told answer (take used rest) ++ ChunkEnd ∷ []) (events_of (chunks_of (taken ++ (take used rest ++ more))))
-  pub within : used ≤ length rest
 
 -- data behind other events
 with_data_new : (told : List Event) (bytes : List ℕ) → ends_in_data told ≡ false → with_data told bytes ≡ told ++ Data bytes ∷ []
@@ -110,51 +99,45 @@ last_of (x ∷ []) event = longer_list x event []
 last_of (x ∷ y ∷ told) event = longer_list x y (told ++ event ∷ []) ∙ last_of (y ∷ told) event
 
 -- one more event, of which these bytes were used
-more_progress : (rows : List Row) (so_far : Progress) (told : List Event) (answer : WalkStep) (used : List ℕ) → so_far ≡ after_events rows at_start told → is_quiet answer ≡ false → (answer ≡ step.Data → with_data told used ≡ told ++ Data used ∷ []) → after_step rows so_far answer used ≡ after_events rows at_start (tell told answer used)
-more_progress rows so_far told (step.Form kind size) used e quiet d = ap (λ p. after_event rows p (Begun kind size)) e ∙ sym (after_both rows at_start told (Begun kind size ∷ []))
-more_progress rows so_far told (step.Header id offset size) used e quiet d = ap (λ p. after_event rows p (Header id offset size)) e ∙ sym (after_both rows at_start told (Header id offset size ∷ []))
-more_progress rows so_far told step.Data used e quiet d = ap (λ p. after_event rows p (Data used)) e ∙ sym (after_both rows at_start told (Data used ∷ [])) ∙ ap (after_events rows at_start) (sym (d refl))
-more_progress rows so_far told step.ChunkEnd used e quiet d = ap (λ p. after_event rows p ChunkEnd) e ∙ sym (after_both rows at_start told (ChunkEnd ∷ []))
-more_progress rows so_far told step.NeedBytes used e quiet d = absurd (true≢false quiet)
-more_progress rows so_far told step.FormEnd used e quiet d = absurd (true≢false quiet)
-more_progress rows so_far told (step.Broken kind offset) used e quiet d = absurd (true≢false quiet)
+more_progress : (rows : List Row) (so_far : Progress) (told : List Event) (answer : WalkStep) (used : List ℕ) → so_far ≡ after_events rows at_start told → is_event answer ≡ true → (answer ≡ step.Data → with_data told used ≡ told ++ Data used ∷ []) → after_step rows so_far answer used ≡ after_events rows at_start (tell told answer used)
+more_progress rows so_far told (step.Form kind size) used e event d = ap (λ p. after_event rows p (Begun kind size)) e ∙ sym (after_both rows at_start told (Begun kind size ∷ []))
+more_progress rows so_far told (step.Header id offset size) used e event d = ap (λ p. after_event rows p (Header id offset size)) e ∙ sym (after_both rows at_start told (Header id offset size ∷ []))
+more_progress rows so_far told step.Data used e event d = ap (λ p. after_event rows p (Data used)) e ∙ sym (after_both rows at_start told (Data used ∷ [])) ∙ ap (after_events rows at_start) (sym (d refl))
+more_progress rows so_far told step.ChunkEnd used e event d = ap (λ p. after_event rows p ChunkEnd) e ∙ sym (after_both rows at_start told (ChunkEnd ∷ []))
+more_progress rows so_far told step.NeedBytes used e event d = absurd (true≢false (sym event))
+more_progress rows so_far told step.FormEnd used e event d = absurd (true≢false (sym event))
+more_progress rows so_far told (step.Broken kind offset) used e event d = absurd (true≢false (sym event))
 
 -- then data that were told last are all again
 data_or_end : (told : List Event) (rest next : List ℕ) (events : List Event) (used : ℕ) → next ≡ drop used rest → (used ≡ length rest) ⊎ GoesOn (told ++ ChunkEnd ∷ []) events → AreAll told next events
 data_or_end told rest next events used n (inl e) = subst (λ r. AreAll told r events) (sym (n ∙ drop_all used rest (omega (arith, e)))) (NoBytes told events)
 data_or_end told rest next events used n (inr g) = EndNext told next events g
 
-more_all : (told : List Event) (rest next : List ℕ) (events : List Event) (used : ℕ) (answer : WalkStep) → next ≡ drop used rest → is_quiet answer ≡ false
+more_all : (told : List Event) (rest next : List ℕ) (events : List Event) (used : ℕ) (answer : WalkStep) → next ≡ drop used rest → is_event answer ≡ true
     → (answer ≡ step.Data → (used ≡ length rest) ⊎ GoesOn (tell told answer (take used rest) ++ ChunkEnd ∷ []) events) → AreAll (tell told answer (take used rest)) next events
-more_all told rest next events used (step.Form kind size) n quiet d = NoData (told ++ Begun kind size ∷ []) next events (last_of told (Begun kind size))
-more_all told rest next events used (step.Header id offset size) n quiet d = NoData (told ++ Header id offset size ∷ []) next events (last_of told (Header id offset size))
-more_all told rest next events used step.Data n quiet d = data_or_end (with_data told (take used rest)) rest next events used n (d refl)
-more_all told rest next events used step.ChunkEnd n quiet d = NoData (told ++ ChunkEnd ∷ []) next events (last_of told ChunkEnd)
-more_all told rest next events used step.NeedBytes n quiet d = absurd (true≢false quiet)
-more_all told rest next events used step.FormEnd n quiet d = absurd (true≢false quiet)
-more_all told rest next events used (step.Broken kind offset) n quiet d = absurd (true≢false quiet)
+more_all told rest next events used (step.Form kind size) n event d = NoData (told ++ Begun kind size ∷ []) next events (last_of told (Begun kind size))
+more_all told rest next events used (step.Header id offset size) n event d = NoData (told ++ Header id offset size ∷ []) next events (last_of told (Header id offset size))
+more_all told rest next events used step.Data n event d = data_or_end (with_data told (take used rest)) rest next events used n (d refl)
+more_all told rest next events used step.ChunkEnd n event d = NoData (told ++ ChunkEnd ∷ []) next events (last_of told ChunkEnd)
+more_all told rest next events used step.NeedBytes n event d = absurd (true≢false (sym event))
+more_all told rest next events used step.FormEnd n event d = absurd (true≢false (sym event))
+more_all told rest next events used (step.Broken kind offset) n event d = absurd (true≢false (sym event))
 
 takes_data : (answer : WalkStep) (used : ℕ) → Takes answer used → answer ≡ step.Data → 0 < used
 takes_data answer used t e = subst (λ a. Takes a used) e t
 
--- the parts of a file that was taken so far
-pub whole_file : (file rest taken : List ℕ) (used : ℕ) → file ≡ taken ++ rest → taken ++ (take used rest ++ drop used rest) ≡ file
-whole_file file rest taken used e = ap (λ r. taken ++ r) (take-append-drop used rest) ∙ sym e
-
-pub follows_on : (rows : List Row) (file rest next : List ℕ) (so_far : Progress) (before after : Stage) (used : ℕ) (answer : WalkStep) → Follows rows file rest so_far before → Feeds before after rest used answer → is_quiet answer ≡ false → next ≡ drop used rest → Follows rows file next (after_step rows so_far answer (take used rest)) after
-follows_on rows file rest next so_far before after used answer f g quiet n =
-    let whole = whole_file file rest f.taken used f.parts in
+pub follows_on : (rows : List Row) (file rest next : List ℕ) (so_far : Progress) (before after : Walking) (used : ℕ) (answer : WalkStep) → Follows rows file rest so_far before → IsFed before rest used answer after → is_event answer ≡ true → next ≡ drop used rest
+    → Follows rows file next (after_step rows so_far answer (take used rest)) after
+follows_on rows file rest next so_far before after used answer f g event n =
     let events = events_of (chunks_of file) in
     let now = tell f.told answer (take used rest) in
-    let goes : GoesOn now events = subst (λ b. GoesOn now (events_of (chunks_of b))) whole (g.events f.taken (drop used rest) f.told f.is_told) in
+    let walk = walk_goes_on file rest next f.told before after used answer f.walk g n in
+    let whole : f.walk.taken ++ (take used rest ++ drop used rest) ≡ file = ap (λ r. f.walk.taken ++ r) (take-append-drop used rest) ∙ sym f.walk.parts in
     record {
-      taken = f.taken ++ take used rest;
       told = now;
-      parts = sym whole ∙ sym (append_assoc f.taken (take used rest) (drop used rest)) ∙ ap (λ r. (f.taken ++ take used rest) ++ r) (sym n);
-      is_told = g.told f.taken f.told f.is_told;
-      goes = goes;
-      all_data = more_all f.told rest next events used answer n quiet (λ e. subst (λ b. (used ≡ length rest) ⊎ GoesOn (now ++ ChunkEnd ∷ []) (events_of (chunks_of b))) whole (g.all_data f.taken (drop used rest) f.told f.is_told e));
-      progress = more_progress rows so_far f.told answer (take used rest) f.progress quiet (λ e. new_data f.told rest events used f.all_data (takes_data answer used g.takes e) g.within (subst (λ a. GoesOn (tell f.told a (take used rest)) events) e goes));
+      walk = walk;
+      all_data = more_all f.told rest next events used answer n event (λ e. subst (λ b. (used ≡ length rest) ⊎ GoesOn (now ++ ChunkEnd ∷ []) (events_of (chunks_of b))) whole (g.all_data f.walk.taken (drop used rest) f.told f.walk.is_told e));
+      progress = more_progress rows so_far f.told answer (take used rest) f.progress event (λ e. new_data f.told rest events used f.all_data (takes_data answer used g.takes e) g.within (subst (λ a. GoesOn (tell f.told a (take used rest)) events) e walk.goes));
     }
 
 -- within a chunk the reading is within it, unless the page is refused
@@ -262,71 +245,30 @@ end_opens_none rows (place.Within head) bytes done = ended_opens_none head (data
 end_opens_none rows (place.Refused kind offset) bytes done = refl
 
 -- each event leaves less
-less : (rows : List Row) (rest next : List ℕ) (so_far : Progress) (told : List Event) (used : ℕ) (answer : WalkStep) → so_far ≡ after_events rows at_start told → InOrder AtForm (tell told answer (take used rest)) → Takes answer used → used ≤ length rest → is_quiet answer ≡ false → is_refused so_far.place ≡ false → length next ≡ length rest - used
+less : (rows : List Row) (rest next : List ℕ) (so_far : Progress) (told : List Event) (used : ℕ) (answer : WalkStep) → so_far ≡ after_events rows at_start told → InOrder AtForm (tell told answer (take used rest)) → Takes answer used → used ≤ length rest → is_event answer ≡ true → is_refused so_far.place ≡ false → length next ≡ length rest - used
     → 2 * length next + open_count (after_step rows so_far answer (take used rest)).place < 2 * length rest + open_count so_far.place
-less rows rest next so_far told used (step.Form kind size) e o t within quiet r n = omega (arith, t, few_open (after_form so_far.place kind))
-less rows rest next so_far told used (step.Header id offset size) e o t within quiet r n = omega (arith, t, few_open (after_header so_far.place (eqb so_far.done.chunks 0) (is_some (mask_in so_far.done.layers)) (head_of id offset size)))
-less rows rest next so_far told used step.Data e o t within quiet r n = omega (arith, t, few_open so_far.place)
-less rows rest next so_far told used step.ChunkEnd e o t within quiet r n =
+less rows rest next so_far told used (step.Form kind size) e o t within event r n = omega (arith, t, few_open (after_form so_far.place kind))
+less rows rest next so_far told used (step.Header id offset size) e o t within event r n = omega (arith, t, few_open (after_header so_far.place (eqb so_far.done.chunks 0) (is_some (mask_in so_far.done.layers)) (head_of id offset size)))
+less rows rest next so_far told used step.Data e o t within event r n = omega (arith, t, few_open so_far.place)
+less rows rest next so_far told used step.ChunkEnd e o t within event r n =
     let one : open_count so_far.place ≡ 1 = subst (λ p. open_count p.place ≡ 1) (sym e) (at_chunk_end rows AtForm at_start told tt o (subst (λ p. is_refused p.place ≡ false) e r)) in
     omega (arith, one, end_opens_none rows so_far.place so_far.bytes so_far.done)
-less rows rest next so_far told used step.NeedBytes e o t within quiet r n = absurd (true≢false quiet)
-less rows rest next so_far told used step.FormEnd e o t within quiet r n = absurd (true≢false quiet)
-less rows rest next so_far told used (step.Broken kind offset) e o t within quiet r n = absurd (true≢false quiet)
+less rows rest next so_far told used step.NeedBytes e o t within event r n = absurd (true≢false (sym event))
+less rows rest next so_far told used step.FormEnd e o t within event r n = absurd (true≢false (sym event))
+less rows rest next so_far told used (step.Broken kind offset) e o t within event r n = absurd (true≢false (sym event))
 
-pub goes_down : (rows : List Row) (file rest next : List ℕ) (so_far : Progress) (before after : Stage) (used : ℕ) (answer : WalkStep) → Follows rows file rest so_far before → Feeds before after rest used answer → is_quiet answer ≡ false → is_refused so_far.place ≡ false → next ≡ drop used rest
+pub goes_down : (rows : List Row) (file rest next : List ℕ) (so_far : Progress) (before after : Walking) (used : ℕ) (answer : WalkStep) → Follows rows file rest so_far before → IsFed before rest used answer after → is_event answer ≡ true → is_refused so_far.place ≡ false → next ≡ drop used rest
     → 2 * length next + open_count (after_step rows so_far answer (take used rest)).place < 2 * length rest + open_count so_far.place
-goes_down rows file rest next so_far before after used answer f g quiet r n = less rows rest next so_far f.told used answer f.progress (g.order f.taken f.told f.is_told) g.takes g.within quiet r (ap length n ∙ length-drop used rest)
+goes_down rows file rest next so_far before after used answer f g event r n = less rows rest next so_far f.told used answer f.progress (g.order f.walk.taken f.told f.walk.is_told) g.takes g.within event r (ap length n ∙ length-drop used rest)
 
--- the last answer
-pub quiet_end : (file rest taken : List ℕ) (told : List Event) (used : ℕ) (answer : WalkStep) → file ≡ taken ++ rest → is_quiet answer ≡ true
-    → (answer ≡ step.NeedBytes → (used ≡ length rest) × (events_of (chunks_of (taken ++ rest)) ≡ told) × IsOpen (chunks_of (taken ++ rest)).tail)
-    → ((more : List ℕ) → Ends answer told (chunks_of (taken ++ (take used rest ++ more))))
-    → (events_of (chunks_of file) ≡ told) × ((chunks_in_all (taken ++ take used rest)).tail ≡ (chunks_in_all file).tail)
-quiet_end file rest taken told used (step.Form kind size) e q needs ends = absurd (true≢false (sym q))
-quiet_end file rest taken told used (step.Header id offset size) e q needs ends = absurd (true≢false (sym q))
-quiet_end file rest taken told used step.Data e q needs ends = absurd (true≢false (sym q))
-quiet_end file rest taken told used step.ChunkEnd e q needs ends = absurd (true≢false (sym q))
-quiet_end file rest taken told used step.NeedBytes e q needs ends =
-    let all = needs refl in
-    let bytes : take used rest ≡ rest = ap (λ n. take n rest) all.0 ∙ take_all (length rest) rest (omega arith) in
-    (ap (λ b. events_of (chunks_of b)) e ∙ all.1, ap (λ b. (chunks_in_all b).tail) (ap (λ r. taken ++ r) bytes ∙ sym e))
-quiet_end file rest taken told used step.FormEnd e q needs ends =
-    let whole = whole_file file rest taken used e in
-    let here = ends [] in
-    let there = ends (drop used rest) in
-    let now : (chunks_of (taken ++ take used rest)).tail ≡ FormEnd = ap (λ b. (chunks_of b).tail) (ap (λ r. taken ++ r) (sym (append-nil (take used rest)))) ∙ here.1 in
-    let then : (chunks_of file).tail ≡ FormEnd = ap (λ b. (chunks_of b).tail) (sym whole) ∙ there.1 in
-    (ap (λ b. events_of (chunks_of b)) (sym whole) ∙ there.0, ap (end_of (chunks_of (taken ++ take used rest)).whole) now ∙ sym (ap (end_of (chunks_of file).whole) then))
-quiet_end file rest taken told used (step.Broken kind offset) e q needs ends =
-    let whole = whole_file file rest taken used e in
-    let here = ends [] in
-    let there = ends (drop used rest) in
-    let now : (chunks_of (taken ++ take used rest)).tail ≡ Broken kind offset = ap (λ b. (chunks_of b).tail) (ap (λ r. taken ++ r) (sym (append-nil (take used rest)))) ∙ here.1 in
-    let then : (chunks_of file).tail ≡ Broken kind offset = ap (λ b. (chunks_of b).tail) (sym whole) ∙ there.1 in
-    (ap (λ b. events_of (chunks_of b)) (sym whole) ∙ there.0, ap (end_of (chunks_of (taken ++ take used rest)).whole) now ∙ sym (ap (end_of (chunks_of file).whole) then))
+pub told_whole : (rows : List Row) (file rest : List ℕ) (so_far : Progress) (before after : Walking) (used : ℕ) (answer : WalkStep) → Follows rows file rest so_far before → IsFed before rest used answer after → is_event answer ≡ false → IsToldWhole rows file so_far after
+told_whole rows file rest so_far before after used answer f g none = record {
+  walk = walk_over file rest f.told before after used answer f.walk g none;
+  progress = f.progress ∙ ap (after_events rows at_start) (walk_told file rest f.told before after used answer f.walk g none);
+}
 
-pub quiet_tell : (told : List Event) (answer : WalkStep) (used : List ℕ) → is_quiet answer ≡ true → tell told answer used ≡ told
-quiet_tell told (step.Form kind size) used q = absurd (true≢false (sym q))
-quiet_tell told (step.Header id offset size) used q = absurd (true≢false (sym q))
-quiet_tell told step.Data used q = absurd (true≢false (sym q))
-quiet_tell told step.ChunkEnd used q = absurd (true≢false (sym q))
-quiet_tell told step.NeedBytes used q = refl
-quiet_tell told step.FormEnd used q = refl
-quiet_tell told (step.Broken kind offset) used q = refl
+pub refused_early : (rows : List Row) (file rest : List ℕ) (so_far : Progress) (walker : Walking) → Follows rows file rest so_far walker → is_refused so_far.place ≡ true → IsRefusedEarly rows file so_far
+refused_early rows file rest so_far walker f r = record { told = f.told; goes = f.walk.goes; progress = f.progress; refused = r }
 
-pub told_whole : (rows : List Row) (file rest : List ℕ) (so_far : Progress) (before after : Stage) (used : ℕ) (answer : WalkStep) → Follows rows file rest so_far before → Feeds before after rest used answer → is_quiet answer ≡ true → IsToldWhole rows file so_far after
-told_whole rows file rest so_far before after used answer f g q =
-    let all = quiet_end file rest f.taken f.told used answer f.parts q (g.needs f.taken f.told f.is_told) (λ more. g.ends f.taken more f.told f.is_told) in
-    record {
-      taken = f.taken ++ take used rest;
-      is_told = subst (λ t. Told (f.taken ++ take used rest) t after) (quiet_tell f.told answer (take used rest) q ∙ sym all.0) (g.told f.taken f.told f.is_told);
-      same_end = all.1;
-      progress = f.progress ∙ ap (after_events rows at_start) (sym all.0);
-    }
-
-pub refused_early : (rows : List Row) (file rest : List ℕ) (so_far : Progress) (walker : Stage) → Follows rows file rest so_far walker → is_refused so_far.place ≡ true → IsRefusedEarly rows file so_far
-refused_early rows file rest so_far walker f r = record { told = f.told; goes = f.goes; progress = f.progress; refused = r }
-
-pub follows_start : (rows : List Row) (file : List ℕ) (walker : Stage) → Told [] [] walker → Follows rows file file at_start walker
-follows_start rows file walker t = record { taken = []; told = []; parts = refl; is_told = t; goes = tt; all_data = NoData [] file (events_of (chunks_of file)) refl; progress = refl }
+pub follows_start : (rows : List Row) (file : List ℕ) (walker : Walking) → Told [] [] walker → Follows rows file file at_start walker
+follows_start rows file walker t = record { told = []; walk = walk_begins file walker t; all_data = NoData [] file (events_of (chunks_of file)) refl; progress = refl }

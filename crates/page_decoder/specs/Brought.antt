@@ -2,8 +2,8 @@
 use Rattle.std.specs.Prelude.{◌≡◌, ℕ, ◌+◌, ◌≤◌, List, length, map, Option, Some, None}
 use Rattle.djvu_base.specs.declared.faults.FaultKind.{FaultKind}
 use Rattle.bit_plane.specs.Pixels.{Pixels}
-use Rattle.iff_chunks.specs.declared.stages.Stage.{Stage}
-use Rattle.jb2_numbers.specs.Number.{ticked}
+use Rattle.iff_chunks.specs.Told.{Walking}
+use Rattle.djvu_base.specs.Meter.{TicksExactly}
 use Rattle.zp_table.specs.declared.rows.Row.{Row}
 use Rattle.layer_compose.specs.declared.layers.Layers.{Layers}
 use Rattle.page_decoder.specs.declared.brought.Brought.{Brought}
@@ -64,16 +64,16 @@ pub record HasRoom (chunks : ℕ) (place : Place) (rest file : List ℕ) : Type 
   pub room : chunks + open_count place + length rest ≤ length file
 
 -- the walk stands at this rest of the file, and the meter counted the decisions
-pub record Walks (rows : List Row) (file rest : List ℕ) (place : Place) (bytes : List ℕ) (page : Page) (walker : Stage) (start count : ℕ) : Type 0 where
+pub record Walks (rows : List Row) (file rest : List ℕ) (place : Place) (bytes : List ℕ) (page : Page) (walker : Walking) (start count : ℕ) : Type 0 where
   pub done : Done
   pub follows : Follows rows file rest (record { place = place; bytes = bytes; done = done }) walker
   pub is_page : IsPage done page
   pub has_room : HasRoom page.chunks place rest file
-  pub counted : count ≡ ticked done.decisions start
+  pub counted : TicksExactly done.decisions start count
 
 -- the walk is over
-pub record Walked (rows : List Row) (file : List ℕ) (place : Place) (bytes : List ℕ) (page : Page) (walker : Stage) (start count : ℕ) : Type 0 where
+pub record Walked (rows : List Row) (file : List ℕ) (place : Place) (bytes : List ℕ) (page : Page) (walker : Walking) (start count : ℕ) : Type 0 where
   pub done : Done
   pub walked : IsWalked rows file (record { place = place; bytes = bytes; done = done }) walker
   pub is_page : IsPage done page
-  pub counted : count ≡ ticked done.decisions start
+  pub counted : TicksExactly done.decisions start count

@@ -1,8 +1,7 @@
 -- What the code found in a page, and how it stands to the definition.
-use Rattle.std.specs.Prelude.{◌≡◌, ◌*◌, ◌<◌, ◌≤◌, ⊤, List, [], ◌∷◌, map, Option, Some, None}
-use Rattle.bit_plane.specs.Pixels.{area_limit}
+use Rattle.std.specs.Prelude.{◌≡◌, ◌<◌, ◌≤◌, ⊤, List, [], ◌∷◌, map, Option, Some, None}
 use Rattle.layer_compose.specs.declared.layers.Layers.{Layers}
-use Rattle.layer_compose.specs.Drawing.{MaskFits, sum_of}
+use Rattle.layer_compose.specs.Drawing.{IsDrawable, sum_of}
 use Rattle.page_decoder.specs.declared.reading.Drawn.{Drawn}
 use Rattle.page_decoder.specs.declared.reading.PageReading.{PageReading}
 use Rattle.page_decoder.specs.Reading.{Notice, Reading}
@@ -18,16 +17,13 @@ last_layers [] = None
 last_layers (notice ∷ []) = Some notice.layers
 last_layers (notice ∷ next ∷ notices) = last_layers (next ∷ notices)
 
--- layers of a page that can be drawn: sizes from 1 to 65,535, an area within the limit, and a mask of the page's size
+-- layers of a page that can be drawn, with sides from 1 to 65,535 pixels
 pub record CanDraw (layers : Layers) : Type 0 where
   pub wide : 0 < layers.width
   pub high : 0 < layers.height
   pub most_columns : layers.width ≤ 65535
   pub most_rows : layers.height ≤ 65535
-  pub area : layers.width * layers.height ≤ area_limit
-  pub mask : MaskFits layers
-  pub no_front : layers.front ≡ None
-  pub no_back : layers.back ≡ None
+  pub drawable : IsDrawable layers
 
 abbrev pub CanDrawLast : Option Layers → Type 0
 CanDrawLast None = ⊤

@@ -1,7 +1,17 @@
+-- what public clauses cite of the crates below
+pub use Rattle.djvu_base.specs.Library
+pub use Rattle.djvu_base.specs.Meter
+pub use Rattle.iff_chunks.specs.Chunks
+pub use Rattle.iff_chunks.specs.Ends
+pub use Rattle.iff_chunks.specs.Events
+pub use Rattle.zp_table.specs.Rows
+pub use Rattle.layer_compose.specs.Drawing
+-- the reading of a page, and how the code's answer stands to it
 pub mod Reading
 pub mod Ends
 pub mod Found
 pub mod Progress
+pub mod Worked
+-- the inside of this crate
 pub mod Walk
 pub mod Brought
-pub mod Worked

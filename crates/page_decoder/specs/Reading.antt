@@ -1,16 +1,18 @@
 -- The reading of a page, chunk by chunk: which drawings it has, where it ends, and how many decisions its chunks have.
 use Rattle.std.specs.Prelude.{ℕ, zero, suc, Bool, true, false, not, ◌+◌, ◌*◌, ◌&&◌, ◌||◌, ◌==◌, List, [], ◌∷◌, length, drop, Option, Some, None, is_some, codes, bytes_eq, nat_lt, nat_le, if◌then◌else◌}
-use Rattle.std.specs.List.{list_any}
 use Rattle.byteorder.specs.Endian.{big_number}
 use Rattle.djvu_base.specs.declared.faults.FaultKind.{FaultKind}
 use Rattle.djvu_base.specs.declared.faults.FaultKind.TheVariants as fault
-use Rattle.djvu_base.specs.Library.{Mark, Open, Whole, Broken}
+use Rattle.djvu_base.specs.Library.{Mark}
+use Rattle.djvu_base.specs.Name.{is_listed}
 use Rattle.iff_chunks.specs.Start.{Start, Begins, Arriving, Differs, start_of}
-use Rattle.iff_chunks.specs.Chunks.{Form, Chunk, Chunks, Tail, magic, chunks_of, end_of}
+use Rattle.iff_chunks.specs.Chunks.{Form, Chunk, Chunks, Tail, magic, chunks_of}
 use Rattle.iff_chunks.specs.Chunks.{InHead, InHeader, InData, InPad, FormEnd}
 use Rattle.iff_chunks.specs.Chunks as grammar
+use Rattle.iff_chunks.specs.Ends.{closed}
+use Rattle.iff_chunks.specs.Refused.{refused_ids}
 use Rattle.zp_table.specs.declared.rows.Row.{Row}
-use Rattle.bit_plane.specs.Pixels.{Pixels}
+use Rattle.bit_plane.specs.Pixels.{Pixels, area_limit}
 use Rattle.jb2_numbers.specs.Number.{chunk}
 use Rattle.jb2_records.specs.declared.reader.Jb2Step.{Jb2Step}
 use Rattle.jb2_records.specs.declared.reader.Jb2Step.TheVariants as answer
@@ -43,19 +45,15 @@ pub record Reading : Type 0 where
 abbrev pub other_kinds : List (List ℕ)
 other_kinds = codes "DJVM" ∷ codes "PM44" ∷ codes "BM44" ∷ codes "THUM" ∷ []
 
-abbrev pub is_one_of : List (List ℕ) → List ℕ → Bool
-is_one_of names name = list_any (λ listed. bytes_eq name listed) names
-
 abbrev pub kind_fault : List ℕ → Option FaultKind
 kind_fault kind =
     if bytes_eq kind (codes "DJVU") then None
-    else if is_one_of other_kinds kind then Some fault.Unsupported
+    else if is_listed other_kinds kind then Some fault.Unsupported
     else Some fault.WrongForm
 
--- chunks that aren't read: those that no page is drawn with, and those that aren't built yet
-abbrev pub unread_ids : List (List ℕ)
-unread_ids =
-    codes "DIRM" ∷ codes "FGbz" ∷ codes "Smmr" ∷ codes "BGjp" ∷ codes "FGjp" ∷ codes "INCL" ∷ codes "Djbz" ∷ codes "FG44" ∷ codes "BG44" ∷ []
+-- chunks that aren't built yet
+abbrev pub unbuilt_ids : List (List ℕ)
+unbuilt_ids = codes "INCL" ∷ codes "Djbz" ∷ codes "FG44" ∷ codes "BG44" ∷ []
 
 abbrev pub is_info : List ℕ → Bool
 is_info id = bytes_eq id (codes "INFO")
@@ -68,7 +66,7 @@ abbrev pub header_fault : Bool → Bool → List ℕ → ℕ → Option FaultKin
 header_fault is_first has_mask id size =
     if is_first && not (is_info id) then Some fault.NoInfo
     else if not is_first && is_info id then Some fault.SecondInfo
-    else if is_one_of unread_ids id then Some fault.Unsupported
+    else if is_listed refused_ids id || is_listed unbuilt_ids id then Some fault.Unsupported
     else if is_mask id && has_mask then Some fault.SecondMask
     else if is_info id && nat_lt size 5 then Some fault.BadInfo
     else None
@@ -76,10 +74,6 @@ header_fault is_first has_mask id size =
 -- an INFO holds width and height first, two bytes each, the higher byte first
 abbrev pub size_in : List ℕ → Size
 size_in bytes = record { width = big_number 2 bytes; height = big_number 2 (drop 2 bytes) }
-
--- the largest page, in pixels
-abbrev pub area_limit : ℕ
-area_limit = 67_108_864
 
 abbrev pub size_fault : Size → Option FaultKind
 size_fault size =
@@ -189,25 +183,7 @@ read_chunks rows done layers [] rest = rest done layers
 read_chunks rows done layers (chunk ∷ chunks) rest =
     after_came (came rows (done == 0) true layers chunk) chunk (suc done) (λ next. read_chunks rows (suc done) next chunks rest)
 
--- what is read where the bytes end, by what is known of the file's end: where they are all, an open tail is cut; where the file
--- broke off behind so many bytes, the cut is told as a failed reading, and has that place
-abbrev pub is_cut : FaultKind → Bool
-is_cut fault.Truncated = true
-is_cut kind = false
-
-abbrev pub broken_off : ℕ → Tail → Tail
-broken_off arrived InHead = InHead
-broken_off arrived (InHeader offset bytes) = InHeader offset bytes
-broken_off arrived (InData chunk) = InData chunk
-broken_off arrived (InPad offset is_last) = InPad offset is_last
-broken_off arrived FormEnd = FormEnd
-broken_off arrived (grammar.Broken kind offset) = if is_cut kind then grammar.Broken fault.Read arrived else grammar.Broken kind offset
-
-abbrev pub closed : Mark → ℕ → List Chunk → Tail → Tail
-closed Open arrived whole tail = tail
-closed Whole arrived whole tail = end_of whole tail
-closed Broken arrived whole tail = broken_off arrived (end_of whole tail)
-
+-- where a page stands that is read up to the end of its file, or up to the end of the bytes
 abbrev pub ending_of : Tail → Ending
 ending_of InHead = NeedBytes
 ending_of (InHeader offset bytes) = NeedBytes

@@ -1,9 +1,9 @@
 -- A walk over a page's file, event by event.
 use Rattle.std.specs.Prelude.{ℕ, Bool, true, false, ◌≡◌, ◌++◌, ◌⊎◌, IsTrue, List, [], ◌∷◌}
-use Rattle.iff_chunks.specs.declared.stages.Stage.{Stage}
-use Rattle.iff_chunks.specs.Chunks.{chunks_of, chunks_in_all}
+use Rattle.iff_chunks.specs.Chunks.{chunks_of}
 use Rattle.iff_chunks.specs.Events.{Event, Begun, Header, Data, ChunkEnd, events_of, GoesOn}
-use Rattle.iff_chunks.specs.Told.{Told}
+use Rattle.iff_chunks.specs.Told.{Walking}
+use Rattle.iff_chunks.specs.Walk.{HasTold, HasToldAll}
 use Rattle.zp_table.specs.declared.rows.Row.{Row}
 use Rattle.page_decoder.specs.Progress.{Progress, at_start, is_refused, after_events}
 
@@ -23,12 +23,9 @@ pub data AreAll : List Event → List ℕ → List Event → Type 0 where
   EndNext : (told : List Event) (rest : List ℕ) (events : List Event) → GoesOn (told ++ ChunkEnd ∷ []) events → AreAll told rest events
 
 -- the walker told these events of the file, this is the rest of it, and the page's reading came so far
-pub record Follows (rows : List Row) (file : List ℕ) (rest : List ℕ) (so_far : Progress) (walker : Stage) : Type 0 where
-  pub taken : List ℕ
+pub record Follows (rows : List Row) (file : List ℕ) (rest : List ℕ) (so_far : Progress) (walker : Walking) : Type 0 where
   pub told : List Event
-  pub parts : file ≡ taken ++ rest
-  pub is_told : Told taken told walker
-  pub goes : GoesOn told (events_of (chunks_of file))
+  pub walk : HasTold file rest told walker
   pub all_data : AreAll told rest (events_of (chunks_of file))
   pub progress : so_far ≡ after_events rows at_start told
 
@@ -39,12 +36,10 @@ pub record IsRefusedEarly (rows : List Row) (file : List ℕ) (so_far : Progress
   pub progress : so_far ≡ after_events rows at_start told
   pub refused : IsTrue (is_refused so_far.place)
 
--- all events of the file were told, and the walker took what settles its end
-pub record IsToldWhole (rows : List Row) (file : List ℕ) (so_far : Progress) (walker : Stage) : Type 0 where
-  pub taken : List ℕ
-  pub is_told : Told taken (events_of (chunks_of file)) walker
-  pub same_end : (chunks_in_all taken).tail ≡ (chunks_in_all file).tail
+-- all events of the file were told
+pub record IsToldWhole (rows : List Row) (file : List ℕ) (so_far : Progress) (walker : Walking) : Type 0 where
+  pub walk : HasToldAll file walker
   pub progress : so_far ≡ after_events rows at_start (events_of (chunks_of file))
 
-abbrev pub IsWalked : List Row → List ℕ → Progress → Stage → Type 0
+abbrev pub IsWalked : List Row → List ℕ → Progress → Walking → Type 0
 IsWalked rows file so_far walker = IsRefusedEarly rows file so_far ⊎ IsToldWhole rows file so_far walker

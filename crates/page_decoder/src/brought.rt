@@ -2,7 +2,7 @@
 ghost use Rattle.std.specs.Prelude.{◌≡◌, [], Option, None, Some, IfOk, OnOk, OnErr};
 ghost use Rattle.std.specs.Arc.{arc_value};
 ghost use Rattle.jb2_records.specs.Reader.{Fed};
-ghost use Rattle.jb2_numbers.specs.Number.{ticked};
+ghost use Rattle.djvu_base.specs.Meter.{TicksExactly};
 ghost use Rattle.layer_compose.specs.declared.layers.Layers.{Layers};
 ghost use Rattle.page_decoder.specs.Reading.{info_came, mask_from, mask_input, data_came};
 ghost use Rattle.page_decoder.specs.Found.{CanDraw, CanDrawLast};
@@ -75,7 +75,7 @@ pub fn bring<M: Meter>(
     requires { CanDrawLast layers.now }
     ensures came { IfOk result (λ brought. IsBrought (data_came (arc_value table.now) is_whole layers.now id bytes.now) layers.now brought) }
     ensures drawable { IfOk result (λ brought. CanDrawLast (laid layers.now brought)) }
-    ensures ticks { OnOk result (M.count meter.new ≡ ticked (data_came (arc_value table.now) is_whole layers.now id bytes.now).decisions (M.count meter.old)) }
+    ensures ticks { OnOk result (TicksExactly (data_came (arc_value table.now) is_whole layers.now id bytes.now).decisions (M.count meter.old) (M.count meter.new)) }
     ensures no_ticks { OnErr result (M.count meter.new ≡ M.count meter.old) }
 {
     if is_info(id) {
@@ -114,7 +114,7 @@ fn bring_mask<M: Meter>(
     requires { CanDraw layers.now }
     ensures came { IfOk result (λ brought. IsBrought (mask_from (mask_input (arc_value table.now) bytes.now is_whole layers.now) layers.now) (Some layers.now) brought) }
     ensures drawable { IfOk result (λ brought. CanDrawLast (laid (Some layers.now) brought)) }
-    ensures ticks { OnOk result (M.count meter.new ≡ ticked (mask_from (mask_input (arc_value table.now) bytes.now is_whole layers.now) layers.now).decisions (M.count meter.old)) }
+    ensures ticks { OnOk result (TicksExactly (mask_from (mask_input (arc_value table.now) bytes.now is_whole layers.now) layers.now).decisions (M.count meter.old) (M.count meter.new)) }
     ensures no_ticks { OnErr result (M.count meter.new ≡ M.count meter.old) }
 {
     let mut reader = fed_reader(alloc, table, layers, bytes, is_whole)?;

@@ -3,26 +3,24 @@
 //! A walker tells the events of the page's file. A header is judged when it comes, and a chunk's data at the chunk's end,
 //! or where the file ends: so data are decoded once, with all bytes of them that there are. `read_page` is the call.
 //!
-//! `specs/` has the definitions: `Reading` (the reading of a page), `Ends` (where files and pages end), `Found` (how the
-//! code's answer stands to a reading) and `Worked` (files whose readings are worked out). The others say how the code goes:
-//! `Progress` (the reading, event by event), `Walk` (a walk over all events) and `Brought` (what the code keeps).
+//! `reading` has that call, `walk` goes over the events, `places` judges headers, `brought` decodes data, and `drawings` keeps
+//! layers and notices; `page` has the rules on kinds, headers and sizes, and `ends` where a page ends.
+//!
+//! `specs/` has the definitions: `Reading` (the reading of a page), `Ends` (where a page ends), `Found` (how the code's answer
+//! stands to a reading) and `Worked` (files whose readings are worked out). The others say how the code goes: `Progress` (the
+//! reading, event by event), `Walk` (a walk over all events) and `Brought` (what the code keeps). `laws` has what holds of the
+//! definitions alone.
 #![tactic(auto)]
 
 mod brought;
 mod drawings;
 mod ends;
-mod laws;
+pub mod laws;
 mod page;
 mod places;
 mod reading;
-mod slices;
-#[cfg(test)]
-mod tests;
 mod walk;
-mod worked;
 
-pub use ends::{FileEnd, PageEnd, ended_so, is_quiet};
-pub use laws::{by_events, growth};
+pub use ends::PageEnd;
 pub use page::Size;
 pub use reading::{Drawn, PageReading, read_page};
-pub use worked::{worked_masks, worked_orders, worked_readings, worked_sizes};

@@ -1,9 +1,12 @@
 //! What is wrong with a page, by its FORM's kind, by a chunk's header, and by its size.
 ghost use Rattle.std.specs.Prelude.{◌≡◌, ◌*◌, ◌<◌, ◌≤◌, None, length};
-ghost use Rattle.page_decoder.specs.Reading.{area_limit, kind_fault, header_fault, size_fault, size_in, is_info, is_mask, is_one_of};
+ghost use Rattle.bit_plane.specs.Pixels.{area_limit};
+ghost use Rattle.page_decoder.specs.Reading.{kind_fault, header_fault, size_fault, size_in, is_info, is_mask};
+ghost use Rattle.djvu_base.specs.Name.{is_listed};
 
 use byteorder::{BigEndian, ByteOrder};
 use djvu_base::FaultKind;
+use iff_chunks::is_refused;
 
 /// The largest page, in pixels.
 const AREA_LIMIT: u32 = 67_108_864;
@@ -11,10 +14,8 @@ const AREA_LIMIT: u32 = 67_108_864;
 /// Kinds of a FORM that are no pages, but of which it is known what they are.
 const OTHER_KINDS: [[u8; 4]; 4] = [*b"DJVM", *b"PM44", *b"BM44", *b"THUM"];
 
-/// Chunks that aren't read.
-const UNREAD_IDS: [[u8; 4]; 9] = [
-    *b"DIRM", *b"FGbz", *b"Smmr", *b"BGjp", *b"FGjp", *b"INCL", *b"Djbz", *b"FG44", *b"BG44",
-];
+/// Chunks that aren't built yet.
+const UNBUILT_IDS: [[u8; 4]; 4] = [*b"INCL", *b"Djbz", *b"FG44", *b"BG44"];
 
 /// Width and height, in pixels.
 #[derive(Clone, Copy, Debug, PartialEq, Eq)]
@@ -29,7 +30,7 @@ pub fn kind_fault(kind: [u8; 4]) -> Option<FaultKind>
 {
     if kind.as_slice() == b"DJVU".as_slice() {
         None
-    } else if is_one_of(&OTHER_KINDS, kind) {
+    } else if is_listed(&OTHER_KINDS, kind) {
         Some(FaultKind::Unsupported)
     } else {
         Some(FaultKind::WrongForm)
@@ -44,7 +45,7 @@ pub fn header_fault(is_first: bool, has_mask: bool, id: [u8; 4], length: u32) ->
         Some(FaultKind::NoInfo)
     } else if !is_first && is_info(id) {
         Some(FaultKind::SecondInfo)
-    } else if is_one_of(&UNREAD_IDS, id) {
+    } else if is_refused(id) || is_listed(&UNBUILT_IDS, id) {
         Some(FaultKind::Unsupported)
     } else if is_mask(id) && has_mask {
         Some(FaultKind::SecondMask)
@@ -69,8 +70,8 @@ pub fn is_mask(id: [u8; 4]) -> bool
     id.as_slice() == b"Sjbz".as_slice()
 }
 
-fn is_one_of(names: &[[u8; 4]], name: [u8; 4]) -> bool
-    ensures { result ≡ is_one_of names.now name }
+fn is_listed(names: &[[u8; 4]], name: [u8; 4]) -> bool
+    ensures { result ≡ is_listed names.now name }
 {
     names
         .iter()

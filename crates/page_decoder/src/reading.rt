@@ -1,19 +1,20 @@
 //! The reading of a page.
 ghost use Rattle.std.specs.Prelude.{◌≡◌, ℕ, ◌<◌, ◌≤◌, ◌^◌, false, IfOk, OnOk, OnErr, length};
 ghost use Rattle.std.specs.Arc.{arc_value};
-ghost use Rattle.jb2_numbers.specs.Number.{ticked};
+ghost use Rattle.djvu_base.specs.Meter.{TicksExactly, TicksAtMost};
 ghost use Rattle.iff_chunks.specs.Start.{start_of};
 ghost use Rattle.iff_chunks.specs.Chunks.{magic};
 ghost use Rattle.page_decoder.specs.Reading.{reading, place_of, at_end, cut_chunk, data_came};
-ghost use Rattle.page_decoder.specs.Ends.{mark_of, ending};
+ghost use Rattle.djvu_base.specs.Library.{mark_of};
+ghost use Rattle.page_decoder.specs.Ends.{ending};
 ghost use Rattle.page_decoder.specs.Progress.{rest_at};
 ghost use Rattle.page_decoder.specs.Found.{CanDrawLast, IsReading};
 
 use crate::brought::bring;
-use crate::ends::{FileEnd, PageEnd, ended_so};
+use crate::ends::{PageEnd, end_of_file};
 use crate::places::{Head, Place};
 use crate::walk::{Progress, walk};
-use djvu_base::{FaultKind, Items, Meter};
+use djvu_base::{FaultKind, FileEnd, Items, Meter};
 use iff_chunks::Walker;
 use layer_compose::Layers;
 use std::alloc::{AllocError, Global};
@@ -51,12 +52,12 @@ pub fn read_page<M: Meter>(
     requires { length bytes.now < 2 ^ 32 }
     ensures reading { IfOk result (λ found. IsReading (reading (arc_value table.now) (mark_of end) bytes.now) found) }
     ensures drawable { IfOk result (λ found. CanDrawLast found.layers) }
-    ensures ticks { OnOk result (M.count meter.new ≡ ticked (reading (arc_value table.now) (mark_of end) bytes.now).decisions (M.count meter.old)) }
-    ensures at_most { OnErr result ((ticks : ℕ) × (ticks ≤ (reading (arc_value table.now) (mark_of end) bytes.now).decisions) × (M.count meter.new ≡ ticked ticks (M.count meter.old))) }
+    ensures ticks { OnOk result (TicksExactly (reading (arc_value table.now) (mark_of end) bytes.now).decisions (M.count meter.old) (M.count meter.new)) }
+    ensures at_most { OnErr result (TicksAtMost (reading (arc_value table.now) (mark_of end) bytes.now).decisions (M.count meter.old) (M.count meter.new)) }
 {
     let mut walker = Walker::new();
     let (so_far, told) = walk(alloc, table, &mut walker, bytes, meter)?;
-    let last = ended_so(walker.end(), end, bytes.len() as u32);
+    let last = end_of_file(walker.finish(end, bytes.len() as u32));
     let rest = rest_end(
         alloc,
         table,
@@ -86,7 +87,7 @@ fn rest_end<M: Meter>(
 ) -> Result<PageEnd, AllocError>
     requires { CanDrawLast so_far.now.page.layers }
     ensures end { IfOk result (λ end. ending end ≡ (rest_at (arc_value table.now) origin so_far.now.place bytes.now so_far.now.page.chunks so_far.now.page.layers (ending last)).end) }
-    ensures ticks { OnOk result (M.count meter.new ≡ ticked (rest_at (arc_value table.now) origin so_far.now.place bytes.now so_far.now.page.chunks so_far.now.page.layers (ending last)).decisions (M.count meter.old)) }
+    ensures ticks { OnOk result (TicksExactly (rest_at (arc_value table.now) origin so_far.now.place bytes.now so_far.now.page.chunks so_far.now.page.layers (ending last)).decisions (M.count meter.old) (M.count meter.new)) }
     ensures no_ticks { OnErr result (M.count meter.new ≡ M.count meter.old) }
 {
     match so_far.place {
@@ -122,7 +123,7 @@ fn cut_end<M: Meter>(
 ) -> Result<PageEnd, AllocError>
     requires { CanDrawLast layers.now }
     ensures end { IfOk result (λ end. ending end ≡ (cut_chunk (data_came (arc_value table.now) false layers.now head.id bytes.now) head.offset (ending last)).end) }
-    ensures ticks { OnOk result (M.count meter.new ≡ ticked (cut_chunk (data_came (arc_value table.now) false layers.now head.id bytes.now) head.offset (ending last)).decisions (M.count meter.old)) }
+    ensures ticks { OnOk result (TicksExactly (cut_chunk (data_came (arc_value table.now) false layers.now head.id bytes.now) head.offset (ending last)).decisions (M.count meter.old) (M.count meter.new)) }
     ensures no_ticks { OnErr result (M.count meter.new ≡ M.count meter.old) }
 {
     let brought = bring(alloc, table, layers, head.id, bytes, false, meter)?;

@@ -4,7 +4,7 @@ ghost use Rattle.std.specs.Arc.{arc_value};
 ghost use Rattle.iff_chunks.specs.Chunks.{chunks_of};
 ghost use Rattle.iff_chunks.specs.Events.{events_of};
 ghost use Rattle.iff_chunks.specs.Told.{Told};
-ghost use Rattle.jb2_numbers.specs.Number.{ticked};
+ghost use Rattle.djvu_base.specs.Meter.{TicksExactly, TicksAtMost};
 ghost use Rattle.page_decoder.specs.Reading.{data_came, mask_in};
 ghost use Rattle.page_decoder.specs.Found.{CanDrawLast};
 ghost use Rattle.page_decoder.specs.Progress.{Done, ended, after_end, after_header, told_bytes, after_step, after_events, at_start, progress, end_decisions, step_decisions};
@@ -12,11 +12,9 @@ ghost use Rattle.page_decoder.specs.Brought.{IsPage, IsProgress, Walked, open_co
 
 use crate::brought::{Brought, bring};
 use crate::drawings::Page;
-use crate::ends::is_quiet;
 use crate::places::{Head, Place};
-use crate::slices::{behind, first};
 use djvu_base::Meter;
-use iff_chunks::{WalkStep, Walker};
+use iff_chunks::{WalkStep, Walker, first, rest_of};
 use std::alloc::{AllocError, Global};
 use std::sync::Arc;
 use zp_table::Table;
@@ -40,7 +38,7 @@ pub fn walk<'a, M: Meter>(
     requires fresh { Told [] [] walker.old }
     requires size { length file.now < 2 ^ 32 }
     ensures walked { IfOk result (λ walked. Walked (arc_value table.now) file.now walked.0.place walked.1.now walked.0.page walker.new (M.count meter.old) (M.count meter.new)) }
-    ensures at_most { OnErr result ((ticks : ℕ) × (ticks ≤ (after_events (arc_value table.now) at_start (events_of (chunks_of file.now))).done.decisions) × (M.count meter.new ≡ ticked ticks (M.count meter.old))) }
+    ensures at_most { OnErr result (TicksAtMost ((after_events (arc_value table.now) at_start (events_of (chunks_of file.now))).done.decisions) (M.count meter.old) (M.count meter.new)) }
 {
     let mut so_far = Progress {
         place: Place::Before,
@@ -50,12 +48,12 @@ pub fn walk<'a, M: Meter>(
     let mut rest = file;
     while !so_far.place.is_refused() {
         let (used, step) = walker.feed(rest);
-        if is_quiet(step) {
+        if !step.is_event() {
             return Ok((so_far, bytes));
         }
         so_far = after_step(alloc, table, so_far, bytes, step, meter)?;
         bytes = told_bytes(step, bytes, first(rest, used));
-        rest = behind(rest, used);
+        rest = rest_of(rest, used);
     }
     Ok((so_far, bytes))
 }
@@ -83,8 +81,8 @@ fn after_step<M: Meter>(
     requires room { so_far.page.chunks + open_count so_far.place < 2 ^ 32 }
     requires drawable { CanDrawLast so_far.page.layers }
     ensures next { IfOk result (λ next. (done : Done) (used : List ℕ) → IsPage done so_far.page → IsProgress (after_step (arc_value table.now) (progress so_far.place bytes.now done) step used) next.place next.page) }
-    ensures ticks { OnOk result (M.count meter.new ≡ ticked (step_decisions (arc_value table.now) so_far.place bytes.now so_far.page.layers step) (M.count meter.old)) }
-    ensures at_most { OnErr result ((ticks : ℕ) × (ticks ≤ step_decisions (arc_value table.now) so_far.place bytes.now so_far.page.layers step) × (M.count meter.new ≡ ticked ticks (M.count meter.old))) }
+    ensures ticks { OnOk result (TicksExactly (step_decisions (arc_value table.now) so_far.place bytes.now so_far.page.layers step) (M.count meter.old) (M.count meter.new)) }
+    ensures at_most { OnErr result (TicksAtMost (step_decisions (arc_value table.now) so_far.place bytes.now so_far.page.layers step) (M.count meter.old) (M.count meter.new)) }
 {
     let Progress { place, page } = so_far;
     match step {
@@ -129,8 +127,8 @@ fn after_end<M: Meter>(
     requires room { page.chunks + open_count place < 2 ^ 32 }
     requires drawable { CanDrawLast page.layers }
     ensures next { IfOk result (λ next. (done : Done) → IsPage done page → IsProgress (after_end (arc_value table.now) place bytes.now done) next.place next.page) }
-    ensures ticks { OnOk result (M.count meter.new ≡ ticked (end_decisions (arc_value table.now) place bytes.now page.layers) (M.count meter.old)) }
-    ensures at_most { OnErr result ((ticks : ℕ) × (ticks ≤ end_decisions (arc_value table.now) place bytes.now page.layers) × (M.count meter.new ≡ ticked ticks (M.count meter.old))) }
+    ensures ticks { OnOk result (TicksExactly (end_decisions (arc_value table.now) place bytes.now page.layers) (M.count meter.old) (M.count meter.new)) }
+    ensures at_most { OnErr result (TicksAtMost (end_decisions (arc_value table.now) place bytes.now page.layers) (M.count meter.old) (M.count meter.new)) }
 {
     match place {
         Place::Within(head) => end_chunk(alloc, table, head, page, bytes, meter),
@@ -150,8 +148,8 @@ fn end_chunk<M: Meter>(
     requires room { page.chunks + 1 < 2 ^ 32 }
     requires drawable { CanDrawLast page.layers }
     ensures next { IfOk result (λ next. (done : Done) → IsPage done page → IsProgress (ended head (data_came (arc_value table.now) true done.layers head.id bytes.now) bytes.now done) next.place next.page) }
-    ensures ticks { OnOk result (M.count meter.new ≡ ticked (data_came (arc_value table.now) true page.layers head.id bytes.now).decisions (M.count meter.old)) }
-    ensures at_most { OnErr result ((ticks : ℕ) × (ticks ≤ (data_came (arc_value table.now) true page.layers head.id bytes.now).decisions) × (M.count meter.new ≡ ticked ticks (M.count meter.old))) }
+    ensures ticks { OnOk result (TicksExactly (data_came (arc_value table.now) true page.layers head.id bytes.now).decisions (M.count meter.old) (M.count meter.new)) }
+    ensures at_most { OnErr result (TicksAtMost (data_came (arc_value table.now) true page.layers head.id bytes.now).decisions (M.count meter.old) (M.count meter.new)) }
 {
     match bring(alloc, table, &page.layers, head.id, bytes, true, meter)? {
         Brought::Fault(kind) => Ok(Progress {

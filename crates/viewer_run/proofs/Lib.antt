@@ -4,7 +4,6 @@ pub mod Showing
 pub mod Parts
 pub mod Rows
 pub mod Ticking
-pub mod Walks
 pub mod Starting
 pub mod Running
 pub mod Working

@@ -1,16 +1,16 @@
 -- The text of `info`, read off the chunks of a file alone. No decision is read.
-use Rattle.std.specs.Prelude.{ℕ, true, false, ◌≡◌, ◌++◌, List, [], length, Option, Some, None}
+use Rattle.std.specs.Prelude.{ℕ, true, false, ◌≡◌, ◌++◌, List, [], Option, Some, None}
 use Rattle.std.specs.List.{flat_map}
 use Rattle.djvu_base.specs.Library.{File, Mark}
 use Rattle.iff_chunks.specs.declared.walker.WalkStep.{WalkStep}
 use Rattle.iff_chunks.specs.declared.walker.WalkStep.TheVariants as step
-use Rattle.iff_chunks.specs.declared.stages.Stage.{Stage}
-use Rattle.iff_chunks.specs.Chunks.{Form, Chunk, Chunks, Tail, InHead, InHeader, InData, InPad, FormEnd, Broken, chunks_of, chunks_in_all}
-use Rattle.iff_chunks.specs.Events.{Event, Begun, Header, Data, ChunkEnd, events_of, GoesOn}
-use Rattle.iff_chunks.specs.Told.{Told}
+use Rattle.iff_chunks.specs.Chunks.{Form, Chunk, Chunks, Tail, InHead, InHeader, InData, InPad, FormEnd, Broken, chunks_of}
+use Rattle.iff_chunks.specs.Events.{Event, Begun, Header, Data, ChunkEnd, events_of}
+use Rattle.iff_chunks.specs.Ends.{file_end}
+use Rattle.iff_chunks.specs.Told.{Walking}
+use Rattle.iff_chunks.specs.Walk.{HasTold, HasToldAll}
 use Rattle.viewer_words.specs.Lines.{form_line, chunk_line}
 use Rattle.viewer_run.specs.Texts.{Texts, page_fault}
-use Rattle.page_decoder.specs.Reading.{closed}
 
 abbrev pub form_lines : List ℕ → Option Form → List ℕ
 form_lines name None = []
@@ -45,7 +45,7 @@ with_headings lines texts = record { out = texts.out; report = lines ++ texts.re
 
 -- the FORM, the chunks and the fault of form of a file, by what is known of its end
 abbrev pub info_report : List ℕ → Mark → List ℕ → Texts
-info_report name mark bytes = with_headings (heading_lines name (chunks_of bytes)) (fault_text name (closed mark (length bytes) (chunks_of bytes).whole (chunks_of bytes).tail))
+info_report name mark bytes = with_headings (heading_lines name (chunks_of bytes)) (fault_text name (file_end mark bytes))
 
 abbrev pub info_of_file : File → Texts
 info_of_file file = info_report file.name file.mark file.bytes
@@ -70,17 +70,12 @@ step_line name step.FormEnd = []
 step_line name (step.Broken kind offset) = []
 
 -- the walker told these events of the file, of which these are the lines, and this is the rest of it
-pub record Informs (file rest name lines : List ℕ) (walker : Stage) : Type 0 where
-  pub taken : List ℕ
+pub record Informs (file rest name lines : List ℕ) (walker : Walking) : Type 0 where
   pub told : List Event
-  pub parts : file ≡ taken ++ rest
-  pub is_told : Told taken told walker
-  pub goes : GoesOn told (events_of (chunks_of file))
+  pub walk : HasTold file rest told walker
   pub lines_so : lines ≡ event_lines name told
 
--- all events of the file were told, and the walker took what settles its end
-pub record InformsWhole (file name lines : List ℕ) (walker : Stage) : Type 0 where
-  pub taken : List ℕ
-  pub is_told : Told taken (events_of (chunks_of file)) walker
-  pub same_end : (chunks_in_all taken).tail ≡ (chunks_in_all file).tail
+-- all events of the file were told
+pub record InformsWhole (file name lines : List ℕ) (walker : Walking) : Type 0 where
+  pub walk : HasToldAll file walker
   pub lines_so : lines ≡ event_lines name (events_of (chunks_of file))

@@ -2,13 +2,11 @@
 ghost use Rattle.std.specs.Prelude.{◌≡◌, ◌<◌, ◌^◌, IfOk, [], length};
 ghost use Rattle.iff_chunks.specs.Told.{Told};
 ghost use Rattle.viewer_run.specs.Info.{info_report, step_line, InformsWhole};
-ghost use Rattle.page_decoder.specs.Ends.{mark_of};
+ghost use Rattle.djvu_base.specs.Library.{mark_of};
 
-use crate::slices::behind;
 use crate::texts::own_fault;
-use djvu_base::Name;
-use iff_chunks::{WalkStep, Walker};
-use page_decoder::{FileEnd, PageEnd, ended_so, is_quiet};
+use djvu_base::{FileEnd, Name};
+use iff_chunks::{WalkEnd, WalkStep, Walker, rest_of};
 use std::alloc::{AllocError, Global};
 use viewer_words::{chunk_line, form_line};
 
@@ -34,8 +32,7 @@ pub fn info_of(
 {
     let mut walker = Walker::new();
     let mut lines = headings(alloc, name, &mut walker, bytes)?;
-    let last = ended_so(walker.end(), end, bytes.len() as u32);
-    let PageEnd::Refused { kind, offset } = last else {
+    let WalkEnd::Broken { kind, offset } = walker.finish(end, bytes.len() as u32) else {
         return Ok(InfoText {
             lines,
             refused: false,
@@ -63,12 +60,12 @@ fn headings(
     let mut rest = file;
     loop {
         let (used, step) = walker.feed(rest);
-        if is_quiet(step) {
+        if !step.is_event() {
             return Ok(lines);
         }
         let line = step_line(alloc, name, step)?;
         lines.extend_from_slice(line.as_slice())?;
-        rest = behind(rest, used);
+        rest = rest_of(rest, used);
     }
 }
 

@@ -18,7 +18,6 @@ mod lines;
 mod pages;
 mod put;
 mod read;
-mod slices;
 mod stop;
 mod tables;
 #[cfg(test)]

@@ -8,13 +8,7 @@
 
 mod decoder;
 mod interval;
-mod laws;
+pub mod laws;
 mod steps;
-#[cfg(test)]
-mod tests;
 
 pub use decoder::{Decision, ZpDecoder};
-pub use laws::{
-    decisions_end, decisions_stay_within, decoders_are_fed, flat_inverts_bits,
-    more_bytes_change_nothing, worked_decisions,
-};

@@ -6,15 +6,12 @@
 #![tactic(auto)]
 
 mod faults;
-mod laws;
+pub mod laws;
 mod listing;
 mod reading;
 mod rows;
 mod table;
-#[cfg(test)]
-mod tests;
 
 pub use faults::{TableError, TableFault, TableWhy};
-pub use laws::{tables_read, worked_listing, worked_reading};
 pub use rows::Row;
 pub use table::Table;

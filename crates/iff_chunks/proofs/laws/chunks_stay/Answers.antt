@@ -13,5 +13,8 @@ returns-clause-form c bytes more form e = (chunks_stay bytes more).form form e
 pub returns-clause-whole : goal.returns-clause-whole
 returns-clause-whole c bytes more = ((chunks_stay bytes more).later, (chunks_stay bytes more).chunks)
 
+pub returns-clause-open : goal.returns-clause-open
+returns-clause-open c bytes more chunk e = (chunks_stay bytes more).open_ chunk e
+
 pub returns-clause-events : goal.returns-clause-events
 returns-clause-events c bytes more = (chunks_stay bytes more).events

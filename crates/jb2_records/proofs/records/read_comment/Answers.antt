@@ -1,6 +1,6 @@
 use Rattle.std.proofs.lemmas.Result.{err_from_is_err_and}
 use Rattle.std.proofs.Common.{◌≡◌, ◌<◌, ◌-◌, ap, ◌∙◌, to_z, of_z, w64, rules, arith}
-use Rattle.jb2_shapes.specs.Refined.{unsigned}
+use Rattle.bit_plane.specs.Ink.{unsigned}
 use Rattle.jb2_records.specs.Reading.{read_comment}
 use Rattle.jb2_records.proofs.Texting.{text_first, text_next, text_halts, text_ends, exit_text}
 use Rattle.jb2_records.proofs.records.read_comment.Goals as goal

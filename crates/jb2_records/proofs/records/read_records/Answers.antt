@@ -1,4 +1,5 @@
-use Rattle.std.proofs.Common.{sym, subst, ◌∙◌}
+use Rattle.std.proofs.Common.{length, sym, subst, ◌∙◌}
+use Rattle.djvu_base.proofs.Ticks.{saturated_once}
 use Rattle.jb2_records.specs.declared.stops.Stop.{Stop}
 use Rattle.jb2_records.specs.Reading.{read_record}
 use Rattle.jb2_records.specs.Telling.{Halts}
@@ -20,14 +21,14 @@ pub records-preserved : goal.records-preserved
 records-preserved c task begun =
     let all = c.records.invariant task begun in
     goes_next task c.records.coder c.read_record.new.coder c.records.scene c.read_record.new.scene c.records.units c.saturating_add-units.result all (is_end_type c.in-Ok.kind)
-    (c.in-Ok.ensures task all.before all.at all.stands all.shows) (sym c.is_end_type.ensures ∙ c.if-is_end_type.false) c.saturating_add-units.ensures
+    (c.in-Ok.ensures task all.before all.at all.stands all.shows) (sym c.is_end_type.ensures ∙ c.if-is_end_type.false) (saturated_once (length all.before) c.records.units c.saturating_add-units.result all.count c.saturating_add-units.ensures)
 
 pub returns-then-is_end_type : goal.returns-then-is_end_type
 returns-then-is_end_type c task begun =
     let all = c.records.invariant task begun in
     end_all task c.records.coder c.read_record.new.coder c.records.scene c.read_record.new.scene c.records.units c.saturating_add-units.result all
     (subst (λ b. Adds task all.before (read_record (input_for task) all.before all.at) b c.read_record.new.coder c.read_record.new.scene) (sym c.is_end_type.ensures ∙ c.if-is_end_type.true)
-    (c.in-Ok.ensures task all.before all.at all.stands all.shows)) c.saturating_add-units.ensures
+    (c.in-Ok.ensures task all.before all.at all.stands all.shows)) (saturated_once (length all.before) c.records.units c.saturating_add-units.result all.count c.saturating_add-units.ensures)
 
 pub returns-in-Err-NeedBytes : goal.returns-in-Err-NeedBytes
 returns-in-Err-NeedBytes c task begun =

@@ -1,9 +1,9 @@
 use Rattle.std.proofs.Common.{◌≡◌, List, ℕ, Some, sym, ap, ◌∙◌, subst}
 use Rattle.std.specs.Arc.{arc_value}
 use Rattle.bit_plane.specs.Pixels.{Pixels}
-use Rattle.jb2_numbers.specs.Number.{ticked}
+use Rattle.djvu_base.specs.Meter.{ticked}
 use Rattle.jb2_records.specs.declared.reader.Jb2Step.TheVariants as answer
-use Rattle.jb2_records.specs.Reader.{input_of, counted}
+use Rattle.jb2_records.specs.Reader.{input_of}
 use Rattle.jb2_records.specs.Reading.{records_of}
 use Rattle.page_decoder.specs.declared.brought.Brought.TheVariants as brought
 use Rattle.page_decoder.specs.Reading.{mask_input, mask_from}
@@ -36,8 +36,8 @@ returns-in-Finished-clause-ticks g c =
     let f = c.in_ok-reader.ensures in
     let input = mask_input rows bytes c.args.is_whole layers in
     let same : input_of reader bytes ≡ input = input_same rows bytes c.args.is_whole layers reader f.table f.inherited f.width f.height f.end in
-    let some : c.advance.new.self.decisions ≡ counted (records_of input).decisions = c.in-Finished.ensures.decisions bytes f.fed (λ h. cc) ∙ ap (λ i. counted (records_of i).decisions) same in
-    reader_ticks c.advance.new.self.decisions reader.decisions (records_of input).decisions (g.M.Meter.count c.advance.new.meter) (g.M.Meter.count c.args.meter.now) f.decisions some c.advance.ensures.ticks
+    let some : c.advance.new.self.decisions ≡ ticked (records_of input).decisions 0 = c.in-Finished.ensures.decisions bytes f.fed (λ h. cc) ∙ ap (λ i. ticked (records_of i).decisions 0) same in
+    reader_ticks c.advance.new.self.decisions reader.decisions (records_of input).decisions (g.M.Meter.count c.args.meter.now) (g.M.Meter.count c.advance.new.meter) f.decisions some c.advance.ensures.ticks
     ∙ ap (λ n. ticked n (g.M.Meter.count c.args.meter.now)) (sym (mask_counts input layers))
 
 pub returns-in-NeedBytes-clause-ticks : goal.returns-in-NeedBytes-clause-ticks
@@ -49,8 +49,8 @@ returns-in-NeedBytes-clause-ticks g c =
     let f = c.in_ok-reader.ensures in
     let input = mask_input rows bytes c.args.is_whole layers in
     let same : input_of reader bytes ≡ input = input_same rows bytes c.args.is_whole layers reader f.table f.inherited f.width f.height f.end in
-    let some : c.advance.new.self.decisions ≡ counted (records_of input).decisions = c.in-NeedBytes.ensures.decisions bytes f.fed (λ h. cc) ∙ ap (λ i. counted (records_of i).decisions) same in
-    reader_ticks c.advance.new.self.decisions reader.decisions (records_of input).decisions (g.M.Meter.count c.advance.new.meter) (g.M.Meter.count c.args.meter.now) f.decisions some c.advance.ensures.ticks
+    let some : c.advance.new.self.decisions ≡ ticked (records_of input).decisions 0 = c.in-NeedBytes.ensures.decisions bytes f.fed (λ h. cc) ∙ ap (λ i. ticked (records_of i).decisions 0) same in
+    reader_ticks c.advance.new.self.decisions reader.decisions (records_of input).decisions (g.M.Meter.count c.args.meter.now) (g.M.Meter.count c.advance.new.meter) f.decisions some c.advance.ensures.ticks
     ∙ ap (λ n. ticked n (g.M.Meter.count c.args.meter.now)) (sym (mask_counts input layers))
 
 pub returns-in-Refused-clause-ticks : goal.returns-in-Refused-clause-ticks
@@ -62,6 +62,6 @@ returns-in-Refused-clause-ticks g c =
     let f = c.in_ok-reader.ensures in
     let input = mask_input rows bytes c.args.is_whole layers in
     let same : input_of reader bytes ≡ input = input_same rows bytes c.args.is_whole layers reader f.table f.inherited f.width f.height f.end in
-    let some : c.advance.new.self.decisions ≡ counted (records_of input).decisions = c.in-Refused.ensures.decisions bytes f.fed (λ h. cc) ∙ ap (λ i. counted (records_of i).decisions) same in
-    reader_ticks c.advance.new.self.decisions reader.decisions (records_of input).decisions (g.M.Meter.count c.advance.new.meter) (g.M.Meter.count c.args.meter.now) f.decisions some c.advance.ensures.ticks
+    let some : c.advance.new.self.decisions ≡ ticked (records_of input).decisions 0 = c.in-Refused.ensures.decisions bytes f.fed (λ h. cc) ∙ ap (λ i. ticked (records_of i).decisions 0) same in
+    reader_ticks c.advance.new.self.decisions reader.decisions (records_of input).decisions (g.M.Meter.count c.args.meter.now) (g.M.Meter.count c.advance.new.meter) f.decisions some c.advance.ensures.ticks
     ∙ ap (λ n. ticked n (g.M.Meter.count c.args.meter.now)) (sym (mask_counts input layers))

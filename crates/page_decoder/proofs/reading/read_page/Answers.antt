@@ -1,9 +1,11 @@
 use Rattle.std.proofs.Common.{◌≡◌, ◌+◌, ℕ, List, length, refl, ap, sym, subst, ◌∙◌, arith}
 use Rattle.std.specs.Arc.{arc_value}
-use Rattle.jb2_numbers.specs.Number.{ticked}
+use Rattle.djvu_base.specs.Meter.{ticked}
 use Rattle.page_decoder.specs.declared.ends.PageEnd.{PageEnd}
-use Rattle.page_decoder.specs.Reading.{Reading, reading, chunks_place}
-use Rattle.page_decoder.specs.Ends.{mark_of, ended_so, ending}
+use Rattle.page_decoder.specs.Reading.{Reading, ending_of, reading, chunks_place}
+use Rattle.djvu_base.specs.Library.{mark_of}
+use Rattle.iff_chunks.specs.Ends.{tail_of}
+use Rattle.page_decoder.specs.Ends.{ending}
 use Rattle.page_decoder.specs.Found.{IsReading}
 use Rattle.page_decoder.specs.Progress.{progress, rest_at, concluded}
 use Rattle.page_decoder.proofs.Extending.{read_so}
@@ -24,9 +26,9 @@ returns-in_err-rest-clause-at_most g c =
     let file : List ℕ = c.args.bytes.now in
     let found = c.in_ok-so_far in
     let w = found.ensures.walked in
-    let same : reading rows (mark_of c.args.end) file ≡ concluded rows (chunks_place file) (progress found.so_far.place found.told.now w.done) (ending (ended_so c.end.result c.args.end (length file))) =
-    read_so rows file (progress found.so_far.place found.told.now w.done) c.walk.new.walker c.args.end c.end.result w.walked c.end.ensures.all in
-    on_err c.from_residual-in_err-rest.result (w.done.decisions, done_within rows file found.so_far.place found.told.now w.done (reading rows (mark_of c.args.end) file) (ending (ended_so c.end.result c.args.end (length file))) same, c.in_err-rest.ensures.no_ticks ∙ w.counted)
+    let same : reading rows (mark_of c.args.end) file ≡ concluded rows (chunks_place file) (progress found.so_far.place found.told.now w.done) (ending_of (tail_of c.finish.result)) =
+    read_so rows file (progress found.so_far.place found.told.now w.done) c.walk.new.walker c.args.end c.finish.result w.walked c.finish.ensures.ends in
+    on_err c.from_residual-in_err-rest.result (w.done.decisions, done_within rows file found.so_far.place found.told.now w.done (reading rows (mark_of c.args.end) file) (ending_of (tail_of c.finish.result)) same, c.in_err-rest.ensures.no_ticks ∙ w.counted)
 
 pub returns-clause-reading : goal.returns-clause-reading
 returns-clause-reading g c =
@@ -34,9 +36,9 @@ returns-clause-reading g c =
     let file : List ℕ = c.args.bytes.now in
     let found = c.in_ok-so_far in
     let w = found.ensures.walked in
-    let last : PageEnd = c.ended_so-last.result in
+    let last : PageEnd = c.end_of_file-last.result in
     let same : reading rows (mark_of c.args.end) file ≡ concluded rows (chunks_place file) (progress found.so_far.place found.told.now w.done) (ending last) =
-    read_so rows file (progress found.so_far.place found.told.now w.done) c.walk.new.walker c.args.end c.end.result w.walked c.end.ensures.all ∙ ap (λ (l : PageEnd). concluded rows (chunks_place file) (progress found.so_far.place found.told.now w.done) (ending l)) (sym c.ended_so-last.ensures) in
+    read_so rows file (progress found.so_far.place found.told.now w.done) c.walk.new.walker c.args.end c.finish.result w.walked c.finish.ensures.ends ∙ ap (concluded rows (chunks_place file) (progress found.so_far.place found.told.now w.done)) (sym c.end_of_file-last.ensures) in
     let origin : c.form_place.result + 12 ≡ chunks_place file = ap (λ n. n + 12) c.form_place.ensures.place in
     let end = c.in_ok-rest.ensures.end ∙ ap (λ n. (rest_at rows n found.so_far.place found.told.now found.so_far.page.chunks found.so_far.page.layers (ending last)).end) origin in
     subst (λ (r : Reading). IsReading r (record { notices = c.of.result; layers = found.so_far.page.layers; end = c.in_ok-rest.rest })) (sym same)
@@ -48,9 +50,9 @@ returns-clause-ticks g c =
     let file : List ℕ = c.args.bytes.now in
     let found = c.in_ok-so_far in
     let w = found.ensures.walked in
-    let last : PageEnd = c.ended_so-last.result in
+    let last : PageEnd = c.end_of_file-last.result in
     let same : reading rows (mark_of c.args.end) file ≡ concluded rows (chunks_place file) (progress found.so_far.place found.told.now w.done) (ending last) =
-    read_so rows file (progress found.so_far.place found.told.now w.done) c.walk.new.walker c.args.end c.end.result w.walked c.end.ensures.all ∙ ap (λ (l : PageEnd). concluded rows (chunks_place file) (progress found.so_far.place found.told.now w.done) (ending l)) (sym c.ended_so-last.ensures) in
+    read_so rows file (progress found.so_far.place found.told.now w.done) c.walk.new.walker c.args.end c.finish.result w.walked c.finish.ensures.ends ∙ ap (concluded rows (chunks_place file) (progress found.so_far.place found.told.now w.done)) (sym c.end_of_file-last.ensures) in
     let origin : c.form_place.result + 12 ≡ chunks_place file = ap (λ n. n + 12) c.form_place.ensures.place in
     let ticks = c.in_ok-rest.ensures.ticks ∙ ap (λ n. ticked (rest_at rows n found.so_far.place found.told.now found.so_far.page.chunks found.so_far.page.layers (ending last)).decisions (g.M.Meter.count c.walk.new.meter)) origin in
     concluded_counts rows file found.so_far.place found.told.now found.so_far.page last w.done (g.M.Meter.count c.args.meter.now) (g.M.Meter.count c.walk.new.meter) (g.M.Meter.count c.rest_end.new.meter) w.is_page w.counted ticks

@@ -1,6 +1,7 @@
 use Rattle.std.proofs.Common.{◌≤◌, ℕ, List, length, sym, ap, subst, ◌∙◌}
+use Rattle.djvu_base.specs.Meter.{ticked}
 use Rattle.jb2_records.specs.Reading.{records_of}
-use Rattle.jb2_records.specs.Reader.{Masking, Fed, input_of, counted}
+use Rattle.jb2_records.specs.Reader.{Masking, Fed, input_of}
 use Rattle.jb2_records.specs.Holding.{IsDecoded, IsHeld, with_decoded}
 use Rattle.jb2_records.proofs.Feeding.{settled_answer, settled_units, settled_decisions, fed_bytes, fed_held, fed_at_most, held_decoded}
 use Rattle.jb2_records.proofs.reader.MaskReader.advance.Goals as goal
@@ -25,12 +26,12 @@ returns-clause-answer g c payload fed some =
 pub returns-clause-units : goal.returns-clause-units
 returns-clause-units g c payload fed some =
     let here : IsDecoded c.args.self.now c.in-Ok.decoded.answer c.in-Ok.decoded.units c.in-Ok.decoded.decisions c.in-Ok.decoded.mask = c.in-Ok.ensures.decoded in
-    ap (λ (r : Masking). r.units) c.store.ensures ∙ here.entries ∙ ap (λ (l : List ℕ). counted (length (records_of (input_of c.args.self.now l)).records)) (fed_bytes payload c.args.self.now fed)
+    ap (λ (r : Masking). r.units) c.store.ensures ∙ here.entries ∙ ap (λ (l : List ℕ). ticked (length (records_of (input_of c.args.self.now l)).records) 0) (fed_bytes payload c.args.self.now fed)
 
 pub returns-clause-decisions : goal.returns-clause-decisions
 returns-clause-decisions g c payload fed some =
     let here : IsDecoded c.args.self.now c.in-Ok.decoded.answer c.in-Ok.decoded.units c.in-Ok.decoded.decisions c.in-Ok.decoded.mask = c.in-Ok.ensures.decoded in
-    ap (λ (r : Masking). r.decisions) c.store.ensures ∙ here.decided ∙ ap (λ (l : List ℕ). counted (records_of (input_of c.args.self.now l)).decisions) (fed_bytes payload c.args.self.now fed)
+    ap (λ (r : Masking). r.decisions) c.store.ensures ∙ here.decided ∙ ap (λ (l : List ℕ). ticked (records_of (input_of c.args.self.now l)).decisions 0) (fed_bytes payload c.args.self.now fed)
 
 pub returns-clause-fed : goal.returns-clause-fed
 returns-clause-fed g c payload fed =
@@ -50,5 +51,5 @@ returns-clause-at_most g c payload fed =
     let here : IsDecoded c.args.self.now c.in-Ok.decoded.answer c.in-Ok.decoded.units c.in-Ok.decoded.decisions c.in-Ok.decoded.mask = c.in-Ok.ensures.decoded in
     let next : Masking = with_decoded c.args.self.now c.in-Ok.decoded.answer c.in-Ok.decoded.units c.in-Ok.decoded.decisions c.in-Ok.decoded.mask in
     let held : IsHeld next = held_decoded c.args.self.now c.in-Ok.decoded.answer c.in-Ok.decoded.units c.in-Ok.decoded.decisions c.in-Ok.decoded.mask (subst (λ (r : Masking). IsHeld r) c.self.view_is c.self.invariant) here in
-    subst (λ (r : Masking). (r.units ≤ counted (length (records_of (input_of c.args.self.now payload)).records)) × (r.decisions ≤ counted (records_of (input_of c.args.self.now payload)).decisions)) (sym c.store.ensures)
+    subst (λ (r : Masking). (r.units ≤ ticked (length (records_of (input_of c.args.self.now payload)).records) 0) × (r.decisions ≤ ticked (records_of (input_of c.args.self.now payload)).decisions 0)) (sym c.store.ensures)
     (fed_at_most payload next (fed_held payload next held (fed_bytes payload c.args.self.now fed)))

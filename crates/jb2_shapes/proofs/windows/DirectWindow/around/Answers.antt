@@ -1,6 +1,6 @@
 use Rattle.std.proofs.Common.{pos, ◌-ℤ◌, ◌+ℤ◌, ap, refl, add-zero, arith}
 use Rattle.jb2_shapes.specs.Shape.{column_of, row_of}
-use Rattle.jb2_shapes.proofs.Running.{run_at_place}
+use Rattle.bit_plane.proofs.Lemmas.{run_at_place}
 use Rattle.jb2_shapes.proofs.Windowing.{window_around}
 use Rattle.jb2_shapes.proofs.windows.DirectWindow.around.Goals as goal
 

@@ -1,7 +1,7 @@
 use Rattle.std.proofs.Common.{pos, ◌+ℤ◌, ◌-ℤ◌, ap, refl, add-zero, arith}
 use Rattle.std.proofs.lemmas.Int.{ints}
 use Rattle.jb2_shapes.specs.Shape.{column_of, row_of}
-use Rattle.jb2_shapes.proofs.Running.{run_at_place}
+use Rattle.bit_plane.proofs.Lemmas.{run_at_place}
 use Rattle.jb2_shapes.proofs.RefinedWindowing.{refined_around}
 use Rattle.jb2_shapes.proofs.windows.RefinedWindow.around.Goals as goal
 

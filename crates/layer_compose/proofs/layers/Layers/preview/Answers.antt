@@ -21,7 +21,7 @@ returns c =
           ∙ with_items_is c.in_ok-samples.samples w.blacken_steps.new.out size
           ∙ preview_drawn c.args.self.now step across down w.deref_mut.result.now w.blacken_steps.new.out c.div_ceil-width.ensures c.div_ceil-height.ensures full
           (w.deref_mut.ensures.value ∙ white)
-          (preview_masked c.args.self.now w.in-Some.mask step w.deref_mut.result.now w.blacken_steps.new.out w.in-Some.is c.requires.mask w.blacken_steps.ensures)
+          (preview_masked c.args.self.now w.in-Some.mask step w.deref_mut.result.now w.blacken_steps.new.out w.in-Some.is c.requires.drawable.mask w.blacken_steps.ensures)
       | in_default w ↦
           let full : length c.in_ok-samples.samples.items ≡ 3 * across * down = search rules in
           ap (λ v. v.items) w.samples-is

@@ -11,7 +11,7 @@ returns c =
     let whites : c.match-self.black + white_count c.args.self.now ≡ c.args.self.now.width * c.args.self.now.height =
     elim c.match-self.branch [
       | in-Some w ↦
-          let all = others_white c.args.self.now w.in-Some.mask w.in-Some.is c.requires.mask w.black.ensures.whole in
+          let all = others_white c.args.self.now w.in-Some.mask w.in-Some.is c.requires.drawable.mask w.black.ensures.whole in
           ap (λ n. n + white_count c.args.self.now) (w.black-is ∙ w.from-black.ensures ∙ w.black.ensures.value) ∙ all
       | in-None w ↦
           let all = all_white c.args.self.now w.in-None.is in

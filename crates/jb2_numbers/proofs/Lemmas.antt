@@ -1,0 +1,9 @@
+-- What crates above may cite of the proofs here. All else may change with the code.
+-- the three kinds of steps
+pub use Rattle.jb2_numbers.proofs.Stepping.{step_in_implied, step_in_coded, answer_in_coded}
+-- a number that is read lies within its bounds, and when its reading has ended
+pub use Rattle.jb2_numbers.proofs.Ending.{answer_within, read_on-ends}
+-- a reading stays sound, and how one of fewer bytes goes beside one of more
+pub use Rattle.jb2_numbers.proofs.Cutting.{Behind, Turns, Follows, same, waits, stays_behind, never_exhausted, same_bit, knows, implies, codes, turns, follows}
+-- the type of a record has a coded decision
+pub use Rattle.jb2_numbers.proofs.Starting.{type_codes}

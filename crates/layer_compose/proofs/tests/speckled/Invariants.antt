@@ -1,5 +1,0 @@
-use Rattle.std.proofs.Common.{◌≡◌}
-use Rattle.layer_compose.proofs.tests.speckled.Given as goal
-
-abbrev pub invariant-loop-at : goal.invariant-loop-at
-invariant-loop-at l = (l.mask.width ≡ l.width) × (l.mask.height ≡ l.height)

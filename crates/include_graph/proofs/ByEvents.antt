@@ -1,16 +1,16 @@
 -- The outline of a file by the events of its chunks.
-use Rattle.std.proofs.Common.{◌≡◌, ℕ, Bool, true, false, ◌||◌, List, [], ◌∷◌, ◌++◌, Option, Some, None, refl, sym, ap, ◌∙◌, subst, append_assoc, cond}
+use Rattle.std.proofs.Common.{◌≡◌, ℕ, Bool, true, false, ◌||◌, List, [], ◌∷◌, ◌++◌, Option, Some, None, refl, sym, ap, ◌∙◌, append_assoc, cond}
 use Rattle.std.specs.Prelude.{flat_map}
 use Rattle.djvu_base.specs.declared.faults.FaultKind.{FaultKind}
 use Rattle.djvu_base.specs.Library.{Mark}
 use Rattle.iff_chunks.specs.Chunks.{Form, Chunk, Tail, InHead, InHeader, InData, InPad, FormEnd, Broken, chunks_of}
 use Rattle.iff_chunks.specs.Ends.{file_end}
-use Rattle.iff_chunks.specs.Events.{Event, Begun, Header, Data, ChunkEnd, form_events, data_events, open_events, chunk_events, tail_events, events_of}
+use Rattle.iff_chunks.specs.Events.{Event, Header, ChunkEnd, form_events, data_events, open_events, chunk_events, tail_events}
 use Rattle.include_graph.specs.declared.outline.OutlineItem.{OutlineItem}
 use Rattle.include_graph.specs.declared.outline.OutlineItem.TheVariants as item
 use Rattle.include_graph.specs.Included.{kind_fault, chunk_fault, is_dictionary, is_include, include_name}
-use Rattle.include_graph.specs.Outlines.{Items, items_at_end, items_at_tail, items_in, items_of, unless_faulty, chunk_then, named_then, form_fault, outlined}
-use Rattle.include_graph.specs.Reading.{Place, Passing, InInclude, Known, Progress, at_start, with_fault, in_chunk, behind_include, faulty_or, after_event, after_events, at_place, is_known, items_so_far, items_by_events}
+use Rattle.include_graph.specs.Outlines.{Items, items_at_end, items_at_tail, items_in, items_of, unless_faulty, chunk_then, named_then, outlined}
+use Rattle.include_graph.specs.Reading.{Place, Passing, InInclude, Known, Progress, at_start, in_chunk, behind_include, faulty_or, after_event, after_events, items_so_far, items_by_events}
 
 -- these items, and then those
 abbrev after_items : List OutlineItem → Items → Items

@@ -1,5 +1,7 @@
 mod Among
 mod ByEvents
+mod Closing
+mod Feeding
 mod Knowing
 mod Marking
 mod Ordering

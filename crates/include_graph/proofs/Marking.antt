@@ -1,11 +1,10 @@
 -- Marks of files, and what they say of the work that is left.
-use Rattle.std.proofs.Common.{◌≡◌, ◌≢◌, ℕ, zero, suc, ◌+◌, ◌-◌, ◌<◌, ◌≤◌, eqb, Bool, true, false, ◌||◌, List, [], ◌∷◌, ◌++◌, length, map, get_or, set, replicate, Option, Some, None, inl, inr, refl, sym, ap, ◌∙◌, subst, arith}
+use Rattle.std.proofs.Common.{◌≡◌, ◌≢◌, ℕ, zero, suc, ◌+◌, ◌<◌, eqb, Bool, true, false, ◌||◌, List, [], ◌∷◌, ◌++◌, length, set, Option, Some, inl, inr, refl, sym, ap, ◌∙◌, arith}
 use Rattle.std.specs.Prelude.{slice_get, slice_set}
-use Rattle.std.specs.List.{IsDistinct, AllByRecursion, list_any}
-use Rattle.std.proofs.lemmas.Bool.{true≢false, eqb-true, eq-eqb}
+use Rattle.std.specs.List.{IsDistinct, AllByRecursion}
+use Rattle.std.proofs.lemmas.Bool.{eq-eqb}
 use Rattle.std.proofs.lemmas.Bool.Decides.{eqb_tells}
-use Rattle.std.proofs.lemmas.List.{get_or-set_same, get_or-set_other, length-set, get_or-replicate, length-replicate}
-use Rattle.std.proofs.lemmas.List.Folds.{list_any-append}
+use Rattle.std.proofs.lemmas.List.{get_or-set_same, get_or-set_other, length-set}
 use Rattle.std.proofs.lemmas.Option.{slice_get-get_or, get_or_from_slice_get, slice_get_within}
 use Rattle.std.proofs.lemmas.Map.Keys.{IsDistinct-head, IsDistinct-tail}
 use Rattle.std.proofs.lemmas.Map.Steps.{length-le_from_distinct_below}
@@ -15,7 +14,7 @@ use Rattle.include_graph.specs.declared.stack.Mark.{Mark}
 use Rattle.include_graph.specs.declared.stack.Mark.TheVariants as mark
 use Rattle.include_graph.specs.Verdicts.{Graph, is_among, in_list}
 use Rattle.include_graph.specs.Stack.{IsWalk, path_of, mark_by, mark_of, items_known, work_ahead, work_of_files}
-use Rattle.include_graph.proofs.Among.{among_head, among_tail, among_cases, among_append, distinct_with, not_both, by_test}
+use Rattle.include_graph.proofs.Among.{among_head, among_tail, among_cases, among_append, distinct_with}
 
 pub got_set : {A : Type 0} (xs : List A) (i : ℕ) (x : A) → i < length xs → slice_get (slice_set xs i x) i ≡ Some x
 got_set xs i x h = slice_get-get_or (set xs i x) i x (let e = length-set xs i x in omega (arith, h, e)) ∙ ap Some (get_or-set_same xs i x x h)

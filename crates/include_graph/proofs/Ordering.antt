@@ -2,16 +2,14 @@
 use Rattle.std.proofs.Common.{◌≡◌, ℕ, zero, ◌||◌, suc, ◌+◌, ◌<◌, ◌≤◌, eqb, Bool, true, false, List, [], ◌∷◌, ◌++◌, length, Option, Some, None, inl, inr, refl, sym, ap, ◌∙◌, subst, arith, append_assoc, rules}
 use Rattle.std.specs.Prelude.{⊤}
 use Rattle.std.specs.List.{IsDistinct}
-use Rattle.std.proofs.lemmas.Bool.{eqb-true}
 use Rattle.std.proofs.lemmas.Map.Steps.{length-le_from_distinct_below}
 use Rattle.include_graph.specs.declared.outline.Outline.{Outline}
 use Rattle.include_graph.specs.declared.outline.OutlineItem.{OutlineItem}
 use Rattle.include_graph.specs.declared.outline.OutlineItem.TheVariants as item
-use Rattle.include_graph.specs.declared.verdicts.Verdict.{Verdict}
 use Rattle.include_graph.specs.declared.verdicts.Verdict.TheVariants.{Files}
 use Rattle.include_graph.specs.Verdicts.{Graph, Walked, Left, Unknown, Faulty, walk_then, number_of, is_among, at_target, at_include, at_items, at_outline, visit, verdict_by, verdict_of}
 use Rattle.include_graph.specs.Graphs.{IncludesAmong, IsServed, InOrder}
-use Rattle.include_graph.proofs.Among.{not_both, by_test, among_head, among_tail, among_cases, among_left, among_right, not_among_both, among_turned, distinct_with, not_head, number_below}
+use Rattle.include_graph.proofs.Among.{among_head, among_tail, among_cases, among_left, among_right, not_among_both, among_turned, distinct_with, not_head, number_below}
 
 -- where the walk goes on
 abbrev OnLeft : Walked → (List ℕ → Type 0) → Type 0

@@ -1,13 +1,12 @@
 -- Each file of a list in order has itself a list as its verdict.
-use Rattle.std.proofs.Common.{◌≡◌, ℕ, zero, suc, ◌+◌, ◌<◌, ◌≤◌, eqb, Bool, true, false, List, [], ◌∷◌, ◌++◌, length, Option, Some, None, inl, inr, refl, sym, ap, ◌∙◌, subst, arith, append_assoc, length-append, rules}
-use Rattle.include_graph.specs.declared.outline.Outline.{Outline}
+use Rattle.std.proofs.Common.{◌≡◌, ℕ, zero, suc, ◌<◌, Bool, true, false, List, [], ◌∷◌, ◌++◌, length, Option, Some, inl, inr, refl, sym, ap, ◌∙◌, subst, arith, append_assoc, length-append, rules}
 use Rattle.include_graph.specs.declared.outline.OutlineItem.{OutlineItem}
 use Rattle.include_graph.specs.declared.outline.OutlineItem.TheVariants as item
 use Rattle.include_graph.specs.declared.verdicts.Verdict.TheVariants.{Files}
 use Rattle.include_graph.specs.Verdicts.{Graph, Walked, Left, walk_then, number_of, is_among, at_target, at_include, at_items, at_outline, visit, verdict_by, verdict_of}
 use Rattle.include_graph.specs.Graphs.{IncludesAmong, IsServed, InOrder}
 use Rattle.include_graph.proofs.Among.{not_both, by_test, among_cases, not_among_left}
-use Rattle.include_graph.proofs.Ordering.{verdict_order, order_length, order_more}
+use Rattle.include_graph.proofs.Ordering.{verdict_order, order_length}
 
 -- a file of a list in order, and those before it
 record Stands (graph : Graph) (before files : List ℕ) (file : ℕ) : Type 0 where

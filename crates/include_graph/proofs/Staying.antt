@@ -1,17 +1,17 @@
 -- An outline that is known stays, and is known where the file is closed.
-use Rattle.std.proofs.Common.{◌≡◌, ℕ, Bool, true, false, List, [], ◌∷◌, ◌++◌, length, Option, Some, None, refl, sym, ap, ◌∙◌, subst, is_some, cond}
+use Rattle.std.proofs.Common.{◌≡◌, ℕ, Bool, true, false, List, [], ◌∷◌, ◌++◌, length, Some, refl, sym, ap, ◌∙◌, is_some, cond}
 use Rattle.std.proofs.lemmas.Bool.{true≢false}
 use Rattle.djvu_base.specs.declared.faults.FaultKind.{FaultKind}
 use Rattle.djvu_base.specs.declared.faults.FaultKind.TheVariants.{Truncated, Read}
 use Rattle.djvu_base.specs.Library.{Mark, Open, Whole}
 use Rattle.djvu_base.specs.Library as library
-use Rattle.iff_chunks.specs.Chunks.{Chunk, Chunks, Tail, InHead, InHeader, InData, InPad, FormEnd, Broken, chunks_of, end_of}
+use Rattle.iff_chunks.specs.Chunks.{Chunk, Tail, InHead, InHeader, InData, InPad, FormEnd, Broken, chunks_of, end_of}
 use Rattle.iff_chunks.specs.Ends.{is_cut, broken_off, closed, file_end}
 use Rattle.iff_chunks.specs.Events.{Event, Begun, Header, Data, ChunkEnd, events_of, GoesOn}
 use Rattle.include_graph.specs.declared.outline.Outline.{Outline}
 use Rattle.include_graph.specs.declared.outline.OutlineItem.{OutlineItem}
 use Rattle.include_graph.specs.Outlines.{Items, items_at_end, outline_by, outline_of}
-use Rattle.include_graph.specs.Reading.{Place, Passing, InInclude, Known, Progress, at_start, after_event, after_events, at_place, is_known, items_so_far, items_by_events}
+use Rattle.include_graph.specs.Reading.{Place, Passing, InInclude, Known, Progress, at_start, after_event, after_events, is_known, items_so_far, items_by_events}
 use Rattle.include_graph.proofs.ByEvents.{by_events, known_stays}
 
 abbrev progress : Place → Bool → List OutlineItem → Progress
@@ -67,7 +67,7 @@ closed_broken Open arrived whole kind offset n = refl
 closed_broken Whole arrived whole kind offset n = refl
 closed_broken library.Broken arrived whole kind offset n = ap (λ b. cond b (Broken Read arrived) (Broken kind offset)) n
 
-cut_is : (kind : FaultKind) → is_cut kind ≡ true → kind ≡ Truncated
+pub cut_is : (kind : FaultKind) → is_cut kind ≡ true → kind ≡ Truncated
 cut_is Truncated e = refl
 cut_is kind e = cc
 

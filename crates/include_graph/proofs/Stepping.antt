@@ -1,14 +1,13 @@
 -- The steps of a walk over outlines, over plain lists.
-use Rattle.std.proofs.Common.{◌≡◌, ℕ, zero, suc, ◌+◌, ◌-◌, ◌<◌, ◌≤◌, eqb, Bool, true, false, List, [], ◌∷◌, ◌++◌, length, map, drop, get_or, Option, Some, None, refl, sym, ap, ◌∙◌, subst, arith, drop-cons, add-one}
+use Rattle.std.proofs.Common.{◌≡◌, ℕ, zero, suc, ◌+◌, ◌-◌, ◌<◌, ◌≤◌, List, [], ◌∷◌, ◌++◌, length, map, drop, get_or, Option, Some, None, refl, sym, ap, ◌∙◌, arith, drop-cons, add-one}
 use Rattle.std.proofs.lemmas.List.{drop_all}
 use Rattle.std.specs.declared.sync.Arc.{Arc}
 use Rattle.include_graph.specs.declared.outline.Outline.{Outline}
 use Rattle.include_graph.specs.declared.outline.OutlineItem.{OutlineItem}
 use Rattle.include_graph.specs.declared.outline.OutlineItem.TheVariants as item
 use Rattle.include_graph.specs.declared.stack.Frame.{Frame}
-use Rattle.include_graph.specs.declared.stack.Mark.{Mark}
-use Rattle.include_graph.specs.Verdicts.{Graph, Walked, Left, Unknown, Faulty, walk_then, number_of, is_among, at_include, at_items, at_outline, visit, in_list, outline_in, refused}
-use Rattle.include_graph.specs.Stack.{IsWalk, path_of, down, rest_of_walk, items_known, items_left}
+use Rattle.include_graph.specs.Verdicts.{Graph, Walked, Left, Unknown, Faulty, walk_then, number_of, at_include, at_items, at_outline, visit, in_list, outline_in, refused}
+use Rattle.include_graph.specs.Stack.{path_of, down, rest_of_walk, items_known, items_left}
 
 -- an outline at its place in the list
 pub in_list_at : {Z : Type 0} (outlines : List (Option (Arc Outline Z))) (file : ℕ) (outline : Option (Arc Outline Z)) → file < length outlines → outline ≡ get_or outlines file outline → in_list (map outline_in outlines) file ≡ outline_in outline

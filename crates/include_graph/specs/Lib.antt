@@ -5,4 +5,5 @@ pub mod Graphs
 pub mod Stack
 pub mod Steps
 pub mod Reading
+pub mod Fed
 pub mod Worked

@@ -1,12 +1,13 @@
 -- The reading of an outline, event by event, and how an outline reader stands to the bytes that it was fed.
-use Rattle.std.specs.Prelude.{ℕ, Bool, true, false, ◌≡◌, ◌+◌, ◌<◌, ◌^◌, ◌||◌, ◌++◌, ⊤, List, [], ◌∷◌, length, Option, Some, None, if◌then◌else◌}
+use Rattle.std.specs.Prelude.{ℕ, Bool, true, false, ◌||◌, ◌++◌, List, [], ◌∷◌, Option, Some, None, if◌then◌else◌}
 use Rattle.djvu_base.specs.declared.faults.FaultKind.{FaultKind}
 use Rattle.djvu_base.specs.declared.faults.FaultKind.TheVariants as fault
-use Rattle.djvu_base.specs.Library.{Mark, Open}
-use Rattle.iff_chunks.specs.Chunks.{Tail, chunks_of}
+use Rattle.djvu_base.specs.Library.{Mark}
+use Rattle.iff_chunks.specs.Chunks.{chunks_of}
 use Rattle.iff_chunks.specs.Ends.{file_end}
 use Rattle.iff_chunks.specs.Events.{Event, Begun, Header, Data, ChunkEnd, events_of}
-use Rattle.include_graph.specs.declared.outline.Outline.{Outline}
+use Rattle.iff_chunks.specs.declared.walker.WalkStep.{WalkStep}
+use Rattle.iff_chunks.specs.declared.walker.WalkStep.TheVariants as step
 use Rattle.include_graph.specs.declared.outline.OutlineItem.{OutlineItem}
 use Rattle.include_graph.specs.declared.outline.OutlineItem.TheVariants as item
 use Rattle.include_graph.specs.Included.{kind_fault, chunk_fault, is_dictionary, is_include, include_name}
@@ -64,6 +65,16 @@ after_event so_far event = at_place so_far.place event so_far
 abbrev pub after_events : Progress → List Event → Progress
 after_events so_far [] = so_far
 after_events so_far (event ∷ events) = after_events (after_event so_far event) events
+
+-- behind an answer of a walker, for which it used these bytes
+abbrev pub after_step : Progress → WalkStep → List ℕ → Progress
+after_step so_far (step.Form kind size) used = after_event so_far (Begun kind size)
+after_step so_far (step.Header id offset size) used = after_event so_far (Header id offset size)
+after_step so_far step.Data used = after_event so_far (Data used)
+after_step so_far step.ChunkEnd used = after_event so_far ChunkEnd
+after_step so_far step.NeedBytes used = so_far
+after_step so_far step.FormEnd used = so_far
+after_step so_far (step.Broken kind offset) used = so_far
 
 abbrev pub is_known : Place → Bool
 is_known Known = true

@@ -2,7 +2,6 @@
 use Rattle.std.specs.Prelude.{ℕ, suc, ◌≡◌, ◌+◌, ◌<◌, ◌++◌, ⊤, List, [], ◌∷◌, reverse, slice_set, Option, Some, None}
 use Rattle.include_graph.specs.declared.outline.Outline.{Outline}
 use Rattle.include_graph.specs.declared.stack.Frame.{Frame}
-use Rattle.include_graph.specs.declared.stack.Mark.{Mark}
 use Rattle.include_graph.specs.declared.stack.Mark.TheVariants as mark
 use Rattle.include_graph.specs.declared.walk.Step.{Step}
 use Rattle.include_graph.specs.declared.walk.Step.TheVariants as step

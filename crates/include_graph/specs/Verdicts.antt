@@ -1,5 +1,5 @@
 -- The verdict on a file: a walk over the outlines of files, depth first, with the path of files that it went down by.
-use Rattle.std.specs.Prelude.{ℕ, zero, suc, ◌+◌, eqb, Bool, true, false, List, [], ◌∷◌, ◌++◌, length, map, Option, Some, None, if◌then◌else◌, bytes_eq}
+use Rattle.std.specs.Prelude.{ℕ, zero, suc, eqb, Bool, true, false, List, [], ◌∷◌, ◌++◌, length, map, Option, Some, None, bytes_eq}
 use Rattle.std.specs.Arc.{arc_value}
 use Rattle.std.specs.List.{list_any, position_from}
 use Rattle.std.specs.declared.sync.Arc.{Arc}

@@ -4,6 +4,8 @@ ghost use Rattle.include_graph.specs.declared.outline.Outline.{Outline};
 ghost use Rattle.include_graph.specs.declared.verdicts.Verdict.TheVariants.{Files};
 ghost use Rattle.djvu_base.specs.Library.{Mark, Open, Whole};
 ghost use Rattle.djvu_base.specs.Library as library;
+ghost use Rattle.include_graph.specs.declared.reader.OutlineReader.{OutlineReader};
+ghost use Rattle.include_graph.specs.Fed.{Fed, Reports};
 ghost use Rattle.include_graph.specs.Outlines.{outlined, outline_of};
 ghost use Rattle.include_graph.specs.Reading.{items_by_events};
 ghost use Rattle.include_graph.specs.Verdicts.{Graph, is_among, verdict_of};
@@ -38,3 +40,8 @@ pub fn outlines_stay()
     iff_chunks::laws::chunks_stay();
     iff_chunks::laws::never_cut();
 }
+
+/// A reader asks for more bytes exactly where the outline isn't known, and is done where it is, unless there was no memory.
+pub fn readers_report()
+    ensures { (mark : Mark) (bytes : List ℕ) (reader : OutlineReader) → Fed mark bytes reader → Reports reader.step (outline_of mark bytes) }
+{}

@@ -1,4 +1,4 @@
-use Rattle.std.proofs.Common.{◌≡◌, refl, sym, ap, ◌∙◌}
+use Rattle.std.proofs.Common.{sym, ap, ◌∙◌}
 use Rattle.include_graph.specs.Verdicts.{outline_in}
 use Rattle.include_graph.specs.Stack.{items_known}
 use Rattle.include_graph.proofs.Stepping.{in_list_at}

@@ -1,11 +1,11 @@
-use Rattle.std.proofs.Common.{◌≡◌, ℕ, ◌+◌, ◌<◌, [], length, map, refl, sym, ap, ◌∙◌, subst, arith, inl, inr}
+use Rattle.std.proofs.Common.{◌≡◌, [], length, map, refl, sym, ap, ◌∙◌, subst, inl, inr}
 use Rattle.std.proofs.lemmas.Bool.{true≢false}
 use Rattle.include_graph.specs.declared.walk.Step.{Step}
 use Rattle.include_graph.specs.declared.walk.Step.TheVariants as step
 use Rattle.include_graph.specs.declared.walk.Walk.{Walk}
 use Rattle.include_graph.specs.declared.verdicts.Verdict.TheVariants.{Files}
-use Rattle.include_graph.specs.Verdicts.{Graph, Walked, Left, Unknown, Faulty, graph_in, outline_in, verdict_by, visit}
-use Rattle.include_graph.specs.Steps.{StepGives, work_now}
+use Rattle.include_graph.specs.Verdicts.{Graph, Walked, graph_in, outline_in, verdict_by, visit}
+use Rattle.include_graph.specs.Steps.{StepGives}
 use Rattle.include_graph.proofs.Walking.{begin_gives, on_from, goes_on_stands, works_less}
 use Rattle.include_graph.proofs.walk.verdict.Goals as goal
 

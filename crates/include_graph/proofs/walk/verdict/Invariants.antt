@@ -1,7 +1,4 @@
-use Rattle.std.proofs.Common.{ℕ, [], map, length}
-use Rattle.include_graph.specs.declared.walk.Step.{Step}
-use Rattle.include_graph.specs.declared.walk.Step.TheVariants as step
-use Rattle.include_graph.specs.declared.walk.Walk.{Walk}
+use Rattle.std.proofs.Common.{[], map, length}
 use Rattle.include_graph.specs.Verdicts.{graph_in, outline_in, visit}
 use Rattle.include_graph.specs.Steps.{StepGives, work_now}
 use Rattle.include_graph.proofs.walk.verdict.Given as goal

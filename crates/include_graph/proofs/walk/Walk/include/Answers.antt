@@ -1,8 +1,8 @@
-use Rattle.std.proofs.Common.{◌≡◌, ℕ, ◌+◌, ◌<◌, List, Option, Some, length, map, refl, sym, ap, ◌∙◌, subst, arith, IfOk}
+use Rattle.std.proofs.Common.{◌≡◌, ℕ, ◌<◌, List, Option, Some, length, map, refl, sym, ap, ◌∙◌, arith}
 use Rattle.std.proofs.lemmas.List.{length-map}
-use Rattle.include_graph.specs.Verdicts.{Faulty, graph_in, outline_in, number_of, at_include, walk_then, in_list}
+use Rattle.include_graph.specs.Verdicts.{Faulty, graph_in, outline_in, number_of, walk_then}
 use Rattle.include_graph.specs.Stack.{path_of, down, rest_of_walk}
-use Rattle.include_graph.specs.Steps.{frames_of, StepGives, WorksBelow, Enters, work_left}
+use Rattle.include_graph.specs.Steps.{frames_of}
 use Rattle.include_graph.proofs.Among.{number_below}
 use Rattle.include_graph.proofs.Walking.{if_ok, own_mark, include_on_path, include_left, ahead_gives, ahead_works}
 use Rattle.include_graph.proofs.walk.Walk.include.Goals as goal

@@ -1,13 +1,13 @@
-use Rattle.std.proofs.Common.{◌≡◌, ℕ, ◌+◌, ◌<◌, ◌≤◌, List, [], ◌∷◌, Option, Some, length, map, get_or, drop, reverse, refl, sym, ap, ◌∙◌, subst, arith, IfOk}
+use Rattle.std.proofs.Common.{◌≡◌, ◌+◌, ◌<◌, ◌≤◌, List, ◌∷◌, length, map, get_or, drop, reverse, refl, sym, subst, arith}
 use Rattle.include_graph.specs.declared.outline.OutlineItem.{OutlineItem}
 use Rattle.include_graph.specs.declared.outline.OutlineItem.TheVariants as item
 use Rattle.include_graph.specs.declared.stack.Frame.{Frame}
 use Rattle.include_graph.specs.declared.walk.Walk.{Walk}
-use Rattle.include_graph.specs.Verdicts.{Graph, graph_in, outline_in, in_list}
-use Rattle.include_graph.specs.Stack.{items_known, items_left, path_of}
-use Rattle.include_graph.specs.Steps.{frames_of, Standing, StepGives, WorksBelow, work_left, rest_from}
+use Rattle.include_graph.specs.Verdicts.{Graph, graph_in, outline_in}
+use Rattle.include_graph.specs.Stack.{items_known, items_left}
+use Rattle.include_graph.specs.Steps.{StepGives}
 use Rattle.include_graph.proofs.Stepping.{item_next}
-use Rattle.include_graph.proofs.Walking.{past, if_ok, popped, pushed, file_below, leave_gives, leave_works, include_stands, include_rest, include_works, broken_rest}
+use Rattle.include_graph.proofs.Walking.{past, if_ok, popped, pushed, file_below, leave_gives, leave_works, include_rest}
 use Rattle.include_graph.proofs.walk.Walk.step.Goals as goal
 
 pub items_known-items-requires : goal.items_known-items-requires

@@ -83,13 +83,16 @@ distinct_with file files h d = IsDistinct-cons eqb file files (apart file files 
 pub not_head : (q file : ℕ) (files : List ℕ) → is_among q files ≡ true → is_among file files ≡ false → eqb q file ≡ false
 not_head q file files a b = by_test (eqb q file) (λ e. not_both (is_among file files) (subst (λ n. is_among n files ≡ true) (eqb-true q file e) a) b) (λ e. e)
 
-number_here : (same : Bool) (first target : ℕ) (others : Option ℕ) (count : ℕ) → cond same (Some first) others ≡ Some target → (others ≡ Some target → target < first + 1 + count) → target < first + suc count
+number_here : (same : Bool) (first target : ℕ) (others : Option ℕ) (count : ℕ) → cond same (Some first) others ≡ Some target
+    → (others ≡ Some target → target < first + 1 + count) → target < first + suc count
 number_here true first target others count e later = let at : first ≡ target = cc in omega (arith, at)
 number_here false first target others count e later = let behind = later e in omega (arith, behind)
 
-number_within : (first target : ℕ) (name : List ℕ) (names : List (List ℕ)) → position_from (bytes_eq name) first names ≡ Some target → target < first + length names
+number_within : (first target : ℕ) (name : List ℕ) (names : List (List ℕ)) → position_from (bytes_eq name) first names ≡ Some target
+    → target < first + length names
 number_within first target name [] e = cc
-number_within first target name (listed ∷ names) e = number_here (bytes_eq name listed) first target (position_from (bytes_eq name) (first + 1) names) (length names) e (number_within (first + 1) target name names)
+number_within first target name (listed ∷ names) e = number_here (bytes_eq name listed) first target
+    (position_from (bytes_eq name) (first + 1) names) (length names) e (number_within (first + 1) target name names)
 
 pub number_below : (target : ℕ) (name : List ℕ) (names : List (List ℕ)) → number_of name names ≡ Some target → target < length names
 number_below target name names e = let within = number_within 0 target name names e in omega (arith, within)

@@ -56,17 +56,20 @@ pub not_on_path : (file : ℕ) (path : List ℕ) → IsDistinct eqb (file ∷ pa
 not_on_path file path d = not_among file path (IsDistinct-head eqb file path d)
 
 -- a file that isn't on the path finds room there
-pub path_room : (graph : Graph) (frames : List Frame) (marks : List Mark) (left : List ℕ) (file : ℕ) → IsWalk graph frames marks left → file < length graph.names → is_among file (path_of frames) ≡ false → length (path_of frames) < length graph.names
+pub path_room : (graph : Graph) (frames : List Frame) (marks : List Mark) (left : List ℕ) (file : ℕ) → IsWalk graph frames marks left
+    → file < length graph.names → is_among file (path_of frames) ≡ false → length (path_of frames) < length graph.names
 path_room graph frames marks left file w b n =
     length-le_from_distinct_below (file ∷ path_of frames) (length graph.names) (distinct_with file (path_of frames) n w.distinct)
     (λ q h. elim (among_cases q file (path_of frames) h) [ inl e ↦ omega (arith, e, b) | inr h ↦ w.below q h ])
 
-pub enters : (graph : Graph) (frames : List Frame) (marks : List Mark) (left : List ℕ) (file : ℕ) → IsWalk graph frames marks left → file < length graph.names → is_among file (path_of frames) ≡ false
+pub enters : (graph : Graph) (frames : List Frame) (marks : List Mark) (left : List ℕ) (file : ℕ) → IsWalk graph frames marks left
+    → file < length graph.names → is_among file (path_of frames) ≡ false
     → IsWalk graph (record { file = file; passed = 0 } ∷ frames) (slice_set marks file mark.OnPath) left
 enters graph frames marks left file w b n = record {
   marked = λ q h. elim (eqb_tells q file) [
     | inl e ↦ here q (e.1) (e.0)
-    | inr e ↦ got_other marks file q mark.OnPath (mark_of (file ∷ path_of frames) left q) e.1 (w.marked q h ∙ ap (λ t. Some (mark_by (t || is_among q (path_of frames)) (is_among q left))) (sym e.0))
+    | inr e ↦ got_other marks file q mark.OnPath (mark_of (file ∷ path_of frames) left q) e.1 (w.marked q h
+        ∙ ap (λ t. Some (mark_by (t || is_among q (path_of frames)) (is_among q left))) (sym e.0))
   ];
   count = length-set marks file mark.OnPath ∙ w.count;
   distinct = distinct_with file (path_of frames) n w.distinct;
@@ -77,7 +80,8 @@ enters graph frames marks left file w b n = record {
       ap (slice_get (slice_set marks file mark.OnPath)) e ∙ got_set marks file mark.OnPath (let count = w.count in omega (arith, count, b))
       ∙ ap (λ x. Some (mark_by (x || is_among q (path_of frames)) (is_among q left))) (sym t)
 
-pub leaves : (graph : Graph) (frame : Frame) (frames : List Frame) (marks : List Mark) (left : List ℕ) → IsWalk graph (frame ∷ frames) marks left → IsWalk graph frames (slice_set marks frame.file mark.Left) (left ++ frame.file ∷ [])
+pub leaves : (graph : Graph) (frame : Frame) (frames : List Frame) (marks : List Mark) (left : List ℕ) → IsWalk graph (frame ∷ frames) marks left
+    → IsWalk graph frames (slice_set marks frame.file mark.Left) (left ++ frame.file ∷ [])
 leaves graph frame frames marks left w = record {
   marked = λ q h. elim (eqb_tells q frame.file) [
     | inl e ↦ here q e.1 h
@@ -98,16 +102,21 @@ leaves graph frame frames marks left w = record {
   there : (q : ℕ) → eqb q frame.file ≡ false → Some (mark_of (path_of (frame ∷ frames)) left q) ≡ Some (mark_of (path_of frames) (left ++ frame.file ∷ []) q)
   there q e =
       ap (λ t. Some (mark_by (t || is_among q (path_of frames)) (is_among q left))) e
-      ∙ ap (λ t. Some (mark_by (is_among q (path_of frames)) t)) (or_false (is_among q left) ∙ ap (λ t. is_among q left || (t || false)) (sym e) ∙ sym (among_append q left frame.file))
+      ∙ ap (λ t. Some (mark_by (is_among q (path_of frames)) t)) (or_false (is_among q left) ∙ ap (λ t. is_among q left || (t || false)) (sym e)
+      ∙ sym (among_append q left frame.file))
 
   own : frame.file < length graph.names
   own = w.below frame.file (among_head frame.file (path_of frames))
 
-  here : (q : ℕ) → q ≡ frame.file → q < length graph.names → slice_get (slice_set marks frame.file mark.Left) q ≡ Some (mark_of (path_of frames) (left ++ frame.file ∷ []) q)
+  here : (q : ℕ) → q ≡ frame.file → q < length graph.names → slice_get (slice_set marks frame.file mark.Left) q ≡ Some
+      (mark_of (path_of frames) (left ++ frame.file ∷ []) q)
   here q e h =
-      ap (slice_get (slice_set marks frame.file mark.Left)) e ∙ got_set marks frame.file mark.Left (let count = w.count in let own = own in omega (arith, count, own))
-      ∙ sym (ap (λ t. Some (mark_by t (is_among q (left ++ frame.file ∷ [])))) (ap (λ f. is_among f (path_of frames)) e ∙ not_on_path frame.file (path_of frames) w.distinct)
-      ∙ ap (λ t. Some (mark_by false t)) (among_append q left frame.file ∙ ap (λ t. is_among q left || (t || false)) (eq-eqb q frame.file e) ∙ or_true (is_among q left)))
+      ap (slice_get (slice_set marks frame.file mark.Left)) e
+      ∙ got_set marks frame.file mark.Left (let count = w.count in let own = own in omega (arith, count, own))
+      ∙ sym (ap (λ t. Some (mark_by t (is_among q (left ++ frame.file ∷ [])))) (ap (λ f. is_among f (path_of frames)) e
+      ∙ not_on_path frame.file (path_of frames) w.distinct)
+      ∙ ap (λ t. Some (mark_by false t)) (among_append q left frame.file ∙ ap (λ t. is_among q left || (t || false)) (eq-eqb q frame.file e)
+      ∙ or_true (is_among q left)))
 
 -- the walk goes down into a file for the first time: less work is left
 pub work_entered : (marks : List Mark) (outlines : List (Option Outline)) (file : ℕ) → slice_get marks file ≡ Some mark.Ahead → file < length outlines
@@ -124,9 +133,11 @@ work_entered (first ∷ marks) (outline ∷ outlines) (suc file) g b =
     let own : ℕ = work_ahead first (items_known outline) in
     omega (arith, less)
 
-pub work_same : (marks : List Mark) (outlines : List (Option Outline)) (file : ℕ) → slice_get marks file ≡ Some mark.OnPath → work_of_files (slice_set marks file mark.Left) outlines ≡ work_of_files marks outlines
+pub work_same : (marks : List Mark) (outlines : List (Option Outline)) (file : ℕ) → slice_get marks file ≡ Some mark.OnPath
+    → work_of_files (slice_set marks file mark.Left) outlines ≡ work_of_files marks outlines
 work_same [] outlines file g = cc
 work_same (first ∷ marks) [] zero g = refl
 work_same (first ∷ marks) [] (suc file) g = refl
-work_same (first ∷ marks) (outline ∷ outlines) zero g = let e : first ≡ mark.OnPath = cc in ap (λ m. work_ahead m (items_known outline) + work_of_files marks outlines) (sym e)
+work_same (first ∷ marks) (outline ∷ outlines) zero g = let e : first ≡ mark.OnPath = cc in ap
+    (λ m. work_ahead m (items_known outline) + work_of_files marks outlines) (sym e)
 work_same (first ∷ marks) (outline ∷ outlines) (suc file) g = ap (λ n. work_ahead first (items_known outline) + n) (work_same marks outlines file g)

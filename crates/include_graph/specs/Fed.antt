@@ -64,7 +64,8 @@ Reports step.OutOfMemory outline = ⊤
 abbrev pub PausesSo : WalkStep → OutlineReader → OutlineStep → OutlineReader → Type 0
 PausesSo walk.NeedBytes before answer reader = (answer ≡ step.NeedBytes) × (reader ≡ before)
 PausesSo walk.FormEnd before answer reader = (answer ≡ step.Done) × (reader ≡ before)
-PausesSo (walk.Broken kind offset) before answer reader = (answer ≡ step.Done) × (progress_of reader.progress ≡ with_fault kind offset (progress_of before.progress))
+PausesSo (walk.Broken kind offset) before answer reader = (answer ≡ step.Done) × (progress_of reader.progress ≡ with_fault kind offset
+    (progress_of before.progress))
 PausesSo (walk.Form kind size) before answer reader = ⊤
 PausesSo (walk.Header id offset size) before answer reader = ⊤
 PausesSo walk.Data before answer reader = ⊤

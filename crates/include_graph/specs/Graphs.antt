@@ -19,7 +19,8 @@ pub data VerdictOn (outlines : ℕ → Option Outline) (before after : Verdict) 
 -- the items have no fault, and each is an include of one of these files
 abbrev pub IncludesAmong : List (List ℕ) → List ℕ → List OutlineItem → Type 0
 IncludesAmong names files [] = ⊤
-IncludesAmong names files (item.Include name offset ∷ items) = ((target : ℕ) × (number_of name names ≡ Some target) × (is_among target files ≡ true)) × IncludesAmong names files items
+IncludesAmong names files (item.Include name offset ∷ items) = ((target : ℕ) × (number_of name names ≡ Some target) × (is_among target files ≡ true))
+    × IncludesAmong names files items
 IncludesAmong names files (item.Broken kind offset ∷ items) = ⊥
 
 -- a file has an outline that is known, and includes only these files

@@ -41,12 +41,22 @@ faulty_or (Some kind) offset so_far next = with_fault kind offset so_far
 -- behind the header of a chunk without a fault
 abbrev pub in_chunk : List ℕ → ℕ → Progress → Progress
 in_chunk id offset so_far =
-    record { place = (if is_include id then InInclude offset [] else Passing); has_dictionary = (so_far.has_dictionary || is_dictionary id); items = so_far.items }
+    record {
+      place = (if is_include id then InInclude offset [] else Passing);
+      has_dictionary = (so_far.has_dictionary || is_dictionary id);
+      items =
+          so_far.items;
+    }
 
 -- behind an INCL, by the name that it holds
 abbrev pub behind_include : Option (List ℕ) → ℕ → Progress → Progress
 behind_include None offset so_far = with_fault fault.BadIncludeName offset so_far
-behind_include (Some name) offset so_far = record { place = Passing; has_dictionary = so_far.has_dictionary; items = so_far.items ++ item.Include name offset ∷ [] }
+behind_include (Some name) offset so_far = record {
+  place = Passing;
+  has_dictionary = so_far.has_dictionary;
+  items = so_far.items ++ item.Include
+      name offset ∷ [];
+}
 
 abbrev pub at_place : Place → Event → Progress → Progress
 at_place Known event so_far = so_far
@@ -56,7 +66,11 @@ at_place Passing (Data bytes) so_far = so_far
 at_place Passing ChunkEnd so_far = so_far
 at_place (InInclude offset told) (Begun kind size) so_far = so_far
 at_place (InInclude offset told) (Header id next size) so_far = so_far
-at_place (InInclude offset told) (Data bytes) so_far = record { place = InInclude offset (told ++ bytes); has_dictionary = so_far.has_dictionary; items = so_far.items }
+at_place (InInclude offset told) (Data bytes) so_far = record {
+  place = InInclude offset (told ++ bytes);
+  has_dictionary = so_far.has_dictionary;
+  items = so_far.items;
+}
 at_place (InInclude offset told) ChunkEnd so_far = behind_include (include_name told) offset so_far
 
 abbrev pub after_event : Progress → Event → Progress
@@ -83,7 +97,8 @@ is_known (InInclude offset told) = false
 
 -- the items, where no event follows and the file ends so
 abbrev pub items_so_far : Progress → Items → Items
-items_so_far so_far ended = if is_known so_far.place then record { items = so_far.items; is_known = true } else record { items = so_far.items ++ ended.items; is_known = ended.is_known }
+items_so_far so_far ended = if is_known so_far.place then record { items = so_far.items; is_known = true } else record
+    { items = so_far.items ++ ended.items; is_known = ended.is_known }
 
 -- the items of a file with these bytes, by the events of its chunks
 abbrev pub items_by_events : Mark → List ℕ → Items

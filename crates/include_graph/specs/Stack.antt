@@ -28,7 +28,8 @@ items_left graph frame = drop frame.passed (items_known (graph.outlines frame.fi
 abbrev pub rest_of_walk : Graph → List Frame → List ℕ → Walked
 rest_of_walk graph [] left = Left left
 rest_of_walk graph (frame ∷ frames) left =
-    walk_then (at_items (down graph (path_of (frame ∷ frames))) graph.names (path_of (frame ∷ frames)) frame.file (items_left graph frame) left) (rest_of_walk graph frames)
+    walk_then (at_items (down graph (path_of (frame ∷ frames))) graph.names (path_of (frame ∷ frames)) frame.file (items_left graph frame) left)
+    (rest_of_walk graph frames)
 
 abbrev pub mark_by : Bool → Bool → Mark
 mark_by true was_left = mark.OnPath

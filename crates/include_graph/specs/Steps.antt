@@ -40,7 +40,8 @@ WorksBelow limit graph outlines (step.Faulty fault) walk = ⊤
 -- a walk went down into a file, by its outline
 abbrev pub Enters : Option Outline → ℕ → Walk → Step → Walk → Type 0
 Enters outline file before step.GoesOn walk =
-    ((known : Outline) × (outline ≡ Some known)) × (walk.path.items ≡ before.path.items ++ record { file = file; passed = 0 } ∷ []) × (walk.marks.items ≡ slice_set before.marks.items file mark.OnPath) × (walk.left.items ≡ before.left.items)
+    ((known : Outline) × (outline ≡ Some known)) × (walk.path.items ≡ before.path.items ++ record { file = file; passed = 0 } ∷ []) ×
+    (walk.marks.items ≡ slice_set before.marks.items file mark.OnPath) × (walk.left.items ≡ before.left.items)
 Enters outline file before step.Over walk = ⊥
 Enters outline file before (step.Unknown other) walk = (outline ≡ None) × (other ≡ file)
 Enters outline file before (step.Faulty fault) walk = ⊥

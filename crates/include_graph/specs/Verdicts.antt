@@ -67,7 +67,8 @@ at_include go path file offset (Some target) left = at_target go (is_among targe
 -- the items of a file, in order; behind the last one the file is left
 abbrev pub at_items : (ℕ → List ℕ → Walked) → List (List ℕ) → List ℕ → ℕ → List OutlineItem → List ℕ → Walked
 at_items go names path file [] left = Left (left ++ file ∷ [])
-at_items go names path file (item.Include name offset ∷ items) left = walk_then (at_include go path file offset (number_of name names) left) (at_items go names path file items)
+at_items go names path file (item.Include name offset ∷ items) left = walk_then (at_include go path file offset (number_of name names) left)
+    (at_items go names path file items)
 at_items go names path file (item.Broken kind offset ∷ items) left = refused kind file offset
 
 abbrev pub at_outline : (ℕ → List ℕ → Walked) → List (List ℕ) → List ℕ → ℕ → Option Outline → List ℕ → Walked

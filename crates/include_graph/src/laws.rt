@@ -14,16 +14,20 @@ ghost use Rattle.include_graph.specs.Graphs.{KnownOn, VerdictOn, InOrder};
 /// With more outlines known a verdict is the same, or it was unknown at an outline that is known now. So files and faults
 /// stay, and an unknown outline stays the one that is asked for until it is known.
 pub fn verdicts_stay()
-    ensures { (names : List (List ℕ)) (less more : ℕ → Option Outline) (file : ℕ) → KnownOn less more → VerdictOn more (verdict_of (record { names = names; outlines = less }) file) (verdict_of (record { names = names; outlines = more }) file) }
+    ensures { (names : List (List ℕ)) (less more : ℕ → Option Outline) (file : ℕ) → KnownOn less more
+        → VerdictOn more (verdict_of (record { names = names; outlines = less }) file) (verdict_of (record { names = names; outlines = more }) file) }
 {}
 
 /// In the list of a verdict each file stands once, after all that it includes. The file itself is listed, and each that is
 /// listed has itself a list as its verdict. A list is at most as long as the names.
 pub fn lists()
     ensures order { (graph : Graph) (file : ℕ) (files : List ℕ) → file < length graph.names → verdict_of graph file ≡ Files files → InOrder graph [] files }
-    ensures itself { (graph : Graph) (file : ℕ) (files : List ℕ) → file < length graph.names → verdict_of graph file ≡ Files files → is_among file files ≡ true }
-    ensures listed { (graph : Graph) (target file : ℕ) (files : List ℕ) → target < length graph.names → verdict_of graph target ≡ Files files → is_among file files ≡ true → (list : List ℕ) × (verdict_of graph file ≡ Files list) }
-    ensures length { (graph : Graph) (file : ℕ) (files : List ℕ) → file < length graph.names → verdict_of graph file ≡ Files files → length files ≤ length graph.names }
+    ensures itself { (graph : Graph) (file : ℕ) (files : List ℕ) → file < length graph.names → verdict_of graph file ≡ Files files
+        → is_among file files ≡ true }
+    ensures listed { (graph : Graph) (target file : ℕ) (files : List ℕ) → target < length graph.names → verdict_of graph target ≡ Files files
+        → is_among file files ≡ true → (list : List ℕ) × (verdict_of graph file ≡ Files list) }
+    ensures length { (graph : Graph) (file : ℕ) (files : List ℕ) → file < length graph.names → verdict_of graph file ≡ Files files
+        → length files ≤ length graph.names }
 {}
 
 /// An outline can be read event by event.
@@ -33,7 +37,8 @@ pub fn by_events()
 
 /// An outline that is known stays, whatever follows and however the file ends. It is known where the file is closed.
 pub fn outlines_stay()
-    ensures stays { (mark : Mark) (bytes more : List ℕ) (outline : Outline) → outline_of Open bytes ≡ Some outline → outline_of mark (bytes ++ more) ≡ Some outline }
+    ensures stays { (mark : Mark) (bytes more : List ℕ) (outline : Outline) → outline_of Open bytes ≡ Some outline
+        → outline_of mark (bytes ++ more) ≡ Some outline }
     ensures whole { (bytes : List ℕ) → is_some (outline_of Whole bytes) ≡ true }
     ensures broken { (bytes : List ℕ) → is_some (outline_of library.Broken bytes) ≡ true }
 {

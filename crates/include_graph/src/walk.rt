@@ -95,8 +95,10 @@ impl Walk {
         requires few { length names.now < 2 ^ 32 }
         requires places { length outlines.now ≡ length names.now }
         requires stands { Standing (graph_in names.now outlines.now) self.old }
-        ensures gives { IfOk result (λ step. StepGives (graph_in names.now outlines.now) (rest_from (graph_in names.now outlines.now) self.old) step self.new) }
-        ensures less { IfOk result (λ step. WorksBelow (work_left (graph_in names.now outlines.now) (map outline_in outlines.now) self.old) (graph_in names.now outlines.now) (map outline_in outlines.now) step self.new) }
+        ensures gives { IfOk result (λ step. StepGives (graph_in names.now outlines.now) (rest_from (graph_in names.now outlines.now) self.old) step
+            self.new) }
+        ensures less { IfOk result (λ step. WorksBelow (work_left (graph_in names.now outlines.now) (map outline_in outlines.now) self.old)
+            (graph_in names.now outlines.now) (map outline_in outlines.now) step self.new) }
     {
         let Some(frame) = self.path.pop() else {
             return Ok(Step::Over);
@@ -133,9 +135,11 @@ impl Walk {
         requires places { length outlines.now ≡ length names.now }
         requires stands { Standing (graph_in names.now outlines.now) self.old }
         ensures gives { IfOk result (λ step. StepGives (graph_in names.now outlines.now)
-            (walk_then (at_include (down (graph_in names.now outlines.now) (path_of (frames_of self.old))) (path_of (frames_of self.old)) file offset (number_of name.now names.now) self.old.left.items)
+            (walk_then (at_include (down (graph_in names.now outlines.now) (path_of (frames_of self.old))) (path_of (frames_of self.old)) file offset
+            (number_of name.now names.now) self.old.left.items)
             (rest_of_walk (graph_in names.now outlines.now) (frames_of self.old))) step self.new) }
-        ensures less { IfOk result (λ step. WorksBelow (1 + work_left (graph_in names.now outlines.now) (map outline_in outlines.now) self.old) (graph_in names.now outlines.now) (map outline_in outlines.now) step self.new) }
+        ensures less { IfOk result (λ step. WorksBelow (1 + work_left (graph_in names.now outlines.now) (map outline_in outlines.now) self.old)
+            (graph_in names.now outlines.now) (map outline_in outlines.now) step self.new) }
     {
         let Some(target) = number_of(names, name) else {
             return Ok(Step::Faulty(fault_at(FaultKind::MissingInclude, file, offset)));

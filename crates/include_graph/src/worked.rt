@@ -21,12 +21,14 @@ pub fn worked_outlines()
     ensures of_page { outline_of Open (form_with (codes "DJVU") 20 []) ≡ outline_with (Broken kind.NotIncludedForm 0 ∷ []) }
 
     // A fault comes after the includes before it, and ends the list.
-    ensures misplaced { outline_of Open (included_file 40 (include_of 0x62 ++ (header (codes "Sjbz") 4))) ≡ outline_with (Include (codes "b") 16 ∷ Broken kind.Misplaced 26 ∷ []) }
+    ensures misplaced { outline_of Open (included_file 40 (include_of 0x62 ++ (header (codes "Sjbz") 4))) ≡ outline_with
+        (Include (codes "b") 16 ∷ Broken kind.Misplaced 26 ∷ []) }
     ensures cut_misplaced { outline_of Whole (included_file 40 (header (codes "INFO") 10)) ≡ outline_with (Broken kind.Misplaced 16 ∷ []) }
     ensures layer { outline_of Open (included_file 40 (header (codes "BG44") 4)) ≡ outline_with (Broken kind.Unsupported 16 ∷ []) }
     ensures directory { outline_of Open (included_file 40 (header (codes "DIRM") 4)) ≡ outline_with (Broken kind.Unsupported 16 ∷ []) }
     ensures one_dictionary { outline_of Open (included_file 12 (header (codes "Djbz") 0)) ≡ no_include }
-    ensures dictionaries { outline_of Open (included_file 20 (header (codes "Djbz") 0 ++ header (codes "Djbz") 0)) ≡ outline_with (Broken kind.SecondDictionary 24 ∷ []) }
+    ensures dictionaries { outline_of Open (included_file 20 (header (codes "Djbz") 0 ++ header (codes "Djbz") 0)) ≡ outline_with
+        (Broken kind.SecondDictionary 24 ∷ []) }
     ensures no_name { outline_of Open (included_file 22 (header (codes "INCL") 1 ++ (0x0A ∷ 0x00 ∷ []))) ≡ outline_with (Broken kind.BadIncludeName 16 ∷ []) }
 {}
 
@@ -44,7 +46,8 @@ pub fn worked_verdicts()
         Refused (record { kind = kind.CyclicInclude; place = record { file = 1; offset = 16 } }) }
     ensures other_way { verdict_of (four_files (one_include (codes "b") ∷ one_include (codes "a") ∷ [])) 1 ≡
         Refused (record { kind = kind.CyclicInclude; place = record { file = 0; offset = 16 } }) }
-    ensures itself { verdict_of (four_files (one_include (codes "a") ∷ [])) 0 ≡ Refused (record { kind = kind.CyclicInclude; place = record { file = 0; offset = 16 } }) }
+    ensures itself { verdict_of (four_files (one_include (codes "a") ∷ [])) 0 ≡ Refused
+        (record { kind = kind.CyclicInclude; place = record { file = 0; offset = 16 } }) }
 
     // `a` includes `b` and `c`, and both include `d`: each once, and `d` first.
     ensures diamond { verdict_of (four_files (two_includes (codes "b") (codes "c") ∷ one_include (codes "d") ∷ one_include (codes "d") ∷ no_include ∷ [])) 0 ≡
@@ -55,5 +58,6 @@ pub fn worked_verdicts()
     ensures unknown_first { verdict_of (four_files (two_includes (codes "b") (codes "z") ∷ None ∷ [])) 0 ≡ NeedOutline 1 }
     ensures faulty_below { verdict_of (four_files (one_include (codes "b") ∷ outline_with (Broken kind.Truncated 16 ∷ []) ∷ [])) 0 ≡
         Refused (record { kind = kind.Truncated; place = record { file = 1; offset = 16 } }) }
-    ensures four { verdict_of (four_files (one_include (codes "b") ∷ one_include (codes "c") ∷ one_include (codes "d") ∷ no_include ∷ [])) 0 ≡ Files (3 ∷ 2 ∷ 1 ∷ 0 ∷ []) }
+    ensures four { verdict_of (four_files (one_include (codes "b") ∷ one_include (codes "c") ∷ one_include (codes "d") ∷ no_include ∷ [])) 0 ≡ Files
+        (3 ∷ 2 ∷ 1 ∷ 0 ∷ []) }
 {}

@@ -10,4 +10,5 @@ same_test None = refl
 same_test (Some outline) = refl
 
 pub returns : goal.returns
-returns c = c.is_some.ensures ∙ same_test c.index-outlines-file.result ∙ sym (ap is_some (in_list_at c.args.outlines.now c.args.file c.index-outlines-file.result c.requires c.index-outlines-file.is))
+returns c = c.is_some.ensures ∙ same_test c.index-outlines-file.result
+    ∙ sym (ap is_some (in_list_at c.args.outlines.now c.args.file c.index-outlines-file.result c.requires c.index-outlines-file.is))

@@ -14,4 +14,5 @@ returns-clause-fed c bytes r =
     (subst (λ s. FedBy s mark bytes after) (sym c.answer_of-self.ensures)
     (answered c.at_end-ended.result (λ s. FedBy s mark bytes after)
     (if_ok c.at_end-ended.result _ (λ s. FedBy s mark bytes after) c.at_end-ended.ensures
-    (λ s h. close_reads c.args.end bytes c.args.self.now after c.finish-last.result s r c.finish-last.ensures.ends (λ offset e. c.bounds.ensures.cut_is_early bytes offset e) h)) tt))
+    (λ s h. close_reads c.args.end bytes c.args.self.now after c.finish-last.result s r c.finish-last.ensures.ends
+    (λ offset e. c.bounds.ensures.cut_is_early bytes offset e) h)) tt))

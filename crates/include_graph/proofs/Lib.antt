@@ -1,0 +1,11 @@
+mod Among
+mod ByEvents
+mod Closing
+mod Feeding
+mod Knowing
+mod Marking
+mod Ordering
+mod Serving
+mod Staying
+mod Stepping
+mod Walking

@@ -1,0 +1,96 @@
+-- How an outline reader stands to the bytes that it was fed.
+use Rattle.std.specs.Prelude.{ℕ, ◌≡◌, ◌<◌, ◌^◌, ◌++◌, ⊤, false, List, length, Option, Some, None, IsSome, Result, Ok, Err}
+use Rattle.djvu_base.specs.Library.{Mark, Open}
+use Rattle.std.specs.declared.alloc.AllocError.{AllocError}
+use Rattle.iff_chunks.specs.Chunks.{chunks_of}
+use Rattle.iff_chunks.specs.declared.walker.WalkEnd.{WalkEnd}
+use Rattle.iff_chunks.specs.declared.walker.WalkEnd.TheVariants as walk_end
+use Rattle.iff_chunks.specs.declared.walker.WalkStep.{WalkStep}
+use Rattle.iff_chunks.specs.declared.walker.WalkStep.TheVariants as walk
+use Rattle.iff_chunks.specs.Events.{Event, events_of, IsOpen}
+use Rattle.iff_chunks.specs.Walk.{HasTold}
+use Rattle.iff_chunks.specs.Told.{Told}
+use Rattle.include_graph.specs.declared.outline.Outline.{Outline}
+use Rattle.include_graph.specs.declared.progress.Place.{Place}
+use Rattle.include_graph.specs.declared.progress.Place.TheVariants as place
+use Rattle.include_graph.specs.declared.progress.Progress.{Progress}
+use Rattle.include_graph.specs.declared.reader.OutlineStep.{OutlineStep}
+use Rattle.include_graph.specs.declared.reader.OutlineStep.TheVariants as step
+use Rattle.include_graph.specs.declared.reader.OutlineReader.{OutlineReader}
+use Rattle.include_graph.specs.Outlines.{outline_of}
+use Rattle.include_graph.specs.Reading.{Passing, InInclude, Known, at_start, after_events, is_known, with_fault}
+use Rattle.include_graph.specs.Reading as reading
+
+abbrev pub place_of : Place → reading.Place
+place_of place.Passing = Passing
+place_of (place.InInclude offset bytes) = InInclude offset bytes.items
+place_of place.Known = Known
+
+abbrev pub progress_of : Progress → reading.Progress
+progress_of progress = record { place = place_of progress.place; has_dictionary = progress.has_dictionary; items = progress.items.items }
+
+-- so many bytes came, as far as they are counted
+abbrev pub Counts : List ℕ → ℕ → Type 0
+Counts bytes arrived = length bytes < 2 ^ 32 → arrived ≡ length bytes
+
+-- the outline isn't known, and every event of these bytes was read
+pub record IsReading (mark : Mark) (bytes : List ℕ) (reader : OutlineReader) : Type 0 where
+  pub is_open : mark ≡ Open
+  pub told : Told bytes (events_of (chunks_of bytes)) reader.walker
+  pub goes_on : IsOpen (chunks_of bytes).tail
+  pub progress : progress_of reader.progress ≡ after_events at_start (events_of (chunks_of bytes))
+  pub unknown : is_known (progress_of reader.progress).place ≡ false
+  pub counts : Counts bytes reader.arrived
+
+abbrev pub outline_read : OutlineReader → Outline
+outline_read reader = record { items = reader.progress.items.items }
+
+abbrev pub FedBy : OutlineStep → Mark → List ℕ → OutlineReader → Type 0
+FedBy step.NeedBytes mark bytes reader = IsReading mark bytes reader
+FedBy step.Done mark bytes reader = outline_of mark bytes ≡ Some (outline_read reader)
+FedBy step.OutOfMemory mark bytes reader = ⊤
+
+-- a reader was fed these bytes, and told this of their end
+abbrev pub Fed : Mark → List ℕ → OutlineReader → Type 0
+Fed mark bytes reader = FedBy reader.step mark bytes reader
+
+-- an answer says whether the outline is known
+abbrev pub Reports : OutlineStep → Option Outline → Type 0
+Reports step.NeedBytes outline = outline ≡ None
+Reports step.Done outline = IsSome outline
+Reports step.OutOfMemory outline = ⊤
+
+-- the walker answered so where it told no event, and the reader answers so
+abbrev pub PausesSo : WalkStep → OutlineReader → OutlineStep → OutlineReader → Type 0
+PausesSo walk.NeedBytes before answer reader = (answer ≡ step.NeedBytes) × (reader ≡ before)
+PausesSo walk.FormEnd before answer reader = (answer ≡ step.Done) × (reader ≡ before)
+PausesSo (walk.Broken kind offset) before answer reader = (answer ≡ step.Done) × (progress_of reader.progress ≡ with_fault kind offset
+    (progress_of before.progress))
+PausesSo (walk.Form kind size) before answer reader = ⊤
+PausesSo (walk.Header id offset size) before answer reader = ⊤
+PausesSo walk.Data before answer reader = ⊤
+PausesSo walk.ChunkEnd before answer reader = ⊤
+
+-- behind the last event, where the file ends so
+abbrev pub ended_so : WalkEnd → reading.Progress → reading.Progress
+ended_so walk_end.FormEnd so_far = so_far
+ended_so (walk_end.Broken kind offset) so_far = with_fault kind offset so_far
+
+-- a reader walks over a piece behind these bytes: all events of the bytes were read, and all bytes are counted
+pub record IsWalking (bytes piece : List ℕ) (reader : OutlineReader) : Type 0 where
+  pub told : Told bytes (events_of (chunks_of bytes)) reader.walker
+  pub progress : progress_of reader.progress ≡ after_events at_start (events_of (chunks_of bytes))
+  pub unknown : is_known (progress_of reader.progress).place ≡ false
+  pub counts : Counts (bytes ++ piece) reader.arrived
+
+-- a reader came to this rest of the file
+pub record Reaches (file rest : List ℕ) (reader : OutlineReader) : Type 0 where
+  pub told : List Event
+  pub has : HasTold file rest told reader.walker
+  pub progress : progress_of reader.progress ≡ after_events at_start told
+  pub unknown : is_known (progress_of reader.progress).place ≡ false
+  pub counts : Counts file reader.arrived
+
+abbrev pub answer_of : Result OutlineStep AllocError → OutlineStep
+answer_of (Ok answer) = answer
+answer_of (Err error) = step.OutOfMemory

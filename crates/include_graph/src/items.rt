@@ -1,0 +1,47 @@
+//! What is known of a folder's files: the numbers of names, and the items of outlines.
+ghost use Rattle.std.specs.Prelude.{◌≡◌, ◌<◌, ◌^◌, length, map, IfSome, is_some, bytes_eq};
+ghost use Rattle.std.specs.List.{position_from};
+ghost use Rattle.include_graph.specs.Verdicts.{number_of, in_list, outline_in};
+ghost use Rattle.include_graph.specs.Stack.{items_known};
+
+use crate::outline::{Outline, OutlineItem};
+use djvu_base::Name;
+use std::sync::Arc;
+
+/// The number of a name among others, or `None` where it isn't one of them.
+pub(crate) fn number_of(names: &[Name], name: &Name) -> Option<u32>
+    requires { length names.now < 2 ^ 32 }
+    ensures { result ≡ number_of name.now names.now }
+{
+    match place_of(names, name.bytes()) {
+        Some(place) => Some(place as u32),
+        None => None,
+    }
+}
+
+/// The place of a name of these bytes among others.
+fn place_of(names: &[Name], bytes: &[u8]) -> Option<usize>
+    ensures place { result ≡ position_from (bytes_eq bytes.now) 0 names.now }
+    ensures within { IfSome result (λ place. place < length names.now) }
+{
+    names.iter().position(|listed| bytes == listed.bytes())
+}
+
+/// Whether the outline of a file is known.
+pub(crate) fn is_known(outlines: &[Option<Arc<Outline>>], file: u32) -> bool
+    requires { file < length outlines.now }
+    ensures { result ≡ is_some (in_list (map outline_in outlines.now) file) }
+{
+    outlines[file as usize].is_some()
+}
+
+/// The items of a file's outline, and none where it isn't known.
+pub(crate) fn items_known(outlines: &[Option<Arc<Outline>>], file: u32) -> &[OutlineItem]
+    requires { file < length outlines.now }
+    ensures { result.now ≡ items_known (in_list (map outline_in outlines.now) file) }
+{
+    match &outlines[file as usize] {
+        Some(outline) => outline.items.slice(),
+        None => &[],
+    }
+}

@@ -1,0 +1,52 @@
+//! Laws of the definitions: each is a clause of a function that does nothing.
+ghost use Rattle.std.specs.Prelude.{◌≡◌, ℕ, ◌<◌, ◌≤◌, true, List, [], length, Option, Some, is_some, ◌++◌};
+ghost use Rattle.include_graph.specs.declared.outline.Outline.{Outline};
+ghost use Rattle.include_graph.specs.declared.verdicts.Verdict.TheVariants.{Files};
+ghost use Rattle.djvu_base.specs.Library.{Mark, Open, Whole};
+ghost use Rattle.djvu_base.specs.Library as library;
+ghost use Rattle.include_graph.specs.declared.reader.OutlineReader.{OutlineReader};
+ghost use Rattle.include_graph.specs.Fed.{Fed, Reports};
+ghost use Rattle.include_graph.specs.Outlines.{outlined, outline_of};
+ghost use Rattle.include_graph.specs.Reading.{items_by_events};
+ghost use Rattle.include_graph.specs.Verdicts.{Graph, is_among, verdict_of};
+ghost use Rattle.include_graph.specs.Graphs.{KnownOn, VerdictOn, InOrder};
+
+/// With more outlines known a verdict is the same, or it was unknown at an outline that is known now. So files and faults
+/// stay, and an unknown outline stays the one that is asked for until it is known.
+pub fn verdicts_stay()
+    ensures { (names : List (List ℕ)) (less more : ℕ → Option Outline) (file : ℕ) → KnownOn less more
+        → VerdictOn more (verdict_of (record { names = names; outlines = less }) file) (verdict_of (record { names = names; outlines = more }) file) }
+{}
+
+/// In the list of a verdict each file stands once, after all that it includes. The file itself is listed, and each that is
+/// listed has itself a list as its verdict. A list is at most as long as the names.
+pub fn lists()
+    ensures order { (graph : Graph) (file : ℕ) (files : List ℕ) → file < length graph.names → verdict_of graph file ≡ Files files → InOrder graph [] files }
+    ensures itself { (graph : Graph) (file : ℕ) (files : List ℕ) → file < length graph.names → verdict_of graph file ≡ Files files
+        → is_among file files ≡ true }
+    ensures listed { (graph : Graph) (target file : ℕ) (files : List ℕ) → target < length graph.names → verdict_of graph target ≡ Files files
+        → is_among file files ≡ true → (list : List ℕ) × (verdict_of graph file ≡ Files list) }
+    ensures length { (graph : Graph) (file : ℕ) (files : List ℕ) → file < length graph.names → verdict_of graph file ≡ Files files
+        → length files ≤ length graph.names }
+{}
+
+/// An outline can be read event by event.
+pub fn by_events()
+    ensures { (mark : Mark) (bytes : List ℕ) → items_by_events mark bytes ≡ outlined mark bytes }
+{}
+
+/// An outline that is known stays, whatever follows and however the file ends. It is known where the file is closed.
+pub fn outlines_stay()
+    ensures stays { (mark : Mark) (bytes more : List ℕ) (outline : Outline) → outline_of Open bytes ≡ Some outline
+        → outline_of mark (bytes ++ more) ≡ Some outline }
+    ensures whole { (bytes : List ℕ) → is_some (outline_of Whole bytes) ≡ true }
+    ensures broken { (bytes : List ℕ) → is_some (outline_of library.Broken bytes) ≡ true }
+{
+    iff_chunks::laws::chunks_stay();
+    iff_chunks::laws::never_cut();
+}
+
+/// A reader asks for more bytes exactly where the outline isn't known, and is done where it is, unless there was no memory.
+pub fn readers_report()
+    ensures { (mark : Mark) (bytes : List ℕ) (reader : OutlineReader) → Fed mark bytes reader → Reports reader.step (outline_of mark bytes) }
+{}

@@ -5,4 +5,6 @@
 #[cfg(test)]
 mod chunks;
 #[cfg(test)]
+mod outlines;
+#[cfg(test)]
 mod pages;

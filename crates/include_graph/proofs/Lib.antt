@@ -1,4 +1,5 @@
 mod Among
+mod Asking
 mod ByEvents
 mod Closing
 mod Feeding

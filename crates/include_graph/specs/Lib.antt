@@ -1,3 +1,5 @@
+pub use Rattle.djvu_base.specs.Library
+pub use Rattle.djvu_base.specs.Name
 pub mod Included
 pub mod Outlines
 pub mod Verdicts

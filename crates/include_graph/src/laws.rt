@@ -1,7 +1,7 @@
 //! Laws of the definitions: each is a clause of a function that does nothing.
-ghost use Rattle.std.specs.Prelude.{◌≡◌, ℕ, ◌<◌, ◌≤◌, true, List, [], length, Option, Some, is_some, ◌++◌};
+ghost use Rattle.std.specs.Prelude.{◌≡◌, ℕ, ◌<◌, ◌≤◌, true, List, [], length, Option, Some, None, is_some, ◌++◌};
 ghost use Rattle.include_graph.specs.declared.outline.Outline.{Outline};
-ghost use Rattle.include_graph.specs.declared.verdicts.Verdict.TheVariants.{Files};
+ghost use Rattle.include_graph.specs.declared.verdicts.Verdict.TheVariants.{Files, NeedOutline};
 ghost use Rattle.djvu_base.specs.Library.{Mark, Open, Whole};
 ghost use Rattle.djvu_base.specs.Library as library;
 ghost use Rattle.include_graph.specs.declared.reader.OutlineReader.{OutlineReader};
@@ -49,4 +49,9 @@ pub fn outlines_stay()
 /// A reader asks for more bytes exactly where the outline isn't known, and is done where it is, unless there was no memory.
 pub fn readers_report()
     ensures { (mark : Mark) (bytes : List ℕ) (reader : OutlineReader) → Fed mark bytes reader → Reports reader.step (outline_of mark bytes) }
+{}
+
+/// A verdict asks for an outline only where that one isn't known. So the number of names is enough for every path.
+pub fn verdicts_ask()
+    ensures { (graph : Graph) (target file : ℕ) → target < length graph.names → verdict_of graph target ≡ NeedOutline file → graph.outlines file ≡ None }
 {}

@@ -1,5 +1,11 @@
 //! Which files an included file includes: its outline, which a reader makes of the file's bytes, and the verdict on a file,
 //! which a walk over outlines gives.
+//!
+//! `reader` and `walk` have the calls. `progress` has the reading of an outline event by event, `included` the faults of form,
+//! `stack` and `items` the parts of a walk.
+//!
+//! `specs/` has the definitions: `Included`, `Outlines` and `Verdicts`, `Graphs` (what holds of verdicts), `Fed` (how a reader
+//! stands to the bytes that it was fed) and `Worked`. `Reading`, `Stack` and `Steps` say how the code goes.
 #![tactic(auto)]
 
 mod included;
@@ -11,7 +17,7 @@ mod reader;
 mod stack;
 mod verdicts;
 mod walk;
-mod worked;
+pub mod worked;
 
 pub use outline::{Outline, OutlineItem};
 pub use reader::{OutlineReader, OutlineStep};

@@ -1,5 +1,5 @@
 //! The outline reader: it walks over a file that arrives in pieces, and keeps the items of its outline alone.
-ghost use Rattle.std.specs.Prelude.{◌≡◌, ℕ, ◌+◌, ◌<◌, ◌^◌, ◌++◌, List, [], length, IfOk, Some};
+ghost use Rattle.std.specs.Prelude.{◌≡◌, ◌≢◌, ℕ, ◌+◌, ◌<◌, ◌^◌, ◌++◌, List, [], length, IfOk, Some};
 ghost use Rattle.djvu_base.specs.Library.{Mark, Open, mark_of};
 ghost use Rattle.include_graph.specs.Outlines.{outline_of};
 ghost use Rattle.include_graph.specs.Fed.{Fed, FedBy, IsReading, IsWalking, PausesSo, answer_of, ended_so, progress_of};
@@ -50,6 +50,9 @@ impl OutlineReader {
     pub fn feed(&mut self, piece: &[u8]) -> OutlineStep
         ensures fed { (bytes : List ℕ) → Fed Open bytes self.old → Fed Open (bytes ++ piece.now) self.new }
         ensures answer { result ≡ self.new.step }
+
+        // Once the reader answered something else, it answers the same from then on.
+        ensures stays { self.old.step ≢ OutlineStep.NeedBytes → (result ≡ self.old.step) × (self.new ≡ self.old) }
     {
         crate::laws::outlines_stay();
         match self.step {
@@ -63,6 +66,9 @@ impl OutlineReader {
     pub fn end(&mut self, end: FileEnd) -> OutlineStep
         ensures fed { (bytes : List ℕ) → Fed Open bytes self.old → Fed (mark_of end) bytes self.new }
         ensures answer { result ≡ self.new.step }
+
+        // Once the reader answered something else, it answers the same from then on.
+        ensures stays { self.old.step ≢ OutlineStep.NeedBytes → (result ≡ self.old.step) × (self.new ≡ self.old) }
     {
         crate::laws::outlines_stay();
         match self.step {

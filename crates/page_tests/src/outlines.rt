@@ -1,6 +1,6 @@
 //! Outlines of included files, in every cut, and verdicts over small graphs.
 ghost use Rattle.std.specs.Prelude.{◌≡◌, ◌≤◌, ◌<◌, length, IfSome};
-ghost use Rattle.djvu_base.specs.Name.{IsAscending};
+ghost use Rattle.djvu_base.specs.Name.{IsAscending, is_ascending};
 
 use djvu_base::{FileEnd, Items, Name};
 use include_graph::{Outline, OutlineItem, OutlineReader, OutlineStep, Verdict, verdict};
@@ -67,16 +67,28 @@ fn outlines_in_two_pieces(rt: HostRuntime) {
     assert_eq!(rt; text.as_slice(), b"a 12/truncated 12/".as_slice());
 }
 
+/// Whether these names ascend.
+fn ascend(names: &[Name]) -> bool
+    ensures { result ≡ is_ascending names.now }
+{
+    let Some((first, others)) = names.split_first() else {
+        return true;
+    };
+    let Some((next, _)) = others.split_first() else {
+        return true;
+    };
+    first.bytes().cmp(next.bytes()).is_lt() && ascend(others)
+}
+
 /// The names `a` to `d`.
 fn four_names(alloc: Global) -> Option<Vec<Name>>
-    ensures ascending { IfSome result (λ names. IsAscending names.items) }
-    ensures four { IfSome result (λ names. length names.items ≡ 4) }
+    ensures { IfSome result (λ names. IsAscending names.items) }
 {
-    let a = Name::read(alloc, b"a".as_slice()).ok()??;
-    let b = Name::read(alloc, b"b".as_slice()).ok()??;
-    let c = Name::read(alloc, b"c".as_slice()).ok()??;
-    let d = Name::read(alloc, b"d".as_slice()).ok()??;
-    Vec::from_array(alloc, [a, b, c, d]).ok()
+    let mut names = Vec::new(alloc);
+    for letter in [b'a', b'b', b'c', b'd'] {
+        names.push(Name::read(alloc, &[letter]).ok()??).ok()?;
+    }
+    ascend(names.as_slice()).then_some(names)
 }
 
 /// The outline of a file that includes these files, each of which has a letter as its name.
@@ -95,6 +107,9 @@ fn including(alloc: Global, names: &[u8]) -> Option<Arc<Outline>> {
 /// What is said of `a` where each of the four files includes these, or isn't known.
 fn said_of_a(alloc: Global, includes: [Option<&[u8]>; 4]) -> Option<Vec<u8>> {
     let names = four_names(alloc)?;
+    if names.len() != 4 {
+        return None;
+    }
     let [a, b, c, d] = includes;
     let outlines = [
         match a {

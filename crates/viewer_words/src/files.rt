@@ -11,8 +11,10 @@ use crate::words::rest_of;
 use djvu_base::{Items, Name, is_listed};
 use std::alloc::{AllocError, Global};
 
-/// The line by which a command's words are refused over these names, as the first file that they name isn't listed, or `None`
-/// where all are. For words that are no command it is `None`.
+/// The line by which a command's words are refused for the first file that these names lack, or `None` where they lack none.
+///
+/// Words that are no command have an answer too: each word after the options counts as a name, whether it fits or not. Where
+/// the first word is no command's, or an option has no value that fits, the answer is `None`.
 pub fn unlisted_line(
     alloc: Global,
     names: &[Name],

@@ -1,5 +1,6 @@
 //! Laws of the definitions, and worked values of them: each is a clause of a function that does nothing.
-ghost use Rattle.std.specs.Prelude.{◌≡◌, ℕ, ◌+◌, ◌<◌, ◌≤◌, ◌↔◌, ◌++◌, List, [], ◌∷◌, length, map, take, Some, Ok, Err, codes};
+ghost use Rattle.std.specs.Prelude.{◌≡◌, ℕ, ◌+◌, ◌-◌, ◌<◌, ◌≤◌, ◌↔◌, ◌++◌, List, [], ◌∷◌, length, map, take, Some, Ok, Err, codes};
+ghost use Rattle.std.specs.List.{range_with_len};
 ghost use Rattle.djvu_base.specs.declared.faults.FaultKind.TheVariants.{Truncated, CyclicInclude};
 ghost use Rattle.djvu_base.specs.Text.{newline};
 ghost use Rattle.viewer_words.specs.declared.commands.Command.{Command};
@@ -25,11 +26,12 @@ pub fn refused_words()
     ensures refused_word { (words : List (List ℕ)) (number : ℕ) → words_of words ≡ Err number → number < length words → ¬ CanBegin (take (number + 1) words) }
 {}
 
-/// The files that a command's words name are the command's, in its order, and each is the word of its number. No page is
-/// named twice.
+/// The files that a command's words name are the command's, in its order. Each is the word of its number, and their numbers
+/// are those of the last words, in order. No page is named twice.
 pub fn named_files_are_words()
     ensures names { (words : List (List ℕ)) (command : Command) → words_of words ≡ Ok command → map (λ file. file.1) (named_files words) ≡ files_in command }
     ensures words { (words : List (List ℕ)) (command : Command) → words_of words ≡ Ok command → AreWords words (named_files words) }
+    ensures last { (words : List (List ℕ)) (command : Command) → words_of words ≡ Ok command → map (λ file. file.0) (named_files words) ≡ range_with_len (length words - length (named_files words)) (length (named_files words)) }
     ensures pages { (words : List (List ℕ)) (command : Command) → words_of words ≡ Ok command → IsPageList (pages_in command) }
 {}
 
@@ -75,6 +77,7 @@ pub fn worked_tables()
     ensures file { words_of (codes "draw" ∷ codes "--table" ∷ codes "t" ∷ codes "p" ∷ []) ≡ Ok (Draw (File (codes "t")) (codes "p" ∷ [])) }
     ensures same_file { words_of (codes "draw" ∷ codes "--table" ∷ codes "p" ∷ codes "p" ∷ []) ≡ Ok (Draw (File (codes "p")) (codes "p" ∷ [])) }
     ensures files { named_files (codes "draw" ∷ codes "--table" ∷ codes "t" ∷ codes "q" ∷ codes "p" ∷ []) ≡ (2, codes "t") ∷ (3, codes "q") ∷ (4, codes "p") ∷ [] }
+    ensures files_by_flat { named_files (codes "draw" ∷ codes "--table" ∷ codes "flat" ∷ codes "p" ∷ codes "q" ∷ []) ≡ (3, codes "p") ∷ (4, codes "q") ∷ [] }
     ensures unlisted { unlisted_line (codes "p" ∷ codes "t" ∷ []) (named_files (codes "draw" ∷ codes "--table" ∷ codes "t" ∷ codes "p" ∷ codes "q" ∷ [])) ≡ Some (words_line 4) }
     ensures like_a_table { words_of (codes "draw" ∷ codes "flat" ∷ codes "djvu" ∷ []) ≡ Ok (Draw Djvu (codes "flat" ∷ codes "djvu" ∷ [])) }
 {}

@@ -8,5 +8,8 @@ returns-clause-names c words command e = (files_named words command (read_writte
 pub returns-clause-words : goal.returns-clause-words
 returns-clause-words c words command e = (files_named words command (read_written words command e)).words
 
+pub returns-clause-last : goal.returns-clause-last
+returns-clause-last c words command e = (files_named words command (read_written words command e)).last
+
 pub returns-clause-pages : goal.returns-clause-pages
 returns-clause-pages c words command e = pages_listed words command (read_written words command e)

@@ -28,6 +28,10 @@ pub returns-clause-files : goal.returns-clause-files
 unfolding page_limit is_utf8 chars encode
 returns-clause-files c = refl
 
+pub returns-clause-files_by_flat : goal.returns-clause-files_by_flat
+unfolding page_limit is_utf8 chars encode
+returns-clause-files_by_flat c = refl
+
 pub returns-clause-unlisted : goal.returns-clause-unlisted
 unfolding page_limit is_utf8 chars encode
 returns-clause-unlisted c = refl

@@ -21,8 +21,8 @@ pub enum OutlineStep {
     OutOfMemory,
 }
 
-/// Reads the outline of an included file that arrives in pieces. It keeps the items, and of the file's bytes those of an
-/// `INCL` that has arrived in part.
+/// Reads the outline of an included file that arrives in pieces. It keeps the items, and of the file's bytes those of a header
+/// and of an `INCL` that have arrived in part.
 #[derive(Debug, Drop)]
 pub struct OutlineReader {
     alloc: Global,
@@ -35,7 +35,8 @@ pub struct OutlineReader {
 impl OutlineReader {
     /// A reader that was fed no byte.
     pub fn new(alloc: Global) -> OutlineReader
-        ensures { Fed Open [] result }
+        ensures fed { Fed Open [] result }
+        ensures begun { result.step ≡ OutlineStep.NeedBytes }
     {
         OutlineReader {
             alloc,

@@ -2,7 +2,7 @@
 -- None is cited from above.
 -- place_of
 mod Finding
--- Walk::include; Marking, Walking, Asking, Ordering, Serving
+-- Walk::include; Marking, Walking, Asking, Ordering, Serving, Leading
 mod Among
 -- is_known, items_known, Walk::step; Walking
 mod Stepping
@@ -16,8 +16,10 @@ mod Knowing
 mod Asking
 -- law lists; Serving
 mod Ordering
--- law lists
+-- laws lists, faults
 mod Serving
+-- laws below, faults
+mod Leading
 -- law by_events; Staying, Feeding
 mod ByEvents
 -- law outlines_stay; Feeding, Closing

@@ -34,6 +34,7 @@ pub struct OutlineReader {
 
 impl OutlineReader {
     /// A reader that was fed no byte.
+    #[tactic(auto, unfolding(crate::specs::Fed::Fed))]
     pub fn new(alloc: Global) -> OutlineReader
         ensures fed { Fed Open [] result }
         ensures begun { result.step ≡ OutlineStep.NeedBytes }
@@ -48,6 +49,7 @@ impl OutlineReader {
     }
 
     /// Goes on with the next bytes of the file. Answers `Done` as soon as the outline is known.
+    #[tactic(auto, unfolding(crate::specs::Fed::Fed))]
     pub fn feed(&mut self, piece: &[u8]) -> OutlineStep
         ensures fed { (bytes : List ℕ) → Fed Open bytes self.old → Fed Open (bytes ++ piece.now) self.new }
         ensures answer { result ≡ self.new.step }
@@ -64,6 +66,7 @@ impl OutlineReader {
     }
 
     /// Says that no more bytes come, and how the file ends. The outline is then known.
+    #[tactic(auto, unfolding(crate::specs::Fed::Fed))]
     pub fn end(&mut self, end: FileEnd) -> OutlineStep
         ensures fed { (bytes : List ℕ) → Fed Open bytes self.old → Fed (mark_of end) bytes self.new }
         ensures answer { result ≡ self.new.step }
@@ -80,6 +83,7 @@ impl OutlineReader {
     }
 
     /// The outline.
+    #[tactic(auto, unfolding(crate::specs::Fed::Fed))]
     pub fn take(self) -> Outline
         requires { self.step ≡ OutlineStep.Done }
         ensures { (mark : Mark) (bytes : List ℕ) → Fed mark bytes self → outline_of mark bytes ≡ Some result }
@@ -89,6 +93,7 @@ impl OutlineReader {
         }
     }
 
+    #[tactic(auto, unfolding(crate::specs::Fed::Fed))]
     fn read(&mut self, piece: &[u8]) -> OutlineStep
         ensures fed { (bytes : List ℕ) → IsReading Open bytes self.old → Fed Open (bytes ++ piece.now) self.new }
         ensures answer { result ≡ self.new.step }
@@ -136,6 +141,7 @@ impl OutlineReader {
         }
     }
 
+    #[tactic(auto, unfolding(crate::specs::Fed::Fed))]
     fn close(&mut self, end: FileEnd) -> OutlineStep
         ensures fed { (bytes : List ℕ) → IsReading Open bytes self.old → Fed (mark_of end) bytes self.new }
         ensures answer { result ≡ self.new.step }

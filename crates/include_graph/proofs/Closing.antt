@@ -57,6 +57,7 @@ begins_walking bytes piece reader count r e = record {
 -- where the outline was known, it stays
 pub done_stays : (reader : OutlineReader) (mark : Mark) (bytes all : List ℕ) → reader.step ≡ step.Done → ((outline : Outline)
     → outline_of Open bytes ≡ Some outline → outline_of mark all ≡ Some outline) → Fed Open bytes reader → Fed mark all reader
+unfolding Fed
 done_stays reader mark bytes all e law h = subst (λ s. FedBy s mark all reader) (sym e)
     (law (outline_read reader) (subst (λ s. FedBy s Open bytes reader) e h))
 

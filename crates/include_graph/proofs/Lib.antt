@@ -1,12 +1,30 @@
+-- The lemmas of this crate, lowest first; above each stand the functions and laws whose clauses it ends in, and the lemmas above it.
+-- None is cited from above.
+-- place_of
+mod Finding
+-- Walk::include; Marking, Walking, Asking, Ordering, Serving, Leading
 mod Among
-mod Asking
-mod ByEvents
-mod Closing
-mod Feeding
-mod Knowing
-mod Marking
-mod Ordering
-mod Serving
-mod Staying
+-- is_known, items_known, Walk::step; Walking
 mod Stepping
+-- Walking
+mod Marking
+-- verdict, Walk::step, Walk::include
 mod Walking
+-- law verdicts_stay
+mod Knowing
+-- law verdicts_ask
+mod Asking
+-- law lists; Serving
+mod Ordering
+-- laws lists, faults
+mod Serving
+-- laws below, faults
+mod Leading
+-- law by_events; Staying, Feeding
+mod ByEvents
+-- law outlines_stay; Feeding, Closing
+mod Staying
+-- OutlineReader::walk; Closing
+mod Feeding
+-- OutlineReader::feed, OutlineReader::end, OutlineReader::read, OutlineReader::close; law readers_report
+mod Closing

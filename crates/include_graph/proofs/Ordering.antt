@@ -145,6 +145,36 @@ verdict_order graph file files b e =
     (visit_passed graph most [] file [] b refl refl (record { order = tt; apart = λ q h. refl })) e in
     (passed.sound.order, passed.has)
 
+abbrev EndsWith : ℕ → List ℕ → Type 0
+EndsWith file left = (before : List ℕ) × (left ≡ before ++ file ∷ [])
+
+then_last : (walked : Walked) (P : List ℕ → Type 0) (next : List ℕ → Walked) → ((left : List ℕ) → OnLeft (next left) P) → OnLeft (walk_then walked next) P
+then_last (Left left) P next all = all left
+then_last (Unknown file) P next all = tt
+then_last (Faulty fault) P next all = tt
+
+items_last : (go : ℕ → List ℕ → Walked) (names : List (List ℕ)) (path : List ℕ) (file : ℕ) (items : List OutlineItem) (left : List ℕ)
+    → OnLeft (at_items go names path file items left) (EndsWith file)
+items_last go names path file [] left = (left, refl)
+items_last go names path file (item.Include name offset ∷ items) left =
+    then_last (at_include go path file offset (number_of name names) left) (EndsWith file) (at_items go names path file items)
+    (items_last go names path file items)
+items_last go names path file (item.Broken kind offset ∷ items) left = tt
+
+outline_last : (go : ℕ → List ℕ → Walked) (names : List (List ℕ)) (path : List ℕ) (file : ℕ) (known : Option Outline) (left : List ℕ)
+    → OnLeft (at_outline go names path file known left) (EndsWith file)
+outline_last go names path file None left = tt
+outline_last go names path file (Some outline) left = items_last go names path file outline.items left
+
+visit_last : (graph : Graph) (most : ℕ) (path : List ℕ) (file : ℕ) (left : List ℕ) → OnLeft (visit graph most path file left) (EndsWith file)
+visit_last graph zero path file left = tt
+visit_last graph (suc most) path file left = outline_last (visit graph most (file ∷ path)) graph.names (file ∷ path) file (graph.outlines file) left
+
+-- the file itself is left last
+pub verdict_last : (graph : Graph) (file : ℕ) (files : List ℕ) → verdict_of graph file ≡ Files files → (before : List ℕ) × (files ≡ before ++ file ∷ [])
+verdict_last graph file files e =
+    files_of (visit graph (length graph.names) [] file []) (EndsWith file) files (visit_last graph (length graph.names) [] file []) e
+
 -- distinct files below a number are no more than that number
 counted : (graph : Graph) (before files turned : List ℕ) → InOrder graph before files → IsDistinct eqb turned → ((q : ℕ)
     → is_among q turned ≡ is_among q before) → ((q : ℕ) → is_among q turned ≡ true → q < length graph.names)

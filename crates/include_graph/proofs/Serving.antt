@@ -1,10 +1,13 @@
--- Each file of a list in order has itself a list as its verdict.
-use Rattle.std.proofs.Common.{◌≡◌, ℕ, zero, suc, ◌<◌, Bool, true, false, List, [], ◌∷◌, ◌++◌, length, Option, Some, inl, inr, refl, sym, ap, ◌∙◌, subst, arith, append_assoc, length-append, rules}
+-- Each file of a list in order has itself a list as its verdict, and includes lead from it to no fault.
+use Rattle.std.proofs.Common.{◌≡◌, ℕ, zero, suc, ◌<◌, Bool, true, false, List, [], ◌∷◌, ◌++◌, length, get_or, Option, Some, None, inl, inr, refl, sym, ap, ◌∙◌, subst, arith, append_assoc, length-append, rules}
+use Rattle.djvu_base.specs.declared.faults.Fault.{Fault}
+use Rattle.djvu_base.specs.declared.faults.FaultKind.{FaultKind}
+use Rattle.include_graph.specs.declared.outline.Outline.{Outline}
 use Rattle.include_graph.specs.declared.outline.OutlineItem.{OutlineItem}
 use Rattle.include_graph.specs.declared.outline.OutlineItem.TheVariants as item
 use Rattle.include_graph.specs.declared.verdicts.Verdict.TheVariants.{Files}
 use Rattle.include_graph.specs.Verdicts.{Graph, Walked, Left, walk_then, number_of, is_among, at_target, at_include, at_items, at_outline, visit, verdict_by, verdict_of}
-use Rattle.include_graph.specs.Graphs.{IncludesAmong, IsServed, InOrder}
+use Rattle.include_graph.specs.Graphs.{IncludesAmong, IsServed, InOrder, HasItem, Includes, IsWay, HasFault, lacks_file, comes_back, is_broken, LeadsTo}
 use Rattle.include_graph.proofs.Among.{not_both, by_test, among_cases, not_among_left}
 use Rattle.include_graph.proofs.Ordering.{verdict_order, order_length}
 
@@ -116,3 +119,85 @@ listed_served graph target file files b e h = itself (stands graph [] files file
       let on = visit_goes_on graph (length graph.names) [] t.first file [] few t.order t.served
       (λ q h. elim (among_cases q file [] h) [ inl e ↦ subst (λ f. is_among f t.first ≡ false) (sym e) t.new | inr h ↦ cc ]) in
       (on.0, ap verdict_by on.1)
+
+-- the includes of a file among these files
+included_among : (names : List (List ℕ)) (before : List ℕ) (items : List OutlineItem) → IncludesAmong names before items
+    → (name : List ℕ) (offset k : ℕ) → k < length items → get_or items k (item.Include name offset) ≡ item.Include name offset
+    → (next : ℕ) × (number_of name names ≡ Some next) × (is_among next before ≡ true)
+included_among names before [] all name offset k b e = absurd (omega (arith, b))
+included_among names before (item.Include other place ∷ items) all name offset zero b e =
+    let same : other ≡ name = cc in
+    subst (λ n. (next : ℕ) × (number_of n names ≡ Some next) × (is_among next before ≡ true)) same all.0
+included_among names before (item.Include other place ∷ items) all name offset (suc k) b e =
+    included_among names before items all.1 name offset k (omega (arith, b)) e
+included_among names before (item.Broken kind place ∷ items) all name offset k b e = absurd all
+
+none_broken : (names : List (List ℕ)) (before : List ℕ) (items : List OutlineItem) → IncludesAmong names before items
+    → (kind : FaultKind) (offset k : ℕ) → k < length items → get_or items k (item.Broken kind offset) ≡ item.Broken kind offset → ⊥
+none_broken names before [] all kind offset k b e = absurd (omega (arith, b))
+none_broken names before (item.Include other place ∷ items) all kind offset zero b e = cc
+none_broken names before (item.Include other place ∷ items) all kind offset (suc k) b e =
+    none_broken names before items all.1 kind offset k (omega (arith, b)) e
+none_broken names before (item.Broken other place ∷ items) all kind offset k b e = absurd all
+
+same_outline : (outline other : Outline) → Some outline ≡ Some other → outline ≡ other
+same_outline outline other e = cc
+
+same_number : (number other : ℕ) → Some number ≡ Some other → number ≡ other
+same_number number other e = cc
+
+not_some : (number : Option ℕ) (other : ℕ) → number ≡ None → number ≡ Some other → ⊥
+not_some None other e f = cc
+not_some (Some number) other e f = cc
+
+-- a file whose includes are all among files in order, and none of the path is among these
+record Descends (graph : Graph) (path : List ℕ) (file : ℕ) : Type 0 where
+  before : List ℕ
+  order : InOrder graph [] before
+  served : IsServed graph before file
+  apart : (q : ℕ) → is_among q (file ∷ path) ≡ true → is_among q before ≡ false
+
+module _ (graph : Graph) (path : List ℕ) (file : ℕ) (d : Descends graph path file) where
+  all_among : (found : OutlineItem) (h : HasItem graph file found) → IncludesAmong graph.names d.before h.outline.items
+  all_among found h =
+      let same = same_outline d.served.outline h.outline (sym d.served.known ∙ h.known) in
+      subst (λ o. IncludesAmong graph.names d.before o.items) same d.served.includes
+
+  next_among : (next : ℕ) → Includes graph file next → is_among next d.before ≡ true
+  next_among next i =
+      let h = i.has in
+      let found = included_among graph.names d.before h.outline.items (all_among (item.Include i.name i.offset) h) i.name i.offset h.has.0 h.has.1 h.has.2 in
+      subst (λ n. is_among n d.before ≡ true) (same_number found.0 next (sym found.1 ∙ i.number)) found.2
+
+  goes_down : (next : ℕ) → Includes graph file next → Descends graph (file ∷ path) next
+  goes_down next i =
+      let t = stands graph [] d.before next d.order (next_among next i) in
+      record { before = t.first; order = t.order; served = t.served; apart = apart_below graph (file ∷ path) d.before next t d.apart }
+
+  no_fault : (fault : Fault) → HasFault graph path file fault → ⊥
+  no_fault fault (lacks_file name offset h none is) =
+      let found = included_among graph.names d.before h.outline.items (all_among (item.Include name offset) h) name offset h.has.0 h.has.1 h.has.2 in
+      not_some (number_of name graph.names) found.0 none found.1
+  no_fault fault (comes_back name offset next h number among is) =
+      not_both (is_among next d.before) (next_among next (record { name = name; offset = offset; has = h; number = number })) (d.apart next among)
+  no_fault fault (is_broken kind offset h is) =
+      none_broken graph.names d.before h.outline.items (all_among (item.Broken kind offset) h) kind offset h.has.0 h.has.1 h.has.2
+
+way_descends : (graph : Graph) (target : ℕ) (files : List ℕ) → InOrder graph [] files → is_among target files ≡ true → (path : List ℕ) (file : ℕ)
+    → IsWay graph target (file ∷ path) → Descends graph path file
+way_descends graph target files order among [] file e = subst (λ f. Descends graph [] f) (sym e) (at_list (stands graph [] files target order among)) where
+  at_list : Stands graph [] files target → Descends graph [] target
+  at_list t = record {
+    before = t.first;
+    order = t.order;
+    served = t.served;
+    apart = λ q h. elim (among_cases q target [] h) [ inl e ↦ subst (λ f. is_among f t.first ≡ false) (sym e) t.new | inr h ↦ cc ];
+  }
+way_descends graph target files order among (above ∷ path) file way =
+    goes_down graph path above (way_descends graph target files order among path above way.1) file way.0
+
+pub none_faulty : (graph : Graph) (target : ℕ) (files : List ℕ) → target < length graph.names → verdict_of graph target ≡ Files files
+    → (fault : Fault) → LeadsTo graph target fault → ⊥
+none_faulty graph target files b e fault leads =
+    let ordered = verdict_order graph target files b e in
+    no_fault graph leads.path leads.file (way_descends graph target files ordered.0 ordered.1 leads.path leads.file leads.way) fault leads.has

@@ -51,7 +51,7 @@ FedBy step.Done mark bytes reader = outline_of mark bytes ≡ Some (outline_read
 FedBy step.OutOfMemory mark bytes reader = ⊤
 
 -- a reader was fed these bytes, and told this of their end
-abbrev pub Fed : Mark → List ℕ → OutlineReader → Type 0
+unfoldable pub Fed : Mark → List ℕ → OutlineReader → Type 0
 Fed mark bytes reader = FedBy reader.step mark bytes reader
 
 -- an answer says whether the outline is known

@@ -1,4 +1,4 @@
--- The reading of an outline, event by event, and how an outline reader stands to the bytes that it was fed.
+-- The reading of an outline, event by event.
 use Rattle.std.specs.Prelude.{ℕ, Bool, true, false, ◌||◌, ◌++◌, List, [], ◌∷◌, Option, Some, None, if◌then◌else◌}
 use Rattle.djvu_base.specs.declared.faults.FaultKind.{FaultKind}
 use Rattle.djvu_base.specs.declared.faults.FaultKind.TheVariants as fault

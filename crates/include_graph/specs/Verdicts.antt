@@ -50,8 +50,11 @@ walk_then (Left left) next = next left
 walk_then (Unknown file) next = Unknown file
 walk_then (Faulty fault) next = Faulty fault
 
+abbrev pub fault_at : FaultKind → ℕ → ℕ → Fault
+fault_at kind file offset = record { kind = kind; place = record { file = file; offset = offset } }
+
 abbrev pub refused : FaultKind → ℕ → ℕ → Walked
-refused kind file offset = Faulty (record { kind = kind; place = record { file = file; offset = offset } })
+refused kind file offset = Faulty (fault_at kind file offset)
 
 -- at an include whose target is on the path or not, and was left before or not
 abbrev pub at_target : (ℕ → List ℕ → Walked) → Bool → Bool → ℕ → ℕ → ℕ → List ℕ → Walked

@@ -1,6 +1,7 @@
 //! What is known of a folder's files: the numbers of names, and the items of outlines.
 ghost use Rattle.std.specs.Prelude.{◌≡◌, ◌<◌, ◌^◌, length, map, IfSome, is_some, bytes_eq};
 ghost use Rattle.std.specs.List.{position_from};
+ghost use Rattle.djvu_base.specs.Name.{IsAscending};
 ghost use Rattle.include_graph.specs.Verdicts.{number_of, in_list, outline_in};
 ghost use Rattle.include_graph.specs.Stack.{items_known};
 
@@ -10,21 +11,25 @@ use std::sync::Arc;
 
 /// The number of a name among others, or `None` where it isn't one of them.
 pub(crate) fn number_of(names: &[Name], name: &Name) -> Option<u32>
-    requires { length names.now < 2 ^ 32 }
+    requires ascending { IsAscending names.now }
+    requires few { length names.now < 2 ^ 32 }
     ensures { result ≡ number_of name.now names.now }
 {
-    match place_of(names, name.bytes()) {
+    match place_of(names, name) {
         Some(place) => Some(place as u32),
         None => None,
     }
 }
 
-/// The place of a name of these bytes among others.
-fn place_of(names: &[Name], bytes: &[u8]) -> Option<usize>
-    ensures place { result ≡ position_from (bytes_eq bytes.now) 0 names.now }
+/// The place of a name among others.
+fn place_of(names: &[Name], name: &Name) -> Option<usize>
+    requires { IsAscending names.now }
+    ensures place { result ≡ position_from (bytes_eq name.now) 0 names.now }
     ensures within { IfSome result (λ place. place < length names.now) }
 {
-    names.iter().position(|listed| bytes == listed.bytes())
+    names
+        .binary_search_by(|listed| listed.bytes().cmp(name.bytes()))
+        .ok()
 }
 
 /// Whether the outline of a file is known.

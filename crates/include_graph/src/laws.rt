@@ -1,7 +1,9 @@
-//! Laws of the definitions: each is a clause of a function that does nothing.
-ghost use Rattle.std.specs.Prelude.{◌≡◌, ℕ, ◌<◌, ◌≤◌, true, List, [], length, Option, Some, None, is_some, ◌++◌};
+//! Laws of the definitions: each is a clause of a function that does nothing. `worked` has outlines and verdicts that are
+//! worked out.
+ghost use Rattle.std.specs.Prelude.{◌≡◌, ℕ, ◌<◌, ◌≤◌, true, List, [], ◌∷◌, length, Option, Some, None, is_some, ◌++◌};
 ghost use Rattle.include_graph.specs.declared.outline.Outline.{Outline};
-ghost use Rattle.include_graph.specs.declared.verdicts.Verdict.TheVariants.{Files, NeedOutline};
+ghost use Rattle.include_graph.specs.declared.verdicts.Verdict.TheVariants.{Files, NeedOutline, Refused};
+ghost use Rattle.djvu_base.specs.declared.faults.Fault.{Fault};
 ghost use Rattle.djvu_base.specs.Library.{Mark, Open, Whole};
 ghost use Rattle.djvu_base.specs.Library as library;
 ghost use Rattle.include_graph.specs.declared.reader.OutlineReader.{OutlineReader};
@@ -9,7 +11,9 @@ ghost use Rattle.include_graph.specs.Fed.{Fed, Reports};
 ghost use Rattle.include_graph.specs.Outlines.{outlined, outline_of};
 ghost use Rattle.include_graph.specs.Reading.{items_by_events};
 ghost use Rattle.include_graph.specs.Verdicts.{Graph, is_among, verdict_of};
-ghost use Rattle.include_graph.specs.Graphs.{KnownOn, VerdictOn, InOrder};
+ghost use Rattle.include_graph.specs.Graphs.{KnownOn, VerdictOn, InOrder, IsWay, LeadsTo};
+
+pub mod worked;
 
 /// With more outlines known a verdict is the same, or it was unknown at an outline that is known now. So files and faults
 /// stay, and an unknown outline stays the one that is asked for until it is known.
@@ -18,12 +22,12 @@ pub fn verdicts_stay()
         → VerdictOn more (verdict_of (record { names = names; outlines = less }) file) (verdict_of (record { names = names; outlines = more }) file) }
 {}
 
-/// In the list of a verdict each file stands once, after all that it includes. The file itself is listed, and each that is
+/// In the list of a verdict each file stands once, after all that it includes. The file itself is the last, and each that is
 /// listed has itself a list as its verdict. A list is at most as long as the names.
 pub fn lists()
     ensures order { (graph : Graph) (file : ℕ) (files : List ℕ) → file < length graph.names → verdict_of graph file ≡ Files files → InOrder graph [] files }
-    ensures itself { (graph : Graph) (file : ℕ) (files : List ℕ) → file < length graph.names → verdict_of graph file ≡ Files files
-        → is_among file files ≡ true }
+    ensures itself { (graph : Graph) (file : ℕ) (files : List ℕ) → verdict_of graph file ≡ Files files
+        → (before : List ℕ) × (files ≡ before ++ file ∷ []) }
     ensures listed { (graph : Graph) (target file : ℕ) (files : List ℕ) → target < length graph.names → verdict_of graph target ≡ Files files
         → is_among file files ≡ true → (list : List ℕ) × (verdict_of graph file ≡ Files list) }
     ensures length { (graph : Graph) (file : ℕ) (files : List ℕ) → file < length graph.names → verdict_of graph file ≡ Files files
@@ -54,4 +58,21 @@ pub fn readers_report()
 /// A verdict asks for an outline only where that one isn't known. So the number of names is enough for every path.
 pub fn verdicts_ask()
     ensures { (graph : Graph) (target file : ℕ) → target < length graph.names → verdict_of graph target ≡ NeedOutline file → graph.outlines file ≡ None }
+{}
+
+/// The file that a verdict asks for, and the file of its fault, are below the number of names.
+pub fn below()
+    ensures asked { (graph : Graph) (target file : ℕ) → target < length graph.names → verdict_of graph target ≡ NeedOutline file → file < length graph.names }
+    ensures refused { (graph : Graph) (target : ℕ) (fault : Fault) → target < length graph.names → verdict_of graph target ≡ Refused fault
+        → fault.place.file < length graph.names }
+{}
+
+/// A verdict is a fault only where includes lead from the file to one that has this fault. It is a list only where they lead
+/// to no fault, and asks only for an outline to whose file they lead. So where all outlines are known, a verdict is a fault
+/// exactly where includes lead to one.
+pub fn faults()
+    ensures refused { (graph : Graph) (target : ℕ) (fault : Fault) → verdict_of graph target ≡ Refused fault → LeadsTo graph target fault }
+    ensures listed { (graph : Graph) (target : ℕ) (files : List ℕ) → target < length graph.names → verdict_of graph target ≡ Files files
+        → (fault : Fault) → LeadsTo graph target fault → ⊥ }
+    ensures asked { (graph : Graph) (target file : ℕ) → verdict_of graph target ≡ NeedOutline file → (path : List ℕ) × IsWay graph target (file ∷ path) }
 {}

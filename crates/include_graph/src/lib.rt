@@ -5,7 +5,7 @@
 //! `stack` and `items` the parts of a walk.
 //!
 //! `specs/` has the definitions: `Included`, `Outlines` and `Verdicts`, `Graphs` (what holds of verdicts), `Fed` (how a reader
-//! stands to the bytes that it was fed) and `Worked`. `Reading`, `Stack` and `Steps` say how the code goes.
+//! stands to the bytes that it was fed) and `Worked` (for `laws::worked`). `Reading`, `Stack` and `Steps` say how the code goes.
 #![tactic(auto)]
 
 mod included;
@@ -17,7 +17,6 @@ mod reader;
 mod stack;
 mod verdicts;
 mod walk;
-pub mod worked;
 
 pub use outline::{Outline, OutlineItem};
 pub use reader::{OutlineReader, OutlineStep};

@@ -21,8 +21,8 @@ pub enum OutlineStep {
     OutOfMemory,
 }
 
-/// Reads the outline of an included file that arrives in pieces. It keeps the items, and of the file's bytes those of an
-/// `INCL` that has arrived in part.
+/// Reads the outline of an included file that arrives in pieces. It keeps the items, and of the file's bytes those of a header
+/// and of an `INCL` that have arrived in part.
 #[derive(Debug, Drop)]
 pub struct OutlineReader {
     alloc: Global,
@@ -34,8 +34,10 @@ pub struct OutlineReader {
 
 impl OutlineReader {
     /// A reader that was fed no byte.
+    #[tactic(auto, unfolding(crate::specs::Fed::Fed))]
     pub fn new(alloc: Global) -> OutlineReader
-        ensures { Fed Open [] result }
+        ensures fed { Fed Open [] result }
+        ensures begun { result.step ≡ OutlineStep.NeedBytes }
     {
         OutlineReader {
             alloc,
@@ -47,6 +49,7 @@ impl OutlineReader {
     }
 
     /// Goes on with the next bytes of the file. Answers `Done` as soon as the outline is known.
+    #[tactic(auto, unfolding(crate::specs::Fed::Fed))]
     pub fn feed(&mut self, piece: &[u8]) -> OutlineStep
         ensures fed { (bytes : List ℕ) → Fed Open bytes self.old → Fed Open (bytes ++ piece.now) self.new }
         ensures answer { result ≡ self.new.step }
@@ -63,6 +66,7 @@ impl OutlineReader {
     }
 
     /// Says that no more bytes come, and how the file ends. The outline is then known.
+    #[tactic(auto, unfolding(crate::specs::Fed::Fed))]
     pub fn end(&mut self, end: FileEnd) -> OutlineStep
         ensures fed { (bytes : List ℕ) → Fed Open bytes self.old → Fed (mark_of end) bytes self.new }
         ensures answer { result ≡ self.new.step }
@@ -79,6 +83,7 @@ impl OutlineReader {
     }
 
     /// The outline.
+    #[tactic(auto, unfolding(crate::specs::Fed::Fed))]
     pub fn take(self) -> Outline
         requires { self.step ≡ OutlineStep.Done }
         ensures { (mark : Mark) (bytes : List ℕ) → Fed mark bytes self → outline_of mark bytes ≡ Some result }
@@ -88,6 +93,7 @@ impl OutlineReader {
         }
     }
 
+    #[tactic(auto, unfolding(crate::specs::Fed::Fed))]
     fn read(&mut self, piece: &[u8]) -> OutlineStep
         ensures fed { (bytes : List ℕ) → IsReading Open bytes self.old → Fed Open (bytes ++ piece.now) self.new }
         ensures answer { result ≡ self.new.step }
@@ -135,6 +141,7 @@ impl OutlineReader {
         }
     }
 
+    #[tactic(auto, unfolding(crate::specs::Fed::Fed))]
     fn close(&mut self, end: FileEnd) -> OutlineStep
         ensures fed { (bytes : List ℕ) → IsReading Open bytes self.old → Fed (mark_of end) bytes self.new }
         ensures answer { result ≡ self.new.step }

@@ -1,7 +1,8 @@
-//! The walk over outlines that gives a verdict. It goes down and back by a stack of its own, and never twice into a file.
+//! The walk over outlines that gives a verdict. Its code goes down and back by a stack of its own, and marks the files that it
+//! went into, so that it goes into none twice.
 ghost use Rattle.std.specs.Prelude.{◌≡◌, ◌↔◌, ◌+◌, ◌<◌, ◌^◌, ◌++◌, [], ◌∷◌, length, map, replicate, slice_get, slice_set, reverse, true, Some, IfOk};
 ghost use Rattle.djvu_base.specs.Name.{IsAscending};
-ghost use Rattle.include_graph.specs.Verdicts.{graph_in, outline_in, in_list, walk_then, at_include, number_of, verdict_of};
+ghost use Rattle.include_graph.specs.Verdicts.{graph_in, outline_in, in_list, walk_then, at_include, fault_at, number_of, verdict_of};
 ghost use Rattle.include_graph.specs.Stack.{path_of, down, rest_of_walk};
 ghost use Rattle.include_graph.specs.Steps.{Standing, StepGives, WorksBelow, Enters, frames_of, rest_from, work_left};
 
@@ -15,7 +16,8 @@ use std::sync::Arc;
 
 /// The verdict on a file. The outlines are those of the names, each at the place of its name, where it is known.
 ///
-/// The walk takes time in proportion to the outlines that it reads, and memory in proportion to the names.
+/// The walk takes one step for each item that it reads, and for each include a binary search among the names. It takes
+/// memory in proportion to the names.
 pub fn verdict(
     alloc: Global,
     names: &[Name],
@@ -92,6 +94,7 @@ impl Walk {
         names: &[Name],
         outlines: &[Option<Arc<Outline>>],
     ) -> Result<Step, AllocError>
+        requires ascending { IsAscending names.now }
         requires few { length names.now < 2 ^ 32 }
         requires places { length outlines.now ≡ length names.now }
         requires stands { Standing (graph_in names.now outlines.now) self.old }
@@ -131,6 +134,7 @@ impl Walk {
         name: &Name,
         offset: u32,
     ) -> Result<Step, AllocError>
+        requires ascending { IsAscending names.now }
         requires few { length names.now < 2 ^ 32 }
         requires places { length outlines.now ≡ length names.now }
         requires stands { Standing (graph_in names.now outlines.now) self.old }
@@ -194,7 +198,7 @@ fn all_ahead(alloc: Global, count: usize) -> Result<Vec<Mark>, AllocError>
 }
 
 fn fault_at(kind: FaultKind, file: u32, offset: u32) -> Fault
-    ensures { result ≡ record { kind = kind; place = record { file = file; offset = offset } } }
+    ensures { result ≡ fault_at kind file offset }
 {
     Fault {
         kind,

@@ -1,4 +1,4 @@
-use Rattle.include_graph.proofs.Ordering.{verdict_order, order_length}
+use Rattle.include_graph.proofs.Ordering.{verdict_order, verdict_last, order_length}
 use Rattle.include_graph.proofs.Serving.{listed_served}
 use Rattle.include_graph.proofs.laws.lists.Goals as goal
 
@@ -6,7 +6,7 @@ pub returns-clause-order : goal.returns-clause-order
 returns-clause-order c graph file files b e = (verdict_order graph file files b e).0
 
 pub returns-clause-itself : goal.returns-clause-itself
-returns-clause-itself c graph file files b e = (verdict_order graph file files b e).1
+returns-clause-itself c graph file files e = verdict_last graph file files e
 
 pub returns-clause-listed : goal.returns-clause-listed
 returns-clause-listed c graph target file files b e h = listed_served graph target file files b e h

@@ -1,5 +1,7 @@
+use Rattle.include_graph.specs.Fed.{Fed}
 use Rattle.include_graph.proofs.Closing.{reports}
 use Rattle.include_graph.proofs.laws.readers_report.Goals as goal
 
 pub returns : goal.returns
+unfolding Fed
 returns c mark bytes reader h = reports reader.step mark bytes reader h

@@ -1,11 +1,12 @@
 use Rattle.std.proofs.Common.{sym, subst}
 use Rattle.djvu_base.specs.Library.{mark_of}
-use Rattle.include_graph.specs.Fed.{FedBy}
+use Rattle.include_graph.specs.Fed.{Fed, FedBy}
 use Rattle.include_graph.proofs.Closing.{answered, with_step, close_reads}
 use Rattle.include_graph.proofs.Walking.{if_ok}
 use Rattle.include_graph.proofs.reader.OutlineReader.close.Goals as goal
 
 pub returns-clause-fed : goal.returns-clause-fed
+unfolding Fed
 returns-clause-fed c bytes r =
     let mark = mark_of c.args.end in
     let answer = c.answer_of-self.result in

@@ -2,7 +2,7 @@ use Rattle.std.proofs.Common.{refl}
 use lib.Utf8.{encode}
 use Rattle.std.specs.Str.{is_utf8, chars}
 use Rattle.djvu_base.specs.Library.{file_limit}
-use Rattle.include_graph.proofs.worked.worked_outlines.Goals as goal
+use Rattle.include_graph.proofs.laws.worked.worked_outlines.Goals as goal
 
 pub returns-clause-includes : goal.returns-clause-includes
 unfolding file_limit is_utf8 chars encode

@@ -5,6 +5,8 @@
 #[cfg(test)]
 mod chunks;
 #[cfg(test)]
+mod graphs;
+#[cfg(test)]
 mod outlines;
 #[cfg(test)]
 mod pages;

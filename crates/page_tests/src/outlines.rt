@@ -2,7 +2,7 @@
 ghost use Rattle.std.specs.Prelude.{◌≡◌, ◌≤◌, ◌<◌, length, IfSome};
 ghost use Rattle.djvu_base.specs.Name.{IsAscending, is_ascending};
 
-use djvu_base::{FileEnd, Items, Name};
+use djvu_base::{FaultKind, FileEnd, Items, Name};
 use include_graph::{Outline, OutlineItem, OutlineReader, OutlineStep, Verdict, verdict};
 use std::alloc::Global;
 use std::sync::Arc;
@@ -10,15 +10,57 @@ use std::sync::Arc;
 /// Includes of `a` and `bc`, then a dictionary, and a second one.
 const FILE: &[u8] = b"FORM\0\0\0\x28DJVIINCL\0\0\0\x01a\0INCL\0\0\0\x02bcDjbz\0\0\0\0Djbz\0\0\0\0";
 
-/// The outline of a file that comes in two pieces.
-fn outline_of(alloc: Global, bytes: &[u8], cut: usize) -> Option<Outline>
-    requires { cut ≤ length bytes.now }
-{
-    let mut reader = OutlineReader::new(alloc);
-    reader.feed(&bytes[..cut]);
-    reader.feed(&bytes[cut..]);
-    match reader.end(FileEnd::Whole) {
-        OutlineStep::Done => Some(reader.take()),
+/// Files, the items of their outlines, and the place of the byte that settles the outline, where one does.
+const FILES: [(&[u8], &[u8], Option<usize>); 15] = [
+    (FILE, b"a 12/bc 22/second-dictionary 40/", Some(47)),
+    (b"FORM\0\0\0\x0EDJVIINCL\0\0\0\x01a\0", b"a 12/", Some(21)),
+    (b"FORM\0\0\0\x0DDJVIINCL\0\0\0\x01a", b"a 12/", Some(20)),
+    (b"FORM\0\0\0\x0EDJVIINCL\0\0\0\x01a", b"a 12/", None),
+    (b"FORX", b"not-form 0/", Some(3)),
+    (b"FORM\x7f\xff\xff\xff", b"too-large 0/", Some(7)),
+    (b"FORM\0\0\0\x14DJVUINCL", b"not-included-form 0/", Some(11)),
+    (
+        b"FORM\0\0\0\x14DJVIDIRM\0\0\0\x04",
+        b"unsupported 12/",
+        Some(19),
+    ),
+    (
+        b"FORM\0\0\0\x14DJVIBG44\0\0\0\x04",
+        b"unsupported 12/",
+        Some(19),
+    ),
+    (
+        b"FORM\0\0\0\x14DJVIINFO\0\0\0\x04",
+        b"misplaced 12/",
+        Some(19),
+    ),
+    (
+        b"FORM\0\0\0\x0EDJVIINCL\0\0\0\x01/\0",
+        b"bad-include-name 12/",
+        Some(20),
+    ),
+    (b"FORM\0\0\0\x07DJVI", b"short-header 12/", Some(11)),
+    (
+        b"FORM\0\0\0\x0CDJVIINCL\0\0\0\x01",
+        b"overrun 12/",
+        Some(19),
+    ),
+    (
+        b"FORM\0\0\0\x0CDJVIIN\x1FL\0\0\0\0",
+        b"bad-id 12/",
+        Some(19),
+    ),
+    (
+        b"FORM\0\0\0\x28DJVIINCL\0\0\0\x01a",
+        b"a 12/truncated 12/",
+        None,
+    ),
+];
+
+/// The items of a reader's outline, once its file ends so.
+fn text_at_end(alloc: Global, mut reader: OutlineReader, end: FileEnd) -> Option<Vec<u8>> {
+    match reader.end(end) {
+        OutlineStep::Done => text_of(alloc, &reader.take()),
         OutlineStep::NeedBytes | OutlineStep::OutOfMemory => None,
     }
 }
@@ -43,28 +85,91 @@ fn text_of(alloc: Global, outline: &Outline) -> Option<Vec<u8>> {
     Some(text)
 }
 
-fn text_in_two(alloc: Global, bytes: &[u8], cut: usize) -> Option<Vec<u8>>
+/// The answers to two pieces of a file, and the items of its outline.
+fn read_in_two(
+    alloc: Global,
+    bytes: &[u8],
+    cut: usize,
+) -> Option<(OutlineStep, OutlineStep, Vec<u8>)>
     requires { cut ≤ length bytes.now }
 {
-    text_of(alloc, &outline_of(alloc, bytes, cut)?)
+    let mut reader = OutlineReader::new(alloc);
+    let first = reader.feed(&bytes[..cut]);
+    let second = reader.feed(&bytes[cut..]);
+    let text = text_at_end(alloc, reader, FileEnd::Whole)?;
+    Some((first, second, text))
+}
+
+/// The place of the first byte at which a reader that is fed byte by byte answers `Done`, and the items of its outline.
+fn read_by_bytes(alloc: Global, bytes: &[u8], end: FileEnd) -> Option<(Option<usize>, Vec<u8>)> {
+    let mut reader = OutlineReader::new(alloc);
+    let mut settled = None;
+    for (place, byte) in bytes.iter().enumerate() {
+        let step = reader.feed(&[*byte]);
+        if settled.is_none() && matches!(step, OutlineStep::Done) {
+            settled = Some(place);
+        }
+    }
+    let text = text_at_end(alloc, reader, end)?;
+    Some((settled, text))
+}
+
+/// What is answered once so many bytes came, where the byte at this place settles the outline.
+fn answer_after(settled: Option<usize>, came: usize) -> OutlineStep {
+    match settled {
+        Some(place) if place < came => OutlineStep::Done,
+        Some(_) | None => OutlineStep::NeedBytes,
+    }
 }
 
 #[test]
 fn outlines_in_two_pieces(rt: HostRuntime) {
-    for cut in 0..=FILE.len() {
-        let Some(text) = text_in_two(rt.alloc(), FILE, cut) else {
+    for (number, (bytes, items, settled)) in FILES.into_iter().enumerate() {
+        for cut in 0..=bytes.len() {
+            let Some((first, second, text)) = read_in_two(rt.alloc(), bytes, cut) else {
+                panic!(rt; "memory is ample");
+            };
+            assert_eq!(rt; text.as_slice(), items, "file {number} cut at {cut}");
+            assert_eq!(rt;
+                first,
+                answer_after(settled, cut),
+                "file {number} cut at {cut}"
+            );
+            assert_eq!(rt;
+                second,
+                answer_after(settled, bytes.len()),
+                "file {number} cut at {cut}"
+            );
+        }
+    }
+}
+
+#[test]
+fn outlines_byte_by_byte(rt: HostRuntime) {
+    for (number, (bytes, items, settled)) in FILES.into_iter().enumerate() {
+        let Some((place, text)) = read_by_bytes(rt.alloc(), bytes, FileEnd::Whole) else {
             panic!(rt; "memory is ample");
         };
-        assert_eq!(rt;
-            text.as_slice(),
-            b"a 12/bc 22/second-dictionary 40/".as_slice(),
-            "cut at {cut}"
-        );
+        assert_eq!(rt; text.as_slice(), items, "file {number}");
+        assert_eq!(rt; place, settled, "file {number}");
     }
-    let Some(text) = text_in_two(rt.alloc(), &FILE[..21], 0) else {
-        panic!(rt; "memory is ample");
-    };
-    assert_eq!(rt; text.as_slice(), b"a 12/truncated 12/".as_slice());
+}
+
+#[test]
+fn files_that_break_off(rt: HostRuntime) {
+    let cases: [(&[u8], &[u8]); 5] = [
+        (&FILE[..0], b"read 0/"),
+        (&FILE[..19], b"read 19/"),
+        (&FILE[..21], b"a 12/read 21/"),
+        (&FILE[..47], b"a 12/bc 22/read 47/"),
+        (FILE, b"a 12/bc 22/second-dictionary 40/"),
+    ];
+    for (bytes, items) in cases {
+        let Some((_, text)) = read_by_bytes(rt.alloc(), bytes, FileEnd::Broken) else {
+            panic!(rt; "memory is ample");
+        };
+        assert_eq!(rt; text.as_slice(), items, "{} bytes", bytes.len());
+    }
 }
 
 /// Whether these names ascend.
@@ -91,12 +196,20 @@ fn four_names(alloc: Global) -> Option<Vec<Name>>
     ascend(names.as_slice()).then_some(names)
 }
 
-/// The outline of a file that includes these files, each of which has a letter as its name.
+/// The outline of a file that includes these files, each of which has a letter as its name. A `!` stands for a cut.
 fn including(alloc: Global, names: &[u8]) -> Option<Arc<Outline>> {
     let mut items = Vec::new(alloc);
+    let mut offset = 12_u32;
     for name in names {
-        let name = Name::read(alloc, &[*name]).ok()??;
-        items.push(OutlineItem::Include { name, offset: 12 }).ok()?;
+        let item = if *name == b'!' {
+            let kind = FaultKind::Truncated;
+            OutlineItem::Broken { kind, offset }
+        } else {
+            let name = Name::read(alloc, &[*name]).ok()??;
+            OutlineItem::Include { name, offset }
+        };
+        items.push(item).ok()?;
+        offset = offset.wrapping_add(10);
     }
     let outline = Outline {
         items: Items::of(items),
@@ -134,7 +247,7 @@ fn said_of_a(alloc: Global, includes: [Option<&[u8]>; 4]) -> Option<Vec<u8>> {
         Verdict::NeedOutline(file) => format!(in alloc; "needs {file}").ok()?.into_bytes(),
         Verdict::Refused(fault) => {
             let word = fault.kind.word();
-            format!(in alloc; "{word} {}", fault.place.file)
+            format!(in alloc; "{word} {} {}", fault.place.file, fault.place.offset)
                 .ok()?
                 .into_bytes()
         }
@@ -154,14 +267,26 @@ fn listed(alloc: Global, files: &[u32]) -> Option<Vec<u8>> {
 #[test]
 fn verdicts_on_small_graphs(rt: HostRuntime) {
     let none: &[u8] = b"";
-    let cases: [([Option<&[u8]>; 4], &[u8]); 6] = [
+    let cases: [([Option<&[u8]>; 4], &[u8]); 9] = [
         (
             [Some(b"bc"), Some(b"d"), Some(b"d"), Some(none)],
             b"3 1 2 0 ",
         ),
-        ([Some(b"b"), Some(b"a"), None, None], b"cyclic-include 1"),
-        ([Some(b"a"), None, None, None], b"cyclic-include 0"),
-        ([Some(b"b"), Some(b"x"), None, None], b"missing-include 1"),
+        ([Some(b"b"), Some(b"a"), None, None], b"cyclic-include 1 12"),
+        ([Some(b"a"), None, None, None], b"cyclic-include 0 12"),
+        (
+            [Some(b"b"), Some(b"x"), None, None],
+            b"missing-include 1 12",
+        ),
+        (
+            [Some(b"bx"), Some(none), None, None],
+            b"missing-include 0 22",
+        ),
+        (
+            [Some(b"b"), Some(b"cc!"), Some(none), None],
+            b"truncated 1 32",
+        ),
+        ([Some(b"!"), None, None, None], b"truncated 0 12"),
         ([Some(b"bc"), Some(none), None, None], b"needs 2"),
         ([Some(none), None, None, None], b"0 "),
     ];

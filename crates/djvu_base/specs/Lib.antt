@@ -4,3 +4,5 @@ pub mod FaultKind
 pub mod Meter
 pub mod Text
 pub mod Picture
+pub mod Announced
+pub mod Turn

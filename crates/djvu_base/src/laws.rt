@@ -3,6 +3,8 @@ ghost use Rattle.std.specs.Prelude.{◌≡◌, ◌≤◌, ◌+◌, ◌^◌, ◌-
 ghost use Rattle.djvu_base.specs.Name.{is_name, is_before, is_ascending};
 ghost use Rattle.djvu_base.specs.Library.{Whole, library_within, contents_of, file_named};
 ghost use Rattle.djvu_base.specs.Meter.{ticked_once, ticked};
+ghost use Rattle.djvu_base.specs.Turn.{turn_of};
+ghost use Rattle.djvu_base.specs.declared.turns.Turn.TheVariants as turn;
 
 /// Ticks add up, and a count that they raise never falls.
 pub fn ticks_add_up()
@@ -47,4 +49,15 @@ pub fn worked_files()
         record { name = codes "a"; bytes = 1 ∷ 2 ∷ 3 ∷ []; mark = Whole } ∷ record { name = codes "b"; bytes = 5 ∷ []; mark = Whole } ∷ [] }
     ensures named { file_named (codes "b") (library_within 3 ((codes "a", 1 ∷ []) ∷ (codes "b", 5 ∷ []) ∷ [])) ≡
         Some (record { name = codes "b"; bytes = 5 ∷ []; mark = Whole }) }
+{}
+
+/// Flags, and the turns that they say: their higher bits say nothing.
+pub fn worked_turns()
+    ensures right { turn_of (Some 0x05) ≡ turn.Right }
+    ensures over { turn_of (Some 0x02) ≡ turn.Over }
+    ensures left { turn_of (Some 0x06) ≡ turn.Left }
+    ensures usual { turn_of (Some 0x01) ≡ turn.Upright }
+    ensures all_three { turn_of (Some 0x07) ≡ turn.Upright }
+    ensures higher_bits { turn_of (Some 0xFD) ≡ turn.Right }
+    ensures none { turn_of None ≡ turn.Upright }
 {}

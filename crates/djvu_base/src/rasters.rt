@@ -1,5 +1,6 @@
 //! Rasters: pictures as samples.
 ghost use Rattle.std.specs.Prelude.{◌≡◌, ◌*◌, vec_len};
+ghost use Rattle.djvu_base.specs.Picture.{IsPicture};
 
 use std::marker::Model;
 
@@ -12,14 +13,13 @@ pub struct Raster {
 }
 
 impl Model for Raster {
-    ghost use Rattle.std.specs.Prelude.{◌≡◌, ◌*◌, length};
-    ghost use Rattle.djvu_base.specs.Picture.{Picture};
+    ghost use Rattle.djvu_base.specs.Picture.{Picture, IsPicture};
 
     ghost Value = { Picture };
 
     ghost view = { λ a. record { width = a.columns; height = a.rows; samples = a.values.items } };
 
-    ghost invariant = { λ a. length a.values.items ≡ 3 * a.columns * a.rows };
+    ghost invariant = { λ a. IsPicture (record { width = a.columns; height = a.rows; samples = a.values.items }) };
 }
 
 impl Raster {
@@ -51,7 +51,8 @@ impl Raster {
 
     /// Three samples for each pixel, rows from the top and each row from the left.
     pub fn samples(&self) -> &[u8]
-        ensures { result.now ≡ self.now.samples }
+        ensures samples { result.now ≡ self.now.samples }
+        ensures whole { IsPicture self.now }
     {
         self.values.as_slice()
     }

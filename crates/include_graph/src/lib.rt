@@ -4,8 +4,9 @@
 //! `reader` and `walk` have the calls. `progress` has the reading of an outline event by event, `included` the faults of form,
 //! `stack` and `items` the parts of a walk.
 //!
-//! `specs/` has the definitions: `Included`, `Outlines` and `Verdicts`, `Graphs` (what holds of verdicts), `Fed` (how a reader
-//! stands to the bytes that it was fed) and `Worked` (for `laws::worked`). `Reading`, `Stack` and `Steps` say how the code goes.
+//! `specs/` has the definitions: `Included`, `Outlines` and `Verdicts`, `Graphs` and `Walks` (what holds of verdicts), `Fed` (how
+//! a reader stands to the bytes that it was fed) and `Worked` (for `laws::worked`). `Reading`, `Stack` and `Steps` say how the
+//! code goes.
 #![tactic(auto)]
 
 mod included;

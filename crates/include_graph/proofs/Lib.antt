@@ -26,7 +26,7 @@ mod Leading
 mod ByEvents
 -- law outlines_stay; Feeding, Closing
 mod Staying
--- OutlineReader::walk; Closing
+-- FileWalk::walk; Closing
 mod Feeding
--- OutlineReader::feed, OutlineReader::end, OutlineReader::read, OutlineReader::close; law readers_report
+-- OutlineReader::feed, OutlineReader::end, FileWalk::read, FileWalk::close; law readers_report
 mod Closing

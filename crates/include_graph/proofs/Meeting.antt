@@ -171,7 +171,7 @@ module _ (graph : Graph) (go : ℕ → List ℕ → Walked) (path : List ℕ) (f
   outline_meets : MeetsBelow → (known : Option Outline) → graph.outlines file ≡ known → (left : List ℕ) → IsSound graph (file ∷ path) left
       → Meets graph path file AFile (met_by (at_outline go graph.names (file ∷ path) file known left))
   outline_meets down None e left s = not_known path file e
-  outline_meets down (Some outline) e left s = into_file path file outline _ e (items_meet down outline.items left s)
+  outline_meets down (Some outline) e left s = into_file path file outline (met_by (rest outline.items left)) e (items_meet down outline.items left s)
 
   still_sound : (walked : Walked) (left : List ℕ) (next : ℕ) → OnLeft walked (Passed graph (file ∷ path) left next)
       → OnLeft walked (IsSound graph (file ∷ path))
@@ -205,7 +205,8 @@ target_meets_first graph target b =
 -- what is met first is what the walk came to
 met_so : (graph : Graph) (target : ℕ) (met : Met) → target < length graph.names → MeetsFirst graph target met
     → met_by (visit graph (length graph.names) [] target []) ≡ met
-met_so graph target met b m = same_met graph [] target AFile _ met (target_meets_first graph target b) m
+met_so graph target met b m =
+    same_met graph [] target AFile (met_by (visit graph (length graph.names) [] target [])) met (target_meets_first graph target b) m
 
 fault_met : (walked : Walked) (fault : Fault) → verdict_by walked ≡ Refused fault → met_by walked ≡ MetFault fault
 fault_met (Left left) fault e = cc

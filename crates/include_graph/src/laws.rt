@@ -6,8 +6,7 @@ ghost use Rattle.include_graph.specs.declared.verdicts.Verdict.TheVariants.{File
 ghost use Rattle.djvu_base.specs.declared.faults.Fault.{Fault};
 ghost use Rattle.djvu_base.specs.Library.{Mark, Open, Whole};
 ghost use Rattle.djvu_base.specs.Library as library;
-ghost use Rattle.include_graph.specs.declared.reader.OutlineReader.{OutlineReader};
-ghost use Rattle.include_graph.specs.Fed.{Fed, Reports};
+ghost use Rattle.include_graph.specs.Fed.{Outlining, Fed, Reports};
 ghost use Rattle.include_graph.specs.Outlines.{outlined, outline_of};
 ghost use Rattle.include_graph.specs.Reading.{items_by_events};
 ghost use Rattle.include_graph.specs.Verdicts.{Graph, is_among, verdict_of};
@@ -53,7 +52,7 @@ pub fn outlines_stay()
 
 /// A reader asks for more bytes exactly where the outline isn't known, and is done where it is, unless there was no memory.
 pub fn readers_report()
-    ensures { (mark : Mark) (bytes : List ℕ) (reader : OutlineReader) → Fed mark bytes reader → Reports reader.step (outline_of mark bytes) }
+    ensures { (mark : Mark) (bytes : List ℕ) (reader : Outlining) → Fed mark bytes reader → Reports reader.answered (outline_of mark bytes) }
 {}
 
 /// A verdict asks for an outline only where that one isn't known. So the number of names is enough for every path.

@@ -1,11 +1,13 @@
 -- Where a file ends whose bytes end, by what is known of its end.
-use Rattle.std.specs.Prelude.{ℕ, Bool, true, false, List, length, if◌then◌else◌}
+use Rattle.std.specs.Prelude.{ℕ, ◌≡◌, Bool, true, false, List, length, if◌then◌else◌}
 use Rattle.djvu_base.specs.declared.faults.FaultKind.{FaultKind}
 use Rattle.djvu_base.specs.declared.faults.FaultKind.TheVariants.{Truncated, Read}
 use Rattle.djvu_base.specs.Library.{Mark, Open, Whole}
 use Rattle.djvu_base.specs.Library as library
 use Rattle.iff_chunks.specs.declared.walker.WalkEnd.{WalkEnd}
 use Rattle.iff_chunks.specs.declared.walker.WalkEnd.TheVariants as walk_end
+use Rattle.iff_chunks.specs.declared.walker.WalkStep.{WalkStep}
+use Rattle.iff_chunks.specs.declared.walker.WalkStep.TheVariants as step
 use Rattle.iff_chunks.specs.Chunks.{Chunk, Tail, InHead, InHeader, InData, InPad, FormEnd, Broken, chunks_of, end_of}
 
 -- the bytes ended too early
@@ -36,3 +38,19 @@ file_end mark bytes = closed mark (length bytes) (chunks_of bytes).whole (chunks
 abbrev pub tail_of : WalkEnd → Tail
 tail_of walk_end.FormEnd = FormEnd
 tail_of (walk_end.Broken kind offset) = Broken kind offset
+
+-- where a file is said to end that can't be read on, by what is known of its end
+abbrev pub broken_end : Mark → ℕ → FaultKind → ℕ → WalkEnd
+broken_end Open arrived kind offset = walk_end.Broken kind offset
+broken_end Whole arrived kind offset = walk_end.Broken kind offset
+broken_end library.Broken arrived kind offset = if is_cut kind then walk_end.Broken Read arrived else walk_end.Broken kind offset
+
+-- the end of a file that is said where its walker answers so, and nothing else any more
+abbrev pub IsSaid : Mark → ℕ → WalkStep → WalkEnd → Type 0
+IsSaid mark arrived step.FormEnd said = said ≡ walk_end.FormEnd
+IsSaid mark arrived (step.Broken kind offset) said = said ≡ broken_end mark arrived kind offset
+IsSaid mark arrived (step.Form kind size) said = ⊥
+IsSaid mark arrived (step.Header id offset size) said = ⊥
+IsSaid mark arrived step.Data said = ⊥
+IsSaid mark arrived step.ChunkEnd said = ⊥
+IsSaid mark arrived step.NeedBytes said = ⊥

@@ -3,7 +3,7 @@ ghost use Rattle.std.specs.Prelude.{◌≡◌, ◌≢◌, ℕ, ◌<◌, ◌++◌
 ghost use Rattle.djvu_base.specs.Library.{mark_of};
 ghost use Rattle.iff_chunks.specs.Chunks.{Chunk, Tail, chunks_of, chunks_in_all, end_of};
 ghost use Rattle.iff_chunks.specs.Chunks as chunks;
-ghost use Rattle.iff_chunks.specs.Ends.{closed, tail_of};
+ghost use Rattle.iff_chunks.specs.Ends.{closed, tail_of, broken_end, IsSaid};
 ghost use Rattle.iff_chunks.specs.Events.{Event, events_of, IsOpen, IsLast, Settles, is_event};
 ghost use Rattle.iff_chunks.specs.Told.{Told, Over, IsSound};
 ghost use Rattle.iff_chunks.specs.Walk.{IsFed};
@@ -136,14 +136,16 @@ impl Walker {
 
     /// Says that no more bytes come, and answers where the file ends, of which `arrived` bytes came. Takes no memory.
     ///
-    /// `Broken` is one of those of `end`. Where the reading failed, `Read` after all bytes that came takes the place of
-    /// `Truncated`.
+    /// `Broken` is one of those of `end`. Where the reading failed, `Read` takes the place of `Truncated`. Its place is the
+    /// caller's count `arrived`, whatever that is: the walker counts no bytes.
     pub fn finish(&mut self, end: FileEnd, arrived: u32) -> WalkEnd
         ensures ends { (taken : List ℕ) (told : List Event) → Told taken told self.old →
             tail_of result ≡ closed (mark_of end) arrived (chunks_of taken).whole (chunks_of taken).tail }
 
-        // From then on the walker answers what `end` does, again and again.
-        ensures over { (answer : WalkStep) × Over answer self.new × ((taken : List ℕ) (told : List Event) → Told taken told self.old → Settles answer (chunks_in_all taken).tail) }
+        // From then on the walker answers what `end` does, again and again, and the end is said by that answer.
+        ensures over { (answer : WalkStep) × Over answer self.new × IsSaid (mark_of end) arrived answer result
+            × ((taken : List ℕ) (told : List Event) → Told taken told self.old → Settles answer (chunks_in_all taken).tail) }
+        ensures stays { (answer : WalkStep) → Over answer self.old → IsSaid (mark_of end) arrived answer result × Over answer self.new }
     {
         match self.end() {
             WalkStep::Broken { kind, offset } => broken_so(end, arrived, kind, offset),
@@ -154,7 +156,9 @@ impl Walker {
 
 /// Where a file of so many bytes ends that can't be read on, by what is known of its end.
 fn broken_so(end: FileEnd, arrived: u32, kind: FaultKind, offset: u32) -> WalkEnd
-    ensures { (whole : List Chunk) (tail : Tail) → end_of whole tail ≡ chunks.Broken kind offset → tail_of result ≡ closed (mark_of end) arrived whole tail }
+    ensures said { result ≡ broken_end (mark_of end) arrived kind offset }
+    ensures tail { (whole : List Chunk) (tail : Tail) → end_of whole tail ≡ chunks.Broken kind offset
+        → tail_of result ≡ closed (mark_of end) arrived whole tail }
 {
     match (end, kind) {
         (FileEnd::Broken, FaultKind::Truncated) => WalkEnd::Broken {

@@ -13,11 +13,11 @@ use Rattle.iff_chunks.specs.Events.{Event, events_of, IsOpen}
 use Rattle.iff_chunks.specs.Told.{Told}
 use Rattle.include_graph.specs.declared.reader.OutlineStep.{OutlineStep}
 use Rattle.include_graph.specs.declared.reader.OutlineStep.TheVariants as step
-use Rattle.include_graph.specs.declared.reader.OutlineReader.{OutlineReader}
+use Rattle.include_graph.specs.declared.file_walk.FileWalk.{FileWalk}
 use Rattle.include_graph.specs.declared.outline.Outline.{Outline}
 use Rattle.include_graph.specs.Outlines.{outline_of}
 use Rattle.include_graph.specs.Reading.{Progress, at_start, after_events, is_known}
-use Rattle.include_graph.specs.Fed.{Counts, progress_of, IsReading, IsWalking, Fed, FedBy, outline_read, ended_so, answer_of, Reports}
+use Rattle.include_graph.specs.Fed.{Counts, progress_of, IsReading, IsWalking, Outlining, Fed, FedBy, outline_read, ended_so, answer_of, Reports}
 use Rattle.include_graph.proofs.Feeding.{tail_read, ended_read, broken_read}
 use Rattle.include_graph.proofs.Staying.{cut_is}
 
@@ -25,22 +25,7 @@ pub answered : (found : Result OutlineStep AllocError) (P : OutlineStep → Type
 answered (Ok answer) P h out = h
 answered (Err error) P h out = out
 
--- what is answered later isn't what was fed
-pub with_step : (answer later : OutlineStep) (mark : Mark) (bytes : List ℕ) (reader : OutlineReader) → FedBy answer mark bytes reader
-    → FedBy answer mark bytes (record reader { step = later })
-with_step step.NeedBytes later mark bytes reader h = record {
-  is_open = h.is_open;
-  told = h.told;
-  goes_on = h.goes_on;
-  progress = h.progress;
-  unknown
-      = h.unknown;
-  counts = h.counts;
-}
-with_step step.Done later mark bytes reader h = h
-with_step step.OutOfMemory later mark bytes reader h = tt
-
-pub begins_walking : (bytes piece : List ℕ) (reader : OutlineReader) (count : ℕ) → IsReading Open bytes reader
+pub begins_walking : (bytes piece : List ℕ) (reader : FileWalk) (count : ℕ) → IsReading Open bytes reader
     → (reader.arrived + length piece < 2 ^ 32 → count ≡ reader.arrived + length piece) → IsWalking bytes piece (record reader { arrived = count })
 begins_walking bytes piece reader count r e = record {
   told = r.told;
@@ -55,11 +40,19 @@ begins_walking bytes piece reader count r e = record {
       now ∙ ap (λ n. n + length piece) was ∙ sym sum
 
 -- where the outline was known, it stays
-pub done_stays : (reader : OutlineReader) (mark : Mark) (bytes all : List ℕ) → reader.step ≡ step.Done → ((outline : Outline)
+pub done_stays : (reader : Outlining) (mark : Mark) (bytes all : List ℕ) → reader.answered ≡ step.Done → ((outline : Outline)
     → outline_of Open bytes ≡ Some outline → outline_of mark all ≡ Some outline) → Fed Open bytes reader → Fed mark all reader
 unfolding Fed
-done_stays reader mark bytes all e law h = subst (λ s. FedBy s mark all reader) (sym e)
-    (law (outline_read reader) (subst (λ s. FedBy s Open bytes reader) e h))
+done_stays reader mark bytes all e law h = subst (λ s. FedBy s mark all reader.kept) (sym e)
+    (law (outline_read reader.kept) (subst (λ s. FedBy s Open bytes reader.kept) e h))
+
+-- where it wasn't, the walk goes on
+pub walk_fed : (reader : Outlining) (mark : Mark) (bytes all : List ℕ) (was answer : OutlineStep) (before after : FileWalk)
+    → ◌≡◌ {A = Outlining} (record { answered = was; kept = before }) reader → was ≡ step.NeedBytes
+    → (IsReading Open bytes before → FedBy answer mark all after) → Fed Open bytes reader → Fed mark all (record { answered = answer; kept = after })
+unfolding Fed
+walk_fed reader mark bytes all was answer before after view e goes h =
+    goes (subst (λ s. FedBy s Open bytes before) e (subst (λ (r : Outlining). FedBy r.answered Open bytes r.kept) (sym view) h))
 
 off_same : (arrived count : ℕ) (tail : Tail) → ((offset : ℕ) → tail ≡ Broken Truncated offset → arrived ≡ count)
     → broken_off arrived tail ≡ broken_off count tail
@@ -91,7 +84,7 @@ ended_reader : (mark : Mark) (bytes : List ℕ) (so_far : Progress) (last : Walk
 ended_reader mark bytes so_far walk_end.FormEnd e k t = ended_read mark bytes so_far e k t
 ended_reader mark bytes so_far (walk_end.Broken kind offset) e k t = broken_read mark bytes so_far kind offset e k t
 
-pub close_reads : (end : FileEnd) (bytes : List ℕ) (before after : OutlineReader) (last : WalkEnd) (answer : OutlineStep) → IsReading Open bytes before
+pub close_reads : (end : FileEnd) (bytes : List ℕ) (before after : FileWalk) (last : WalkEnd) (answer : OutlineStep) → IsReading Open bytes before
     → ((taken : List ℕ) (told : List Event) → Told taken told before.walker
     → tail_of last ≡ closed (mark_of end) before.arrived (chunks_of taken).whole (chunks_of taken).tail)
     → ((offset : ℕ) → (chunks_in_all bytes).tail ≡ Broken Truncated offset → length bytes < file_limit)
@@ -112,7 +105,7 @@ open_unknown bytes so_far (InPad offset is_last) o e k t = tail_read Open bytes 
 open_unknown bytes so_far FormEnd o e k t = absurd o
 open_unknown bytes so_far (Broken kind offset) o e k t = absurd o
 
-pub reports : (answer : OutlineStep) (mark : Mark) (bytes : List ℕ) (reader : OutlineReader) → FedBy answer mark bytes reader
+pub reports : (answer : OutlineStep) (mark : Mark) (bytes : List ℕ) (reader : FileWalk) → FedBy answer mark bytes reader
     → Reports answer (outline_of mark bytes)
 reports step.NeedBytes mark bytes reader r =
     subst (λ m. outline_of m bytes ≡ None) (sym r.is_open) (open_unknown bytes (progress_of reader.progress) (chunks_of bytes).tail r.goes_on

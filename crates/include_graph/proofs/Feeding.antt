@@ -12,7 +12,7 @@ use Rattle.iff_chunks.specs.Walk.{IsFed}
 use Rattle.iff_chunks.proofs.Lemmas.{walk_goes_on}
 use Rattle.include_graph.specs.declared.outline.OutlineItem.{OutlineItem}
 use Rattle.include_graph.specs.declared.reader.OutlineStep.{OutlineStep}
-use Rattle.include_graph.specs.declared.reader.OutlineReader.{OutlineReader}
+use Rattle.include_graph.specs.declared.file_walk.FileWalk.{FileWalk}
 use Rattle.include_graph.specs.Outlines.{Items, items_at_end, outline_by, outline_of}
 use Rattle.include_graph.specs.Reading.{Place, Passing, InInclude, Known, Progress, at_start, after_event, after_events, after_step, is_known, items_so_far, items_by_events, with_fault}
 use Rattle.include_graph.specs.Fed.{progress_of, IsReading, IsWalking, Reaches, FedBy, PausesSo, outline_read}
@@ -47,7 +47,7 @@ step_told told walk.FormEnd used = refl
 step_told told (walk.Broken kind offset) used = refl
 
 -- at the start of a piece
-pub reach_begins : (bytes piece : List ℕ) (reader : OutlineReader) → GoesOn (events_of (chunks_of bytes)) (events_of (chunks_of (bytes ++ piece)))
+pub reach_begins : (bytes piece : List ℕ) (reader : FileWalk) → GoesOn (events_of (chunks_of bytes)) (events_of (chunks_of (bytes ++ piece)))
     → IsWalking bytes piece reader → Reaches (bytes ++ piece) piece reader
 reach_begins bytes piece reader goes w = record {
   told = events_of (chunks_of bytes);
@@ -58,7 +58,7 @@ reach_begins bytes piece reader goes w = record {
 }
 
 -- with one more event
-pub reach_goes_on : (file rest next : List ℕ) (before after : OutlineReader) (used : ℕ) (answer : WalkStep) → Reaches file rest before
+pub reach_goes_on : (file rest next : List ℕ) (before after : FileWalk) (used : ℕ) (answer : WalkStep) → Reaches file rest before
     → IsFed before.walker rest used answer after.walker → next ≡ drop used rest
     → progress_of after.progress ≡ after_step (progress_of before.progress) answer (take used rest)
     → is_known (progress_of after.progress).place ≡ false → after.arrived ≡ before.arrived → Reaches file next after
@@ -74,7 +74,7 @@ outline_from : (mark : Mark) (file : List ℕ) (items : Items) → items_by_even
 outline_from mark file items e = ap outline_by (sym (by_events mark file) ∙ e)
 
 -- with an event behind which the outline is known
-pub reach_knows : (file rest : List ℕ) (before after : OutlineReader) (used : ℕ) (answer : WalkStep) → Reaches file rest before
+pub reach_knows : (file rest : List ℕ) (before after : FileWalk) (used : ℕ) (answer : WalkStep) → Reaches file rest before
     → IsFed before.walker rest used answer after.walker
     → progress_of after.progress ≡ after_step (progress_of before.progress) answer (take used rest)
     → is_known (progress_of after.progress).place ≡ true → outline_of Open file ≡ Some (outline_read after)
@@ -117,7 +117,7 @@ whole_file : (file rest taken : List ℕ) (used : ℕ) → file ≡ taken ++ res
 whole_file file rest taken used e = ap (λ r. taken ++ r) (take-append-drop used rest) ∙ sym e
 
 -- where the walker's answer tells no event
-pub reach_pauses : (bytes piece rest : List ℕ) (before middle after : OutlineReader) (used : ℕ) (answer : WalkStep) (result : OutlineStep)
+pub reach_pauses : (bytes piece rest : List ℕ) (before middle after : FileWalk) (used : ℕ) (answer : WalkStep) (result : OutlineStep)
     → Reaches (bytes ++ piece) rest before → IsFed before.walker rest used answer middle.walker
     → middle.progress ≡ before.progress → middle.arrived ≡ before.arrived → is_event answer ≡ false → PausesSo answer middle result after
     → FedBy result Open (bytes ++ piece) after

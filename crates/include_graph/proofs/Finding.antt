@@ -1,5 +1,5 @@
 -- Where a name stands among ascending names, by a binary search.
-use Rattle.std.proofs.Common.{◌≡◌, ℕ, zero, suc, ◌+◌, ◌<◌, Bool, true, false, cond, List, [], ◌∷◌, length, get_or, Option, Some, None, IfSome, Result, Ok, Err, Ordering, Less, Equal, Greater, is_lt, is_eq, nat_cmp, inl, inr, refl, sym, ap, ◌∙◌, arith}
+use Rattle.std.proofs.Common.{◌≡◌, ℕ, zero, suc, ◌+◌, ◌<◌, Bool, true, false, cond, List, [], ◌∷◌, length, get_or, Some, None, IfSome, Result, Ok, Err, Ordering, Less, Equal, Greater, is_lt, is_eq, nat_cmp, inl, inr, refl, sym, ap, ◌∙◌, arith}
 use Rattle.std.proofs.lemmas.Bool.{true≢false, cases_lt, and_parts}
 use Rattle.std.proofs.lemmas.Cmp.{nat_list_cmp_total, alike_right}
 use Rattle.std.proofs.lemmas.List.Sorted.{searchable_from_sorted}

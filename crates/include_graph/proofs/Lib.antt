@@ -2,7 +2,7 @@
 -- None is cited from above.
 -- place_of
 mod Finding
--- Walk::include; Marking, Walking, Asking, Ordering, Serving, Leading
+-- Walk::include; Marking, Walking, Asking, Ordering, Serving, Meeting, Leading
 mod Among
 -- is_known, items_known, Walk::step; Walking
 mod Stepping
@@ -14,17 +14,19 @@ mod Walking
 mod Knowing
 -- law verdicts_ask
 mod Asking
--- law lists; Serving
+-- law lists; Serving, Meeting
 mod Ordering
--- laws lists, faults
+-- laws lists, faults; Meeting
 mod Serving
+-- law verdicts_meet_first
+mod Meeting
 -- laws below, faults
 mod Leading
 -- law by_events; Staying, Feeding
 mod ByEvents
 -- law outlines_stay; Feeding, Closing
 mod Staying
--- OutlineReader::walk; Closing
+-- FileWalk::walk; Closing
 mod Feeding
--- OutlineReader::feed, OutlineReader::end, OutlineReader::read, OutlineReader::close; law readers_report
+-- OutlineReader::feed, OutlineReader::end, FileWalk::read, FileWalk::close; law readers_report
 mod Closing

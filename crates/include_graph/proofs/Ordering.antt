@@ -12,7 +12,7 @@ use Rattle.include_graph.specs.Graphs.{IncludesAmong, IsServed, InOrder}
 use Rattle.include_graph.proofs.Among.{among_head, among_tail, among_cases, among_left, among_right, not_among_both, among_turned, distinct_with, not_head, number_below}
 
 -- where the walk goes on
-abbrev OnLeft : Walked → (List ℕ → Type 0) → Type 0
+abbrev pub OnLeft : Walked → (List ℕ → Type 0) → Type 0
 OnLeft (Left left) P = P left
 OnLeft (Unknown file) P = ⊤
 OnLeft (Faulty fault) P = ⊤
@@ -23,19 +23,19 @@ then_left (Left left) P Q next h step = step left h
 then_left (Unknown file) P Q next h step = tt
 then_left (Faulty fault) P Q next h step = tt
 
-abbrev Keeps : List ℕ → List ℕ → Type 0
+abbrev pub Keeps : List ℕ → List ℕ → Type 0
 Keeps before after = (q : ℕ) → is_among q before ≡ true → is_among q after ≡ true
 
 -- these files were left in order, and none of the path is among them
-record IsSound (graph : Graph) (path left : List ℕ) : Type 0 where
-  order : InOrder graph [] left
-  apart : (q : ℕ) → is_among q path ≡ true → is_among q left ≡ false
+pub record IsSound (graph : Graph) (path left : List ℕ) : Type 0 where
+  pub order : InOrder graph [] left
+  pub apart : (q : ℕ) → is_among q path ≡ true → is_among q left ≡ false
 
 -- after a file of the path, or a target, was left or found among those that were
-record Passed (graph : Graph) (path left : List ℕ) (file : ℕ) (after : List ℕ) : Type 0 where
-  sound : IsSound graph path after
-  keeps : Keeps left after
-  has : is_among file after ≡ true
+pub record Passed (graph : Graph) (path left : List ℕ) (file : ℕ) (after : List ℕ) : Type 0 where
+  pub sound : IsSound graph path after
+  pub keeps : Keeps left after
+  pub has : is_among file after ≡ true
 
 -- one file more at the end
 pub order_more : (graph : Graph) (before files : List ℕ) (file : ℕ) → InOrder graph before files → IsServed graph (before ++ files) file
@@ -118,14 +118,14 @@ outline_passed graph go path file well b None e left new s = tt
 outline_passed graph go path file well b (Some outline) e left new s = items_passed graph go path file well outline.items left new s
     (λ after keeps all. record { below = b; outline = outline; known = e; includes = all })
 
-sound_below : (graph : Graph) (path left : List ℕ) (file : ℕ) → IsSound graph path left → is_among file left ≡ false → IsSound graph (file ∷ path) left
+pub sound_below : (graph : Graph) (path left : List ℕ) (file : ℕ) → IsSound graph path left → is_among file left ≡ false → IsSound graph (file ∷ path) left
 sound_below graph path left file s n = record {
   order = s.order;
   apart = λ q h. elim (among_cases q file path h)
       [ inl e ↦ subst (λ f. is_among f left ≡ false) (sym e) n | inr h ↦ s.apart q h ];
 }
 
-visit_passed : (graph : Graph) (most : ℕ) (path : List ℕ) (file : ℕ) (left : List ℕ) → file < length graph.names → is_among file path ≡ false
+pub visit_passed : (graph : Graph) (most : ℕ) (path : List ℕ) (file : ℕ) (left : List ℕ) → file < length graph.names → is_among file path ≡ false
     → is_among file left ≡ false → IsSound graph path left → OnLeft (visit graph most path file left) (Passed graph path left file)
 visit_passed graph zero path file left b new n s = tt
 visit_passed graph (suc most) path file left b new n s =

@@ -12,15 +12,15 @@ use Rattle.include_graph.proofs.Among.{not_both, by_test, among_cases, not_among
 use Rattle.include_graph.proofs.Ordering.{verdict_order, order_length}
 
 -- a file of a list in order, and those before it
-record Stands (graph : Graph) (before files : List ℕ) (file : ℕ) : Type 0 where
-  first : List ℕ
-  rest : List ℕ
-  parts : files ≡ first ++ file ∷ rest
-  order : InOrder graph before first
-  served : IsServed graph (before ++ first) file
-  new : is_among file (before ++ first) ≡ false
+pub record Stands (graph : Graph) (before files : List ℕ) (file : ℕ) : Type 0 where
+  pub first : List ℕ
+  pub rest : List ℕ
+  pub parts : files ≡ first ++ file ∷ rest
+  pub order : InOrder graph before first
+  pub served : IsServed graph (before ++ first) file
+  pub new : is_among file (before ++ first) ≡ false
 
-stands : (graph : Graph) (before files : List ℕ) (file : ℕ) → InOrder graph before files → is_among file files ≡ true → Stands graph before files file
+pub stands : (graph : Graph) (before files : List ℕ) (file : ℕ) → InOrder graph before files → is_among file files ≡ true → Stands graph before files file
 stands graph before [] file o h = cc
 stands graph before (first ∷ files) file o h = elim (among_cases file first files h)
     [ inl e ↦ here e | inr h ↦ later (stands graph (before ++ first ∷ []) files file o.2 h) ] where
@@ -82,11 +82,11 @@ module _ (graph : Graph) (go : ℕ → List ℕ → Walked) (path before : List 
       (include_goes_on down apart offset number left all.0.0 all.0.1 all.0.2) (items_go_on down apart items all.1)
   items_go_on down apart (item.Broken kind offset ∷ items) all left = absurd all
 
-shorter : (first rest : List ℕ) (file most : ℕ) → length (first ++ file ∷ rest) < suc most → length first < most
+pub shorter : (first rest : List ℕ) (file most : ℕ) → length (first ++ file ∷ rest) < suc most → length first < most
 shorter first rest file most h = let e = length-append first (file ∷ rest) in omega (arith, h, e)
 
 -- none of the path stands before a file that they include
-apart_below : (graph : Graph) (path before : List ℕ) (target : ℕ) (t : Stands graph [] before target) → ((q : ℕ) → is_among q path ≡ true
+pub apart_below : (graph : Graph) (path before : List ℕ) (target : ℕ) (t : Stands graph [] before target) → ((q : ℕ) → is_among q path ≡ true
     → is_among q before ≡ false) → (q : ℕ) → is_among q (target ∷ path) ≡ true → is_among q t.first ≡ false
 apart_below graph path before target t apart q h = elim (among_cases q target path h) [
   | inl e ↦ subst (λ f. is_among f t.first ≡ false) (sym e) t.new
@@ -140,13 +140,13 @@ none_broken names before (item.Include other place ∷ items) all kind offset (s
     none_broken names before items all.1 kind offset k (omega (arith, b)) e
 none_broken names before (item.Broken other place ∷ items) all kind offset k b e = absurd all
 
-same_outline : (outline other : Outline) → Some outline ≡ Some other → outline ≡ other
+pub same_outline : (outline other : Outline) → Some outline ≡ Some other → outline ≡ other
 same_outline outline other e = cc
 
-same_number : (number other : ℕ) → Some number ≡ Some other → number ≡ other
+pub same_number : (number other : ℕ) → Some number ≡ Some other → number ≡ other
 same_number number other e = cc
 
-not_some : (number : Option ℕ) (other : ℕ) → number ≡ None → number ≡ Some other → ⊥
+pub not_some : (number : Option ℕ) (other : ℕ) → number ≡ None → number ≡ Some other → ⊥
 not_some None other e f = cc
 not_some (Some number) other e f = cc
 

@@ -4,6 +4,7 @@ pub mod Included
 pub mod Outlines
 pub mod Verdicts
 pub mod Graphs
+pub mod Walks
 pub mod Stack
 pub mod Steps
 pub mod Reading

@@ -1,17 +1,17 @@
 //! Laws of the definitions: each is a clause of a function that does nothing. `worked` has outlines and verdicts that are
 //! worked out.
-ghost use Rattle.std.specs.Prelude.{◌≡◌, ℕ, ◌<◌, ◌≤◌, true, List, [], ◌∷◌, length, Option, Some, None, is_some, ◌++◌};
+ghost use Rattle.std.specs.Prelude.{◌≡◌, ◌↔◌, ℕ, ◌<◌, ◌≤◌, true, List, [], ◌∷◌, length, Option, Some, None, is_some, ◌++◌};
 ghost use Rattle.include_graph.specs.declared.outline.Outline.{Outline};
 ghost use Rattle.include_graph.specs.declared.verdicts.Verdict.TheVariants.{Files, NeedOutline, Refused};
 ghost use Rattle.djvu_base.specs.declared.faults.Fault.{Fault};
 ghost use Rattle.djvu_base.specs.Library.{Mark, Open, Whole};
 ghost use Rattle.djvu_base.specs.Library as library;
-ghost use Rattle.include_graph.specs.declared.reader.OutlineReader.{OutlineReader};
-ghost use Rattle.include_graph.specs.Fed.{Fed, Reports};
+ghost use Rattle.include_graph.specs.Fed.{Outlining, Fed, Reports};
 ghost use Rattle.include_graph.specs.Outlines.{outlined, outline_of};
 ghost use Rattle.include_graph.specs.Reading.{items_by_events};
 ghost use Rattle.include_graph.specs.Verdicts.{Graph, is_among, verdict_of};
-ghost use Rattle.include_graph.specs.Graphs.{KnownOn, VerdictOn, InOrder, IsWay, LeadsTo};
+ghost use Rattle.include_graph.specs.Graphs.{KnownOn, VerdictOn, InOrder, LeadsTo};
+ghost use Rattle.include_graph.specs.Walks.{MetNothing, MetUnknown, MetFault, MeetsFirst};
 
 pub mod worked;
 
@@ -52,7 +52,7 @@ pub fn outlines_stay()
 
 /// A reader asks for more bytes exactly where the outline isn't known, and is done where it is, unless there was no memory.
 pub fn readers_report()
-    ensures { (mark : Mark) (bytes : List ℕ) (reader : OutlineReader) → Fed mark bytes reader → Reports reader.step (outline_of mark bytes) }
+    ensures { (mark : Mark) (bytes : List ℕ) (reader : Outlining) → Fed mark bytes reader → Reports reader.answered (outline_of mark bytes) }
 {}
 
 /// A verdict asks for an outline only where that one isn't known. So the number of names is enough for every path.
@@ -67,12 +67,22 @@ pub fn below()
         → fault.place.file < length graph.names }
 {}
 
-/// A verdict is a fault only where includes lead from the file to one that has this fault. It is a list only where they lead
-/// to no fault, and asks only for an outline to whose file they lead. So where all outlines are known, a verdict is a fault
-/// exactly where includes lead to one.
+/// A verdict is what a walk meets first that remembers no file, but the path by which it came: a fault, an outline that isn't
+/// known, or nothing. So it is a fault exactly where some walk from the file meets a missing name, a fault of form, or a file
+/// of its path first.
+pub fn verdicts_meet_first()
+    ensures refused { (graph : Graph) (target : ℕ) (fault : Fault) → target < length graph.names
+        → (verdict_of graph target ≡ Refused fault) ↔ MeetsFirst graph target (MetFault fault) }
+    ensures asked { (graph : Graph) (target file : ℕ) → target < length graph.names
+        → (verdict_of graph target ≡ NeedOutline file) ↔ MeetsFirst graph target (MetUnknown file) }
+    ensures listed { (graph : Graph) (target : ℕ) → target < length graph.names
+        → ((files : List ℕ) × (verdict_of graph target ≡ Files files)) ↔ MeetsFirst graph target MetNothing }
+{}
+
+/// A verdict is a fault only where includes lead from the file to one that has this fault, in whatever order. It is a list only
+/// where they lead to no fault. So where all outlines are known, a verdict is a fault exactly where includes lead to one.
 pub fn faults()
     ensures refused { (graph : Graph) (target : ℕ) (fault : Fault) → verdict_of graph target ≡ Refused fault → LeadsTo graph target fault }
     ensures listed { (graph : Graph) (target : ℕ) (files : List ℕ) → target < length graph.names → verdict_of graph target ≡ Files files
         → (fault : Fault) → LeadsTo graph target fault → ⊥ }
-    ensures asked { (graph : Graph) (target file : ℕ) → verdict_of graph target ≡ NeedOutline file → (path : List ℕ) × IsWay graph target (file ∷ path) }
 {}

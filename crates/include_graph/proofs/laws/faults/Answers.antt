@@ -1,4 +1,4 @@
-use Rattle.include_graph.proofs.Leading.{asked_way, refused_way}
+use Rattle.include_graph.proofs.Leading.{refused_way}
 use Rattle.include_graph.proofs.Serving.{none_faulty}
 use Rattle.include_graph.proofs.laws.faults.Goals as goal
 
@@ -7,6 +7,3 @@ returns-clause-refused c graph target fault e = refused_way graph target fault e
 
 pub returns-clause-listed : goal.returns-clause-listed
 returns-clause-listed c graph target files b e fault leads = none_faulty graph target files b e fault leads
-
-pub returns-clause-asked : goal.returns-clause-asked
-returns-clause-asked c graph target file e = asked_way graph target file e

@@ -4,4 +4,4 @@ use Rattle.include_graph.proofs.laws.readers_report.Goals as goal
 
 pub returns : goal.returns
 unfolding Fed
-returns c mark bytes reader h = reports reader.step mark bytes reader h
+returns c mark bytes reader h = reports reader.answered mark bytes reader.kept h

@@ -1,11 +1,11 @@
 use Rattle.std.proofs.Common.{◌++◌, refl, sym, ap, ◌∙◌}
 use Rattle.iff_chunks.proofs.Lemmas.{walk_nears_its_end}
-use Rattle.include_graph.specs.declared.reader.OutlineReader.{OutlineReader}
+use Rattle.include_graph.specs.declared.file_walk.FileWalk.{FileWalk}
 use Rattle.include_graph.specs.Reading.{after_step}
 use Rattle.include_graph.specs.Fed.{progress_of}
 use Rattle.include_graph.proofs.Feeding.{reach_begins, reach_goes_on, reach_knows, reach_pauses}
 use Rattle.include_graph.proofs.Walking.{if_ok}
-use Rattle.include_graph.proofs.reader.OutlineReader.walk.Goals as goal
+use Rattle.include_graph.proofs.file_walk.FileWalk.walk.Goals as goal
 
 pub events-init : goal.events-init
 events-init c bytes w = reach_begins bytes c.args.piece.now c.args.self.now (c.chunks_stay.ensures.events bytes c.args.piece.now) w
@@ -18,13 +18,12 @@ events-smaller c =
 
 pub events-preserved : goal.events-preserved
 events-preserved c bytes w =
-    let after : OutlineReader = record {
+    let after : FileWalk = record {
       alloc = c.events.self.alloc;
       walker = c.feed-used.new.self;
       arrived = c.events.self.arrived;
       progress =
           c.apply.new.self;
-      step = c.events.self.step;
     } in
     reach_goes_on (bytes ++ c.args.piece.now) c.events.rest.now c.rest_of-rest.result.now c.events.self after c.feed-used.result.0
     c.feed-used.result.1 (c.events.invariant bytes w) c.feed-used.ensures.fed c.rest_of-rest.ensures
@@ -33,13 +32,12 @@ events-preserved c bytes w =
 
 pub returns-then-not-is_event : goal.returns-then-not-is_event
 returns-then-not-is_event c =
-    let middle : OutlineReader = record {
+    let middle : FileWalk = record {
       alloc = c.events.self.alloc;
       walker = c.feed-used.new.self;
       arrived = c.events.self.arrived;
       progress =
           c.events.self.progress;
-      step = c.events.self.step;
     } in
     if_ok c.at_pause.result _ _ c.at_pause.ensures (λ answer h bytes w.
     reach_pauses bytes c.args.piece.now c.events.rest.now c.events.self middle c.at_pause.new.self c.feed-used.result.0 c.feed-used.result.1 answer
@@ -48,13 +46,12 @@ returns-then-not-is_event c =
 
 pub returns-then-is_known : goal.returns-then-is_known
 returns-then-is_known c bytes w =
-    let after : OutlineReader = record {
+    let after : FileWalk = record {
       alloc = c.events.self.alloc;
       walker = c.feed-used.new.self;
       arrived = c.events.self.arrived;
       progress =
           c.apply.new.self;
-      step = c.events.self.step;
     } in
     reach_knows (bytes ++ c.args.piece.now) c.events.rest.now c.events.self after c.feed-used.result.0 c.feed-used.result.1
     (c.events.invariant bytes w) c.feed-used.ensures.fed

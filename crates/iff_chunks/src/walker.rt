@@ -101,8 +101,8 @@ impl Walker {
         ensures fed { IsFed self.old piece.now result.0 result.1 self.new }
 
         // More bytes are asked for wherever every event was told and the FORM goes on.
-        ensures only_then { (taken : List ℕ) (told : List Event) → Told taken told self.old → events_of (chunks_of (taken ++ piece.now)) ≡ told → IsOpen (chunks_of (taken ++ piece.now)).tail →
-            result.1 ≡ WalkStep.NeedBytes }
+        ensures only_then { (taken : List ℕ) (told : List Event) → Told taken told self.old → events_of (chunks_of (taken ++ piece.now)) ≡ told
+            → IsOpen (chunks_of (taken ++ piece.now)).tail → result.1 ≡ WalkStep.NeedBytes }
 
         // Every other answer comes with the byte that settles it: before that one, every event was told, and the FORM goes on.
         ensures no_later { (taken : List ℕ) (told : List Event) (fewer : ℕ) → Told taken told self.old → result.1 ≢ WalkStep.Data → fewer < result.0 →

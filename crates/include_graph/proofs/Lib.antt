@@ -2,7 +2,7 @@
 -- None is cited from above.
 -- place_of
 mod Finding
--- Walk::include; Marking, Walking, Asking, Ordering, Serving, Meeting, Leading
+-- Walk::include; Marking, Walking, Asking, Ordering, Serving, Meeting, Leaving, Leading
 mod Among
 -- is_known, items_known, Walk::step; Walking
 mod Stepping
@@ -14,12 +14,14 @@ mod Walking
 mod Knowing
 -- law verdicts_ask
 mod Asking
--- law lists; Serving, Meeting
+-- law lists; Serving, Meeting, Leaving
 mod Ordering
 -- laws lists, faults; Meeting
 mod Serving
--- law verdicts_meet_first
+-- law verdicts_meet_first; Leaving
 mod Meeting
+-- law lists
+mod Leaving
 -- laws below, faults
 mod Leading
 -- law by_events; Staying, Feeding

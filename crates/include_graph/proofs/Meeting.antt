@@ -116,6 +116,11 @@ left_clear graph path left target s h =
     let t = stands graph [] left target s.order h in
     clear_file graph (suc (length t.first)) path t.first target (omega arith) t.order t.served (apart_below graph path left target t s.apart)
 
+pub on_after : (walked : Walked) (P Q : List ℕ → Type 0) → ((after : List ℕ) → P after → Q after) → OnLeft walked P → OnLeft walked Q
+on_after (Left after) P Q step h = step after h
+on_after (Unknown other) P Q step h = tt
+on_after (Faulty fault) P Q step h = tt
+
 module _ (graph : Graph) (go : ℕ → List ℕ → Walked) (path : List ℕ) (file : ℕ) where
   abbrev MeetsBelow : Type 0
   MeetsBelow = (next : ℕ) (left : List ℕ) → next < length graph.names → is_among next (file ∷ path) ≡ false → is_among next left ≡ false
@@ -135,11 +140,6 @@ module _ (graph : Graph) (go : ℕ → List ℕ → Walked) (path : List ℕ) (f
       passes path file name offset items next (met_by (rest items after)) e off below on
   below_meets name offset items next (Unknown other) e off below on = stops_below path file name offset items next (MetUnknown other) e off below tt
   below_meets name offset items next (Faulty fault) e off below on = stops_below path file name offset items next (MetFault fault) e off below tt
-
-  on_after : (walked : Walked) (P Q : List ℕ → Type 0) → ((after : List ℕ) → P after → Q after) → OnLeft walked P → OnLeft walked Q
-  on_after (Left after) P Q step h = step after h
-  on_after (Unknown other) P Q step h = tt
-  on_after (Faulty fault) P Q step h = tt
 
   target_meets : MeetsBelow → (items : List OutlineItem)
       → ((left : List ℕ) → IsSound graph (file ∷ path) left → MeetsAt items (rest items left)) → (on_path was_left : Bool) (name : List ℕ)

@@ -17,7 +17,7 @@ OnLeft (Left left) P = P left
 OnLeft (Unknown file) P = ⊤
 OnLeft (Faulty fault) P = ⊤
 
-then_left : (walked : Walked) (P Q : List ℕ → Type 0) (next : List ℕ → Walked) → OnLeft walked P → ((left : List ℕ) → P left
+pub then_left : (walked : Walked) (P Q : List ℕ → Type 0) (next : List ℕ → Walked) → OnLeft walked P → ((left : List ℕ) → P left
     → OnLeft (next left) Q) → OnLeft (walk_then walked next) Q
 then_left (Left left) P Q next h step = step left h
 then_left (Unknown file) P Q next h step = tt
@@ -132,7 +132,7 @@ visit_passed graph (suc most) path file left b new n s =
     outline_passed graph (visit graph most (file ∷ path)) path file (λ target next b p l s. visit_passed graph most (file ∷ path) target next b p l
     s) b (graph.outlines file) refl left new (sound_below graph path left file s n)
 
-files_of : (walked : Walked) (P : List ℕ → Type 0) (files : List ℕ) → OnLeft walked P → verdict_by walked ≡ Files files → P files
+pub files_of : (walked : Walked) (P : List ℕ → Type 0) (files : List ℕ) → OnLeft walked P → verdict_by walked ≡ Files files → P files
 files_of (Left left) P files h e = let same : left ≡ files = cc in subst P same h
 files_of (Unknown file) P files h e = cc
 files_of (Faulty fault) P files h e = cc

@@ -1,5 +1,5 @@
--- What a walk over the includes of a file meets first. It goes depth first, and remembers nothing but the path by which it came.
-use Rattle.std.specs.Prelude.{ℕ, ◌≡◌, ⊤, true, false, List, [], ◌∷◌, Some, None}
+-- Walks over the includes of a file, depth first: what one meets first that remembers nothing but its path, and which files one leaves.
+use Rattle.std.specs.Prelude.{ℕ, ◌≡◌, ◌++◌, ⊤, true, false, List, [], ◌∷◌, Some, None}
 use Rattle.djvu_base.specs.declared.faults.Fault.{Fault}
 use Rattle.djvu_base.specs.declared.faults.FaultKind.{FaultKind}
 use Rattle.djvu_base.specs.declared.faults.FaultKind.TheVariants as kinds
@@ -59,3 +59,24 @@ pub data Meets (graph : Graph) : List ℕ → ℕ → Ahead → Met → Type 0 w
 -- what a walk from a file meets first
 abbrev pub MeetsFirst : Graph → ℕ → Met → Type 0
 MeetsFirst graph target met = Meets graph [] target AFile met
+
+-- a walk from a file on comes to its end, where these files were left before, and those in the end, in the order in which they were
+pub data Leaves (graph : Graph) : List ℕ → ℕ → Ahead → List ℕ → List ℕ → Type 0 where
+  -- the outline of the file is known, and the walk goes over its items
+  over_items : (path : List ℕ) (file : ℕ) (outline : Outline) (left after : List ℕ) → graph.outlines file ≡ Some outline
+      → Leaves graph path file (Items outline.items) left after → Leaves graph path file AFile left after
+  -- no item comes, and the file is left
+  leaves_file : (path : List ℕ) (file : ℕ) (left : List ℕ) → Leaves graph path file (Items []) left (left ++ file ∷ [])
+  -- the next item is an include of a file that was left
+  goes_by : (path : List ℕ) (file : ℕ) (name : List ℕ) (offset : ℕ) (items : List OutlineItem) (next : ℕ) (left after : List ℕ)
+      → number_of name graph.names ≡ Some next → is_among next (file ∷ path) ≡ false → is_among next left ≡ true
+      → Leaves graph path file (Items items) left after → Leaves graph path file (Items (item.Include name offset ∷ items)) left after
+  -- the walk goes down at the next item, and comes back to those behind it
+  goes_down : (path : List ℕ) (file : ℕ) (name : List ℕ) (offset : ℕ) (items : List OutlineItem) (next : ℕ) (left between after : List ℕ)
+      → number_of name graph.names ≡ Some next → is_among next (file ∷ path) ≡ false → is_among next left ≡ false
+      → Leaves graph (file ∷ path) next AFile left between → Leaves graph path file (Items items) between after
+      → Leaves graph path file (Items (item.Include name offset ∷ items)) left after
+
+-- a walk from a file leaves these files, in this order
+abbrev pub LeavesAll : Graph → ℕ → List ℕ → Type 0
+LeavesAll graph target files = Leaves graph [] target AFile [] files

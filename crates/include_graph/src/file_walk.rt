@@ -1,5 +1,5 @@
 //! A walk over a file that arrives in pieces, with the items of its outline so far.
-ghost use Rattle.std.specs.Prelude.{◌≡◌, ℕ, ◌+◌, ◌<◌, ◌^◌, ◌++◌, List, [], length, IfOk};
+ghost use Rattle.std.specs.Prelude.{◌≡◌, ◌≢◌, ℕ, ◌+◌, ◌<◌, ◌^◌, ◌++◌, List, [], length, IfOk};
 ghost use Rattle.djvu_base.specs.Library.{Open, mark_of};
 ghost use Rattle.include_graph.specs.Fed.{FedBy, IsReading, IsWalking, PausesSo, answer_of, ended_so, outline_read, progress_of};
 
@@ -80,7 +80,8 @@ impl FileWalk {
 
     /// No more bytes come of a file whose outline isn't known, and it ends so.
     pub(crate) fn close(&mut self, end: FileEnd) -> OutlineStep
-        ensures { (bytes : List ℕ) → IsReading Open bytes self.old → FedBy result (mark_of end) bytes self.new }
+        ensures fed { (bytes : List ℕ) → IsReading Open bytes self.old → FedBy result (mark_of end) bytes self.new }
+        ensures settles { result ≢ OutlineStep.NeedBytes }
     {
         iff_chunks::laws::bounds();
         let last = self.walker.finish(end, self.arrived);

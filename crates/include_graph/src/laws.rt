@@ -11,7 +11,7 @@ ghost use Rattle.include_graph.specs.Outlines.{outlined, outline_of};
 ghost use Rattle.include_graph.specs.Reading.{items_by_events};
 ghost use Rattle.include_graph.specs.Verdicts.{Graph, is_among, verdict_of};
 ghost use Rattle.include_graph.specs.Graphs.{KnownOn, VerdictOn, InOrder, LeadsTo};
-ghost use Rattle.include_graph.specs.Walks.{MetNothing, MetUnknown, MetFault, MeetsFirst};
+ghost use Rattle.include_graph.specs.Walks.{MetNothing, MetUnknown, MetFault, MeetsFirst, LeavesAll};
 
 pub mod worked;
 
@@ -22,9 +22,11 @@ pub fn verdicts_stay()
         → VerdictOn more (verdict_of (record { names = names; outlines = less }) file) (verdict_of (record { names = names; outlines = more }) file) }
 {}
 
-/// In the list of a verdict each file stands once, after all that it includes. The file itself is the last, and each that is
-/// listed has itself a list as its verdict. A list is at most as long as the names.
+/// The list of a verdict has the files in the order in which a walk leaves them. Each stands once, after all that it includes.
+/// The file itself is the last, and each that is listed has itself a list as its verdict. A list is at most as long as the names.
 pub fn lists()
+    ensures leaves { (graph : Graph) (file : ℕ) (files : List ℕ) → file < length graph.names
+        → (verdict_of graph file ≡ Files files) ↔ LeavesAll graph file files }
     ensures order { (graph : Graph) (file : ℕ) (files : List ℕ) → file < length graph.names → verdict_of graph file ≡ Files files → InOrder graph [] files }
     ensures itself { (graph : Graph) (file : ℕ) (files : List ℕ) → verdict_of graph file ≡ Files files
         → (before : List ℕ) × (files ≡ before ++ file ∷ []) }

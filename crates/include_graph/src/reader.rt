@@ -73,11 +73,12 @@ impl OutlineReader {
         }
     }
 
-    /// Says that no more bytes come, and how the file ends. The outline is then known.
+    /// Says that no more bytes come, and how the file ends. The outline is then known, unless there was no memory.
     #[tactic(auto, unfolding(crate::specs::Fed::Fed))]
     pub fn end(&mut self, end: FileEnd) -> OutlineStep
         ensures fed { (bytes : List ℕ) → Fed Open bytes self.old → Fed (mark_of end) bytes self.new }
         ensures answer { result ≡ self.new.answered }
+        ensures settles { result ≢ OutlineStep.NeedBytes }
 
         // Once the reader answered something else, it answers the same from then on.
         ensures stays { self.old.answered ≢ OutlineStep.NeedBytes → (result ≡ self.old.answered) × (self.new ≡ self.old) }

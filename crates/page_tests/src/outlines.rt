@@ -297,3 +297,31 @@ fn verdicts_on_small_graphs(rt: HostRuntime) {
         assert_eq!(rt; text.as_slice(), said, "case {number}");
     }
 }
+
+/// Whether this is the right text, or there was no memory for it.
+fn is_right_or_none(text: Option<Vec<u8>>, right: &[u8]) -> bool {
+    match text {
+        Some(text) => text.as_slice() == right,
+        None => true,
+    }
+}
+
+/// Of use where one allocation or all later ones fail: `rt try --test --fail-alloc N`. Then nothing but these answers may come.
+#[test]
+fn right_or_no_memory(rt: HostRuntime) {
+    for (number, (bytes, items, _)) in FILES.into_iter().enumerate() {
+        let text = match read_by_bytes(rt.alloc(), bytes, FileEnd::Whole) {
+            Some((_, text)) => Some(text),
+            None => None,
+        };
+        assert!(rt; is_right_or_none(text, items), "file {number}");
+    }
+    let none: &[u8] = b"";
+    let listed = said_of_a(
+        rt.alloc(),
+        [Some(b"bc"), Some(b"d"), Some(b"d"), Some(none)],
+    );
+    assert!(rt; is_right_or_none(listed, b"3 1 2 0 "));
+    let refused = said_of_a(rt.alloc(), [Some(b"bx"), Some(none), None, None]);
+    assert!(rt; is_right_or_none(refused, b"missing-include 0 22"));
+}

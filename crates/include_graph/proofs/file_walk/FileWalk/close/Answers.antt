@@ -5,8 +5,8 @@ use Rattle.include_graph.proofs.Closing.{answered, close_reads}
 use Rattle.include_graph.proofs.Walking.{if_ok}
 use Rattle.include_graph.proofs.file_walk.FileWalk.close.Goals as goal
 
-pub returns : goal.returns
-returns c bytes r =
+pub returns-clause-fed : goal.returns-clause-fed
+returns-clause-fed c bytes r =
     let mark = mark_of c.args.end in
     let after = c.at_end-ended.new.self in
     subst (λ s. FedBy s mark bytes after) (sym c.answer_of.ensures)

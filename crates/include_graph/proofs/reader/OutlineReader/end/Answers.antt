@@ -9,7 +9,7 @@ use Rattle.include_graph.proofs.reader.OutlineReader.end.Goals as goal
 pub returns-in-NeedBytes-clause-fed : goal.returns-in-NeedBytes-clause-fed
 returns-in-NeedBytes-clause-fed c bytes h =
     walk_fed c.args.self.now (mark_of c.args.end) bytes bytes c.self.inside.answered c.close-self-inside.result c.self.inside.walk c.close-self-inside.new.self
-    c.self.view_is c.in-NeedBytes.is (c.close-self-inside.ensures bytes) h
+    c.self.view_is c.in-NeedBytes.is (c.close-self-inside.ensures.fed bytes) h
 
 pub returns-in-Done-clause-fed : goal.returns-in-Done-clause-fed
 returns-in-Done-clause-fed c bytes h =

@@ -1,5 +1,5 @@
 -- When two names are the same.
-use Rattle.std.proofs.Common.{◌≡◌, ◌==◌, ◌&&◌, ℕ, zero, suc, Bool, true, false, List, [], ◌∷◌, refl, sym, ap, ap₂, subst, ◌∙◌, arith}
+use Rattle.std.proofs.Common.{◌≡◌, ◌<◌, ◌==◌, ◌&&◌, ℕ, zero, suc, Bool, true, false, List, [], ◌∷◌, refl, sym, ap, ap₂, subst, ◌∙◌, arith}
 use Rattle.std.specs.Prelude.{◌↔◌, IsTrue}
 use Rattle.std.proofs.lemmas.Grind.{common_steps}
 use Rattle.jb2_numbers.specs.declared.roots.Root.{Root}
@@ -8,13 +8,16 @@ use Rattle.jb2_numbers.specs.Roots.{root_index, is_same_root}
 use Rattle.jb2_numbers.specs.Contexts.{Name, is_same, is_same_bit, are_same}
 
 -- the roots in order
-abbrev root_from : List Root → ℕ → Root
+abbrev pub root_from : List Root → ℕ → Root
 root_from [] index = RecordType
 root_from (root ∷ roots) zero = root
 root_from (root ∷ roots) (suc index) = root_from roots index
 
-abbrev all_roots : List Root
+abbrev pub all_roots : List Root
 all_roots = RecordType ∷ InheritedCount ∷ ImageSize ∷ Match ∷ ShapeWidth ∷ ShapeHeight ∷ WidthDifference ∷ HeightDifference ∷ AbsoluteLeft ∷ AbsoluteTop ∷ NewRowX ∷ NewRowY ∷ SameRowX ∷ SameRowY ∷ CommentLength ∷ CommentByte ∷ []
+
+abbrev pub root_at : ℕ → Root
+root_at index = root_from all_roots index
 
 found_again : (a : Root) → root_from all_roots (root_index a) ≡ a
 found_again RecordType = refl
@@ -33,6 +36,27 @@ found_again SameRowX = refl
 found_again SameRowY = refl
 found_again CommentLength = refl
 found_again CommentByte = refl
+
+pub root_found : (a : Root) → root_at (root_index a) ≡ a
+root_found a = found_again a
+
+pub root_below : (a : Root) → root_index a < 16
+root_below RecordType = omega arith
+root_below InheritedCount = omega arith
+root_below ImageSize = omega arith
+root_below Match = omega arith
+root_below ShapeWidth = omega arith
+root_below ShapeHeight = omega arith
+root_below WidthDifference = omega arith
+root_below HeightDifference = omega arith
+root_below AbsoluteLeft = omega arith
+root_below AbsoluteTop = omega arith
+root_below NewRowX = omega arith
+root_below NewRowY = omega arith
+root_below SameRowX = omega arith
+root_below SameRowY = omega arith
+root_below CommentLength = omega arith
+root_below CommentByte = omega arith
 
 same_index : (a b : ℕ) → (a == b) ≡ true → a ≡ b
 same_index a b e = grind (arith, common_steps)

@@ -4,7 +4,10 @@ pub use Rattle.zp_decoder.specs.Decision
 pub use Rattle.zp_decoder.specs.Decoder
 pub use Rattle.zp_decoder.specs.Runs
 pub mod Roots
+pub mod Answer
+pub mod Phases
 pub mod Contexts
 pub mod Number
+pub mod Kept
 pub mod Reader
 pub mod Steps

@@ -4,14 +4,15 @@ ghost use Rattle.zp_table.specs.Listing.{flat_rows};
 ghost use Rattle.zp_table.specs.declared.rows.Row.{Row};
 ghost use Rattle.zp_table.specs.Rows.{IsTable};
 ghost use Rattle.zp_decoder.specs.Decision.{Interval};
-ghost use Rattle.zp_decoder.specs.Decoder.{IsStanding};
+ghost use Rattle.zp_decoder.specs.Decoder.{Decoder, Fed, IsStanding};
 ghost use Rattle.zp_decoder.specs.Runs.{room};
 ghost use Rattle.jb2_numbers.specs.declared.roots.Root.{Root};
-ghost use Rattle.jb2_numbers.specs.declared.reader.NumberStep.TheVariants as answer;
-ghost use Rattle.jb2_numbers.specs.declared.phases.Phase.TheVariants.{Known};
-ghost use Rattle.jb2_numbers.specs.Contexts.{Name, Numbers, AreBelow, is_same, at_start, states_of};
-ghost use Rattle.jb2_numbers.specs.Number.{Wanted, wanted, Chunk, chunk, Reading, begun, steps, read_on, answer_at, answer_and_coded, phase_after, step, ArePossible};
-ghost use Rattle.jb2_numbers.specs.Reader.{AreBounds};
+ghost use Rattle.jb2_numbers.specs.Answer as answer;
+ghost use Rattle.jb2_numbers.specs.Phases.{Known, implied, decided};
+ghost use Rattle.jb2_numbers.specs.Contexts.{Name, is_same, at_start};
+ghost use Rattle.jb2_numbers.specs.Kept.{Numbers, AreBelow, states_of};
+ghost use Rattle.jb2_numbers.specs.Number.{Wanted, wanted, Chunk, chunk, Reading, begun, steps, read_on, answer_at, answer_and_coded, phase_after, step, ArePossible, first_decisions, decisions_of};
+ghost use Rattle.jb2_numbers.specs.Reader.{AreBounds, Reader, Reads, Stands};
 
 /// With the table `flat`, in which each coded decision is a bit of the input inverted: the answer, and how many decisions
 /// are coded.
@@ -56,6 +57,22 @@ pub fn numbers_lie_within()
         answer_at number from (read_on number from (begun states place)) ≡ answer.Number value → IsTrue (int_le number.low value) × IsTrue (int_le value number.high) }
     ensures known { (number : Wanted) (decisions : List Bool) (value : ℤ) → ArePossible number decisions → phase_after number decisions ≡ Known value →
         IsTrue (int_le number.low value) × IsTrue (int_le value number.high) }
+{}
+
+/// Each number between the bounds is reached by its own decisions, whether it or its size is at least the cutoff of each
+/// phase, and by these alone. The bounds allow them, and those that the bounds imply are the number's own.
+pub fn numbers_are_reached()
+    ensures reached { (number : Wanted) (value : ℤ) → AreBounds number.low number.high → number.low ≤ℤ value → value ≤ℤ number.high →
+        phase_after number (decisions_of number value) ≡ Known value }
+    ensures possible { (number : Wanted) (value : ℤ) (count : ℕ) → AreBounds number.low number.high → number.low ≤ℤ value → value ≤ℤ number.high →
+        ArePossible number (first_decisions count number value) }
+    ensures alone { (number : Wanted) (value : ℤ) (decisions : List Bool) → AreBounds number.low number.high → ArePossible number decisions →
+        phase_after number decisions ≡ Known value → decisions ≡ decisions_of number value }
+    ensures implied { (number : Wanted) (value : ℤ) (count : ℕ) (bit : Bool) → AreBounds number.low number.high → number.low ≤ℤ value → value ≤ℤ number.high →
+        implied (phase_after number (first_decisions count number value)) ≡ Some bit → bit ≡ decided value (phase_after number (first_decisions count number value)) }
+    // Those of 11 among 0 to 11, the last one first.
+    ensures eleven { decisions_of (wanted Root.RecordType (pos 0) (pos 11)) (pos 11) ≡ false ∷ false ∷ true ∷ false ∷ true ∷ true ∷ true ∷ true ∷ [] }
+    ensures negative { decisions_of (wanted Root.NewRowX (negsuc 262142) (pos 262142)) (negsuc 0) ≡ false ∷ false ∷ [] }
 {}
 
 /// A number whose two bounds are one is that bound, and codes nothing: each of its decisions is implied, true exactly
@@ -103,6 +120,26 @@ pub fn cuts_change_nothing()
     ensures { (number : Wanted) (rows : List Row) (payload more : List ℕ) (ended : Bool) (states : Name → ℕ) (place : Option Interval) → AreBounds number.low number.high →
         IsTable rows → ((name : Name) → states name < length rows) → IsStanding (length payload) place →
         read_on number (chunk rows (payload ++ more) ended) (read_on number (chunk rows payload false) (begun states place)) ≡ read_on number (chunk rows (payload ++ more) ended) (begun states place) }
+{}
+
+/// Where a reading stops after any number of steps, and goes on from there with more bytes, it comes to what it would have
+/// come to with these bytes alone. A reading that stopped more than once is covered too: it goes on from any reading.
+pub fn stops_change_nothing()
+    ensures { (number : Wanted) (rows : List Row) (payload more : List ℕ) (ended : Bool) (at : Reading) (count : ℕ) → AreBounds number.low number.high →
+        ArePossible number at.decisions → IsTable rows → ((name : Name) → at.states name < length rows) → IsStanding (length payload) at.place →
+        read_on number (chunk rows (payload ++ more) ended) (steps count number (chunk rows payload false) at) ≡ read_on number (chunk rows (payload ++ more) ended) at }
+{}
+
+/// Decisions that the bounds allow stay so while a number is read.
+pub fn readings_stay_possible()
+    ensures { (number : Wanted) (from : Chunk) (at : Reading) (count : ℕ) → AreBounds number.low number.high → ArePossible number at.decisions →
+        ArePossible number (steps count number from at).decisions }
+{}
+
+/// A reader that has read nothing stands at the beginning of its number, over whatever its decoder was fed.
+pub fn numbers_begin()
+    ensures { (number : Wanted) (payload : List ℕ) (place : Option Interval) (reader : Reader) (contexts : Numbers) (zp : Decoder) (count : ℕ) → Reads number [] reader → Fed payload place zp →
+        Stands number (chunk zp.table payload zp.ended) count (begun (states_of contexts) place) reader contexts zp count }
 {}
 
 /// A number from 0 to 11 has a decision that is coded, whatever it is.

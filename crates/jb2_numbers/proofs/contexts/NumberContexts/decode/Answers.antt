@@ -1,7 +1,10 @@
-use Rattle.jb2_numbers.proofs.Decoding.{decides_from}
+use Rattle.std.proofs.Common.{rules, ◌≡◌, ◌<◌, ◌≤◌, ℕ, [], length, get_or, IfOk, IfErr, OnOk, OnErr, ◌+◌, ◌-◌, ◌*◌, ◌/◌, ◌%◌, Bool, true, false, nat_eq, nat_lt, List, ◌∷◌, ◌++◌, slice_set, bit_and, bit_or, Fits, w8, w32, w64, Bor, MutBor}
+use Rattle.djvu_base.specs.Meter.{ticked_once}
+use Rattle.jb2_numbers.specs.Contexts.{Name, name, further, at_start, store}
+use Rattle.jb2_numbers.specs.Kept.{decisions_in, link, with_link, start, states_of, AreBelow, IsCell}
+use Rattle.jb2_numbers.specs.Steps.{Decides, Stops, KeepsCells, state_at}
 use Rattle.jb2_numbers.proofs.contexts.NumberContexts.decode.Goals as goal
 
-pub returns-in-Bit-clause-bit : goal.returns-in-Bit-clause-bit
-returns-in-Bit-clause-bit g c =
-    decides_from c.args.key c.args.self.now c.args.zp.now c.in-Bit.bit c.make_room.new.self c.put.new.self c.decode.new.self c.in-Ok.state c.decode.new.ctx
-    c.in-Ok.ensures.state c.in-Bit.ensures.answer c.in-Bit.ensures.fed c.in-Bit.ensures.context c.make_room.ensures.same c.put.ensures.stored
+-- src/contexts.rt:183:15
+pub decode-requires : goal.decode-requires
+decode-requires g c = ?

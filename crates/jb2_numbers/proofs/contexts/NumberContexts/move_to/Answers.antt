@@ -1,0 +1,18 @@
+use Rattle.std.proofs.Common.{rules, ◌≡◌, ◌<◌, ◌≤◌, ℕ, [], length, get_or, IfOk, IfErr, OnOk, OnErr, ◌+◌, ◌-◌, ◌*◌, ◌/◌, ◌%◌, Bool, true, false, nat_eq, nat_lt, List, ◌∷◌, ◌++◌, slice_set, bit_and, bit_or, Fits, w8, w32, w64, Bor, MutBor}
+use Rattle.djvu_base.specs.Meter.{ticked_once}
+use Rattle.jb2_numbers.specs.Contexts.{Name, name, further, at_start, store}
+use Rattle.jb2_numbers.specs.Kept.{decisions_in, link, with_link, start, states_of, AreBelow, IsCell}
+use Rattle.jb2_numbers.specs.Steps.{Decides, Stops, KeepsCells, state_at}
+use Rattle.jb2_numbers.proofs.contexts.NumberContexts.move_to.Goals as goal
+
+-- src/contexts.rt:194:5
+pub invariant_of-self : goal.invariant_of-self
+invariant_of-self c = ?
+
+-- src/contexts.rt:194:5
+pub returns-clause-stored : goal.returns-clause-stored
+returns-clause-stored c = ?
+
+-- src/contexts.rt:194:5
+pub returns-clause-below : goal.returns-clause-below
+returns-clause-below c = ?

@@ -7,7 +7,7 @@ use Rattle.zp_table.specs.Rows.{row_at}
 use Rattle.zp_decoder.specs.declared.decoder.Decision.{Decision}
 use Rattle.zp_decoder.specs.declared.decoder.Decision.TheVariants as decision
 use Rattle.zp_decoder.specs.declared.standing.Standing.{Standing}
-use Rattle.zp_decoder.specs.Decision.{Form, Adaptive, Interval, interval, Outcome, interval_at, bit_of, next_state, cut, after, most_bits, is_determined, is_exhausted, outcome_at, moved, unmoved}
+use Rattle.zp_decoder.specs.Decision.{Form, Adaptive, Interval, interval, Outcome, bit_of, next_state, cut, after, most_bits, is_determined, is_exhausted, outcome_at, moved, unmoved}
 use Rattle.zp_decoder.specs.Window.{Stands, moved_on}
 use Rattle.zp_decoder.specs.Decoder.{IsSettled}
 use Rattle.zp_decoder.proofs.Within.{Comes, needs, exhausts, moves, comes}

@@ -1,7 +1,7 @@
 -- States by their names: what was stored is there, and all else is as it was.
-use Rattle.std.proofs.Common.{◌≡◌, ℕ, ◌<◌, Bool, true, false, List, [], ◌∷◌, refl, ap, sym, subst, ◌∙◌}
+use Rattle.std.proofs.Common.{◌≡◌, ℕ, ◌<◌, Bool, true, false, List, [], ◌∷◌, refl, ap, sym, subst}
 use Rattle.std.specs.Prelude.{if◌then◌else◌}
-use Rattle.zp_decoder.specs.States.{is_same_bit, are_same, stored, AreBelow, fresh}
+use Rattle.zp_decoder.specs.States.{are_same, stored, AreBelow, fresh}
 
 -- lists of bits that the test finds the same are equal, and each is the same as itself
 

@@ -3,7 +3,7 @@ use Rattle.std.proofs.lemmas.Grind.{common_steps}
 use Rattle.zp_decoder.specs.declared.decoder.Decision.TheVariants as decision
 use Rattle.zp_decoder.specs.contracts.decoder.ZpDecoder.{the_view}
 use Rattle.zp_decoder.specs.Decoder.{Decoder}
-use Rattle.zp_decoder.proofs.Steps.{Decides, with_kept, decide_waits, decide_low, decide_past, decide_high, decides_from, decides_still, still_fed, fewer_low, fewer_high}
+use Rattle.zp_decoder.proofs.Steps.{with_kept, decide_waits, decide_low, decide_past, decide_high, decides_from, decides_still, still_fed, fewer_low, fewer_high}
 use Rattle.zp_decoder.proofs.decoder.ZpDecoder.decide.Goals as goal
 
 pub returns-then-lacks_bytes-clause-answer : goal.returns-then-lacks_bytes-clause-answer

@@ -3,14 +3,20 @@ use Rattle.std.proofs.Common.{◌≡◌, ◌≤◌, ◌<◌, ◌+◌, ◌==◌, 
 use Rattle.std.specs.Prelude.{◌⊎◌, Option, Some, None, if◌then◌else◌}
 use Rattle.std.proofs.Math.Path.{fun_ext}
 use Rattle.std.proofs.lemmas.Bool.{cases_Bool, cases_lt, cases_eq}
-use Rattle.std.proofs.lemmas.List.{get_or-set_same, get_or-set_other, get_or-replicate, get_or_past, get_or_push, get_or_append_left, length-set, length-append, length-replicate}
+use Rattle.std.proofs.lemmas.List.{get_or-set_same, get_or-set_other, get_or-replicate, get_or_past, get_or_read, length-set, length-replicate}
+use Rattle.zp_decoder.specs.States.{AreBelow, fresh}
+use Rattle.zp_decoder.proofs.Lemmas.{stored_below}
 use Rattle.jb2_numbers.specs.declared.roots.Root.{Root}
 use Rattle.jb2_numbers.specs.declared.contexts.Cell.{Cell}
 use Rattle.jb2_numbers.specs.Roots.{root_index}
-use Rattle.jb2_numbers.specs.Contexts.{Name, name, further, is_same, at_start, store}
-use Rattle.jb2_numbers.specs.Kept.{Numbers, start, link, with_link, linked, next_cell, cell_after, state_in, states_of, AreBelow, IsCell, AreNamed, HaveNames}
+use Rattle.jb2_numbers.specs.Contexts.{Name, name, further, is_same, store}
+use Rattle.jb2_numbers.specs.Kept.{Numbers, start, link, with_link, linked, next_cell, cell_after, state_in, states_of, IsCell, AreNamed, HaveNames}
 use Rattle.jb2_numbers.specs.Steps.{KeepsCells}
 use Rattle.jb2_numbers.proofs.Names.{root_at, root_found, root_below, same_names}
+
+linked_some : (n : ℕ) → (n ≡ 0 → ⊥) → linked n ≡ Some n
+linked_some zero some = absurd (some refl)
+linked_some (suc n) some = refl
 
 some_same : (a b : ℕ) → Some a ≡ Some b → a ≡ b
 some_same a b e = cc
@@ -41,27 +47,26 @@ unlinked cell true next is leads = let none : linked (link cell true) ≡ None =
 unlinked cell false next is leads = let none : linked (link cell false) ≡ None = ap (λ (c : Cell). linked (link c false)) is in absurd (cc (none, leads))
 
 pub start_names : (cells : List Cell) → AreStarts cells → (length cells ≡ 0) ⊎ (16 ≤ length cells) → HaveNames cells
-start_names cells starts room = ((λ (at : ℕ). name (root_at at) []), record {
-  roots = λ root. ap (λ (r : Root). name r []) (root_found root);
-  within = λ at decision next leads. absurd (unlinked (get_or cells at start) decision next (starts at) leads);
-  named = λ at decision next leads. absurd (unlinked (get_or cells at start) decision next (starts at) leads);
-  room = room;
-})
+start_names cells starts room = (
+  (λ (at : ℕ). name (root_at at) []),
+  record {
+    roots = λ root. ap (λ (r : Root). name r []) (root_found root);
+    within = λ at decision next leads. absurd (unlinked (get_or cells at start) decision next (starts at) leads);
+    named = λ at decision next leads. absurd (unlinked (get_or cells at start) decision next (starts at) leads);
+    room = room;
+  },
+)
 
 state_started : (cells : List Cell) → AreStarts cells → (o : Option ℕ) → state_in cells o ≡ 0
 state_started cells starts None = refl
 state_started cells starts (Some at) = ap (λ (c : Cell). c.state) (starts at)
 
-pub states_started : (numbers : Numbers) → AreStarts numbers.cells → states_of numbers ≡ at_start
+pub states_started : (numbers : Numbers) → AreStarts numbers.cells → states_of numbers ≡ fresh
 unfolding states_of
 states_started numbers starts = fun_ext (λ (of : Name). state_started numbers.cells starts (cell_after numbers.cells of.root of.decisions))
 
-pub below_started : (numbers : Numbers) → AreStarts numbers.cells → (count : ℕ) → 0 < count → AreBelow count numbers
-unfolding AreBelow
-below_started numbers starts count some = λ at. subst (λ (s : ℕ). s < count) (sym (ap (λ (c : Cell). c.state) (starts at))) some
-
-pub none_start : AreStarts []
-none_start at = refl
+pub none_start : (cells : List Cell) → cells ≡ [] → AreStarts cells
+none_start cells none at = ap (λ (list : List Cell). get_or list at start) none
 
 pub repeated_start : (n : ℕ) → AreStarts (replicate n start)
 repeated_start n at =
@@ -85,12 +90,15 @@ cells_same a b same root (decision ∷ decisions) =
     ap (next_cell b decision) (cells_same a b same root decisions) ∙ next_same a b same decision (cell_after a root decisions)
 
 names_same : (a b : List Cell) → SameLinks a b → length b ≡ length a → HaveNames a → HaveNames b
-names_same a b same size have = (have.0, record {
-  roots = have.1.roots;
-  within = λ at decision next leads. subst (λ (n : ℕ). next < n) (sym size) (have.1.within at decision next (ap linked (sym (same at decision)) ∙ leads));
-  named = λ at decision next leads. have.1.named at decision next (ap linked (sym (same at decision)) ∙ leads);
-  room = subst (λ (n : ℕ). (n ≡ 0) ⊎ (16 ≤ n)) (sym size) have.1.room;
-})
+names_same a b same size have = (
+  have.0,
+  record {
+    roots = have.1.roots;
+    within = λ at decision next leads. subst (λ (n : ℕ). next < n) (sym size) (have.1.within at decision next (ap linked (sym (same at decision)) ∙ leads));
+    named = λ at decision next leads. have.1.named at decision next (ap linked (sym (same at decision)) ∙ leads);
+    room = subst (λ (n : ℕ). (n ≡ 0) ⊎ (16 ≤ n)) (sym size) have.1.room;
+  },
+)
 
 abbrev pub moved : Cell → ℕ → Cell
 moved cell state = record { state = state; after_false = cell.after_false; after_true = cell.after_true }
@@ -126,14 +134,6 @@ module _ (cells : List Cell) (at state : ℕ) (within : at < length cells) where
     within = subst (λ (n : ℕ). i < n) (sym (length-set cells at (moved (get_or cells at start) state))) is.within;
   }
 
-  pub moved_below : (count : ℕ) → state < count → AreBelow count (record { cells = cells }) → AreBelow count (record { cells = moved_cells })
-  unfolding AreBelow
-  moved_below count low below i =
-      elim (cases_eq i at) [
-        | inl same ↦ subst (λ (k : ℕ). (get_or moved_cells k start).state < count) (sym same) (subst (λ (c : Cell). c.state < count) (sym here) low)
-        | inr other ↦ subst (λ (c : Cell). c.state < count) (sym (elsewhere i other)) (below i)
-      ]
-
   state_moved : HaveNames cells → (of other : Name) → cell_after cells of.root of.decisions ≡ Some at → (o : Option ℕ) → cell_after cells other.root other.decisions ≡ o → (same : Bool) → is_same of other ≡ same →
       state_in moved_cells o ≡ (if same then state else state_in cells o)
   state_moved have of other leads o is true e =
@@ -156,15 +156,30 @@ module _ (cells : List Cell) (at state : ℕ) (within : at < length cells) where
       fun_ext (λ (other : Name). ap (state_in moved_cells) (cells_same cells moved_cells moved_links other.root other.decisions)
       ∙ state_moved have of other leads (cell_after cells other.root other.decisions) refl (is_same of other) refl)
 
--- ---- states below a count
+  pub moved_below : HaveNames cells → (of : Name) (count : ℕ) → cell_after cells of.root of.decisions ≡ Some at → state < count → AreBelow count (states_of (record { cells = cells })) →
+      AreBelow count (states_of (record { cells = moved_cells }))
+  moved_below have of count leads low below = subst (AreBelow count) (sym (moved_states have of leads)) (stored_below is_same (states_of (record { cells = cells })) of state count below low)
 
-positive : (s count : ℕ) → s < count → 0 < count
-positive s count h = omega arith
+-- a cell that was read, as the code has it
+pub cell_read : (cells : List Cell) (at : ℕ) (cell : Cell) → at < length cells → cell ≡ get_or cells at cell → cell ≡ get_or cells at start
+cell_read cells at cell within is = get_or_read cells at cell within is start
 
-below_in : (count : ℕ) (cells : List Cell) → ((at : ℕ) → (get_or cells at start).state < count) → (o : Option ℕ) → state_in cells o < count
-below_in count cells below None = positive (get_or cells 0 start).state count (below 0)
-below_in count cells below (Some at) = below at
+-- a link that is there leads to the cell of a name with a decision more
+pub linked_cell : (cells : List Cell) → HaveNames cells → (before : Name) (at : ℕ) (decision : Bool) (cell : Cell) (next : ℕ) → IsCell (record { cells = cells }) before at → cell ≡ get_or cells at cell → next ≡ link cell decision →
+    (next ≡ 0 → ⊥) → IsCell (record { cells = cells }) (further before decision) next
+linked_cell cells have before at decision cell next of is links some =
+    let there : linked (link (get_or cells at start) decision) ≡ Some next =
+    ap (λ (c : Cell). linked (link c decision)) (sym (cell_read cells at cell of.within is)) ∙ (ap linked (sym links) ∙ linked_some next some) in
+    record {
+      leads = ap (next_cell cells decision) of.leads ∙ there;
+      within = have.1.within at decision next there;
+    }
 
-pub state_below : (count : ℕ) (numbers : Numbers) (of : Name) → AreBelow count numbers → states_of numbers of < count
-unfolding states_of AreBelow
-state_below count numbers of below = below_in count numbers.cells below (cell_after numbers.cells of.root of.decisions)
+-- the cells of the roots, where there were none
+pub rooted : (old new : List Cell) (cell : Cell) → length old ≡ 0 → cell ≡ start → new ≡ old ++ replicate 16 cell → AreStarts old × (AreStarts new × (length new ≡ 16))
+rooted [] new cell none is news =
+    let all : new ≡ replicate 16 start = news ∙ ap (replicate 16) is in (
+      none_start [] refl,
+      ((λ at. ap (λ (list : List Cell). get_or list at start) all ∙ repeated_start 16 at), ap length all ∙ length-replicate 16 start),
+    )
+rooted (first ∷ old) new cell none is news = absurd (omega (arith, none))

@@ -5,13 +5,14 @@ use Rattle.std.proofs.lemmas.Grind.{common_steps}
 use Rattle.zp_decoder.specs.declared.decoder.Decision.{Decision}
 use Rattle.zp_decoder.specs.declared.decoder.Decision.TheVariants as decision
 use Rattle.zp_decoder.specs.Decision.{Interval}
+use Rattle.zp_decoder.specs.Chunk.{Chunk}
 use Rattle.jb2_numbers.specs.Answer as answer
 use Rattle.jb2_numbers.specs.Contexts.{Name}
 use Rattle.jb2_numbers.specs.Phases.{at_least, opposite, settled, halved, next_phase, implied, implied_by, allows, Side, Phase, Sign, Doubling, Halving, Known, is_known}
-use Rattle.jb2_numbers.specs.Number.{Wanted, Chunk, Reading, phase_after, begun, name_at, next_coded, with_implied, with_coded, step_in, step, steps, most_decisions, read_on, answer_without, answer_in, answer_at, ArePossible}
+use Rattle.jb2_numbers.specs.Number.{Wanted, Reading, phase_after, begun, name_at, next_coded, with_implied, with_coded, step_in, step, steps, most_decisions, read_on, answer_without, answer_in, answer_at, ArePossible}
 use Rattle.jb2_numbers.specs.Reader.{AreBounds}
 use Rattle.jb2_numbers.specs.Steps.{is_sound, limit}
-use Rattle.jb2_numbers.proofs.Sound.{next_sound, allowed_implied, allowed_coded, few_before, halving_few}
+use Rattle.jb2_numbers.proofs.Sound.{next_sound, allowed_implied, allowed_coded, few_before, few_sound}
 use Rattle.jb2_numbers.proofs.Stepping.{step_in_implied, step_in_coded}
 use Rattle.jb2_numbers.proofs.Bounds.{within_bounds}
 
@@ -96,15 +97,9 @@ pub possible_after : (wanted : Wanted) (chunk : Chunk) (states : Name → ℕ) (
     ArePossible wanted (steps count wanted chunk (begun states place)).decisions
 possible_after wanted chunk states place count bounds = possible_from wanted chunk (begun states place) count bounds tt
 
-pub few_by : (count : ℕ) (phase : Phase) → IsTrue (is_sound count phase) → count ≤ 36
-few_by count (Sign low high) sound = grind (arith, common_steps)
-few_by count (Doubling side cutoff) sound = grind (arith, common_steps)
-few_by count (Halving side cutoff range) sound = halving_few count side cutoff range sound
-few_by count (Known value) sound = grind (arith, common_steps)
-
 few_from : (wanted : Wanted) (chunk : Chunk) (at : Reading) (count : ℕ) → AreBounds wanted.low wanted.high → ArePossible wanted at.decisions → length (steps count wanted chunk at).decisions ≤ 36
 few_from wanted chunk at count bounds possible =
-    few_by (length (steps count wanted chunk at).decisions) (phase_after wanted (steps count wanted chunk at).decisions) (goes_from wanted chunk at count bounds possible).sound
+    few_sound (length (steps count wanted chunk at).decisions) (phase_after wanted (steps count wanted chunk at).decisions) (goes_from wanted chunk at count bounds possible).sound
 
 pub few_after : (wanted : Wanted) (chunk : Chunk) (states : Name → ℕ) (place : Option Interval) (count : ℕ) → AreBounds wanted.low wanted.high →
     length (steps count wanted chunk (begun states place)).decisions ≤ 36

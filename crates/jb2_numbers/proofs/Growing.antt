@@ -1,15 +1,15 @@
 -- A cell more, to which one that was there links.
 use Rattle.std.proofs.Common.{◌≡◌, ◌≤◌, ◌<◌, ◌+◌, ◌==◌, ℕ, zero, suc, Bool, true, false, List, [], ◌∷◌, ◌++◌, length, get_or, set, refl, sym, ap, subst, ◌∙◌, inl, inr, arith}
-use Rattle.std.specs.Prelude.{◌⊎◌, Option, Some, None, if◌then◌else◌}
+use Rattle.std.specs.Prelude.{◌⊎◌, Option, Some, None, Result, Ok, Err, IfOk, if◌then◌else◌}
 use Rattle.std.proofs.Math.Path.{fun_ext}
 use Rattle.std.proofs.lemmas.Bool.{cases_Bool, cases_lt, cases_eq}
 use Rattle.std.proofs.lemmas.Grind.{common_steps}
-use Rattle.std.proofs.lemmas.List.{get_or-set_same, get_or-set_other, get_or_past, get_or_push, get_or_append_left, length-set, length-append}
+use Rattle.std.proofs.lemmas.List.{get_or-set_same, get_or-set_other, get_or_past, get_or_read, get_or_push, get_or_append_left, length-set, length-append}
 use Rattle.jb2_numbers.specs.declared.roots.Root.{Root}
 use Rattle.jb2_numbers.specs.declared.contexts.Cell.{Cell}
 use Rattle.jb2_numbers.specs.Roots.{root_index}
 use Rattle.jb2_numbers.specs.Contexts.{Name, name, further}
-use Rattle.jb2_numbers.specs.Kept.{Numbers, start, link, with_link, linked, next_cell, cell_after, state_in, states_of, AreBelow, IsCell, AreNamed, HaveNames}
+use Rattle.jb2_numbers.specs.Kept.{Numbers, start, link, with_link, linked, next_cell, cell_after, state_in, states_of, IsCell, AreNamed, HaveNames}
 use Rattle.jb2_numbers.proofs.Names.{root_below}
 
 pub record Grows (cells more : List Cell) (at : ℕ) (decision : Bool) : Type 0 where
@@ -20,6 +20,10 @@ pub record Grows (cells more : List Cell) (at : ℕ) (decision : Bool) : Type 0 
   pub none : link (get_or cells at start) decision ≡ 0
   pub within : at < length cells
   pub room : 16 ≤ length cells
+
+some_roots : (cells : List Cell) (at : ℕ) → at < length cells → (length cells ≡ 0) ⊎ (16 ≤ length cells) → 16 ≤ length cells
+some_roots cells at within (inl none) = absurd (omega (arith, within, none))
+some_roots cells at within (inr some) = some
 
 pub grown_by : (cells : List Cell) (at : ℕ) (decision : Bool) → at < length cells → 16 ≤ length cells → link (get_or cells at start) decision ≡ 0 →
     Grows cells (set (cells ++ start ∷ []) at (with_link (get_or cells at start) decision (length cells))) at decision
@@ -41,6 +45,19 @@ grown_by cells at decision within room none =
       within = within;
       room = room;
     }
+
+-- the same, as the code has it
+pub grown_from : (cells pushed : List Cell) (at link_now : ℕ) (decision : Bool) (cell new : Cell) → HaveNames cells → at < length cells → link (get_or cells at start) decision ≡ 0 →
+    pushed ≡ cells ++ start ∷ [] → cell ≡ get_or pushed at cell → new ≡ with_link cell decision link_now → link_now ≡ length cells → Grows cells (set pushed at new) at decision
+grown_from cells pushed at link_now decision cell new have within none pushes is links size =
+    let longer : length pushed ≡ length cells + 1 = ap length pushes ∙ length-append cells (start ∷ []) in
+    let read : cell ≡ get_or cells at start =
+    get_or_read pushed at cell (omega (arith, within, longer)) is start
+    ∙ (ap (λ (list : List Cell). get_or list at start) pushes ∙ get_or_append_left cells (start ∷ []) start at within) in
+    let news : new ≡ with_link (get_or cells at start) decision (length cells) =
+    links ∙ (ap (λ (c : Cell). with_link c decision link_now) read ∙ ap (with_link (get_or cells at start) decision) size) in
+    subst (λ (list : List Cell). Grows cells list at decision) (sym (ap (λ (list : List Cell). set list at new) pushes ∙ ap (set (cells ++ start ∷ []) at) news))
+    (grown_by cells at decision within (some_roots cells at within have.1.room) none)
 
 no_link_at : (n next : ℕ) → n ≡ 0 → linked n ≡ Some next → ⊥
 no_link_at n next is leads = let none : linked n ≡ None = ap linked is in absurd (cc (none, leads))
@@ -207,10 +224,6 @@ module _ (cells more : List Cell) (at : ℕ) (decision : Bool) (grows : Grows ce
   unfolding states_of
   grown_states = fun_ext (λ (of : Name). state_by (cell_after cells of.root of.decisions) (cell_after more of.root of.decisions) (cell_stays of.root of.decisions) (cell_was of.root of.decisions))
 
-  pub grown_below : (count : ℕ) → AreBelow count (record { cells = cells }) → AreBelow count (record { cells = more })
-  unfolding AreBelow
-  grown_below count below = λ i. subst (λ (s : ℕ). s < count) (sym (state_stays i)) (below i)
-
   -- ---- the new cell
 
   pub grown_cell : (before : Name) → IsCell (record { cells = cells }) before at → IsCell (record { cells = more }) (further before decision) (length cells)
@@ -251,3 +264,9 @@ module _ (cells more : List Cell) (at : ℕ) (decision : Bool) (grows : Grows ce
 
   pub grown_names : HaveNames cells → HaveNames more
   grown_names have = (renamed (further (have.0 at) decision) (length cells) have.0, named_more have.0 have.1)
+
+-- where the cell after a decision was found, it is that of the name with one decision more
+pub cell_on : {E : Type 0} (result : Result ℕ E) (old new : Numbers) (root : Root) (decisions later : List Bool) (decision : Bool) (at : ℕ) → later ≡ decision ∷ decisions → IsCell old (name root decisions) at →
+    IfOk result (λ (next : ℕ). (before : Name) → IsCell old before at → IsCell new (further before decision) next) → IfOk result (λ (next : ℕ). IsCell new (name root later) next)
+cell_on (Ok next) old new root decisions later decision at is cell leads = subst (λ (ds : List Bool). IsCell new (name root ds) next) (sym is) (leads (name root decisions) cell)
+cell_on (Err error) old new root decisions later decision at is cell leads = tt

@@ -9,8 +9,8 @@ use Rattle.jb2_numbers.specs.Phases.{Side, Phase, Sign, Doubling, Halving, Known
 use Rattle.jb2_numbers.specs.Number.{Wanted, phase_after, most_decisions, ArePossible, with_decided, first_decisions, decisions_of}
 use Rattle.jb2_numbers.specs.Reader.{AreBounds}
 use Rattle.jb2_numbers.proofs.Bounds.{Keeps, Doubles, Halves, phase_keeps, not_one}
-use Rattle.jb2_numbers.proofs.Sound.{few_before}
-use Rattle.jb2_numbers.proofs.Ending.{few_by, sound_of}
+use Rattle.jb2_numbers.proofs.Sound.{few_before, few_sound}
+use Rattle.jb2_numbers.proofs.Ending.{sound_of}
 
 -- ---- the values that a phase leaves
 
@@ -346,7 +346,7 @@ leads_on wanted value decisions leads (one unknown same) =
       fits = fits_on value (phase_after wanted decisions) (decided value (phase_after wanted decisions)) refl leads.fits;
     })
 
-pub leads_first : (count : ℕ) (wanted : Wanted) (value : ℤ) → Fits value wanted.low wanted.high → Leads wanted value (first_decisions count wanted value)
+leads_first : (count : ℕ) (wanted : Wanted) (value : ℤ) → Fits value wanted.low wanted.high → Leads wanted value (first_decisions count wanted value)
 leads_first zero wanted value fits = record { possible = tt; covers = tt; fits = fits }
 leads_first (suc count) wanted value fits =
     leads_on wanted value (first_decisions count wanted value) (leads_first count wanted value fits)
@@ -444,7 +444,7 @@ first_ended wanted value x (suc m) n less last =
 
 pub value_alone : (wanted : Wanted) (value : ℤ) (decisions : List Bool) → AreBounds wanted.low wanted.high → ArePossible wanted decisions → phase_after wanted decisions ≡ Known value → decisions ≡ decisions_of wanted value
 unfolding most_decisions
-value_alone wanted value decisions bounds possible known =
-    let first : first_decisions (length decisions) wanted value ≡ decisions = own_first wanted value decisions possible (subst (Covers value) (sym known) refl) in
-    let few : length decisions ≤ 36 = few_by (length decisions) (phase_after wanted decisions) (sound_of wanted decisions bounds possible) in
-    sym (first_ended wanted value value 36 (length decisions) few (ap (phase_after wanted) first ∙ known) ∙ first)
+value_alone wanted value decisions bounds possible at_end =
+    let first : first_decisions (length decisions) wanted value ≡ decisions = own_first wanted value decisions possible (subst (Covers value) (sym at_end) refl) in
+    let few : length decisions ≤ 36 = few_sound (length decisions) (phase_after wanted decisions) (sound_of wanted decisions bounds possible) in
+    sym (first_ended wanted value value 36 (length decisions) few (ap (phase_after wanted) first ∙ at_end) ∙ first)

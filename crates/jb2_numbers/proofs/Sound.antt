@@ -1,12 +1,14 @@
 -- What phases keep to, and how many decisions lead to them.
-use Rattle.std.proofs.Common.{◌≡◌, ◌≤◌, ◌<◌, ◌+◌, ◌-◌, ◌*◌, ◌/◌, ◌^◌, ◌==◌, ℕ, zero, suc, ℤ, pos, negsuc, add-one, pow-add, Bool, true, false, not, refl, sym, ap, subst, ◌∙◌, arith}
+use Rattle.std.proofs.Common.{◌≡◌, ◌≤◌, ◌<◌, ◌+◌, ◌-◌, ◌*◌, ◌/◌, ◌^◌, ◌==◌, ℕ, zero, suc, ℤ, pos, negsuc, add-one, pow-add, Bool, true, false, not, List, length, refl, sym, ap, subst, ◌∙◌, arith}
 use Rattle.std.specs.Prelude.{Some, None, nat_le, int_le, IsTrue, if◌then◌else◌}
 use Rattle.std.proofs.lemmas.Grind.{common_steps}
 use Rattle.std.proofs.Math.Nat.{pow-suc, mul-le-mul_right}
 use Rattle.std.proofs.Math.Pow.{pow_mono}
 use Rattle.jb2_numbers.specs.declared.paths.Path.{Path}
 use Rattle.jb2_numbers.specs.Phases.{at_least, side_of, number_of, halved, settled, next_phase, implied_by, implied, allows, allows_by, Side, Phase, Sign, Doubling, Halving, Known, is_known}
+use Rattle.jb2_numbers.specs.Kept.{decisions_in}
 use Rattle.jb2_numbers.specs.Steps.{IsSound, is_sound, is_bounded, limit}
+use Rattle.jb2_numbers.proofs.Digits.{how_many}
 
 pub record DoublingFacts (count cutoff : ℕ) : Type 0 where
   pub some : 1 ≤ count
@@ -280,3 +282,18 @@ halving_few count side cutoff range sound =
     let facts = halving_facts count side cutoff range sound in
     let few = few_decisions count range facts.some facts.few in
     omega (arith, few)
+
+pub few_sound : (count : ℕ) (phase : Phase) → IsTrue (is_sound count phase) → count ≤ 36
+few_sound count (Sign low high) sound = grind (arith, common_steps)
+few_sound count (Doubling side cutoff) sound = grind (arith, common_steps)
+few_sound count (Halving side cutoff range) sound = halving_few count side cutoff range sound
+few_sound count (Known value) sound = grind (arith, common_steps)
+
+-- a reader has read few decisions
+pub few_reader : (path : Path) (phase : Phase) (decisions : List Bool) → decisions_in path ≡ decisions → IsSound path phase → length decisions ≤ 36
+few_reader path phase decisions same sound =
+    subst (λ (ds : List Bool). length ds ≤ 36) same (subst (λ (n : ℕ). n ≤ 36) (sym (how_many path.count path.bits)) (few_sound path.count phase (sound_part path phase sound)))
+
+pub fewer_reader : (path : Path) (phase : Phase) (decision : Bool) (decisions : List Bool) → decisions_in path ≡ decisions → IsSound path phase → IsTrue (allows phase decision) → length decisions < 36
+fewer_reader path phase decision decisions same sound allowed =
+    subst (λ (ds : List Bool). length ds < 36) same (subst (λ (n : ℕ). n < 36) (sym (how_many path.count path.bits)) (few_taken path phase decision sound allowed))

@@ -1,22 +1,24 @@
 -- A step of the reader is a step of the definition.
-use Rattle.std.proofs.Common.{◌≡◌, ◌≢◌, ◌≤◌, ◌<◌, ◌+◌, ◌-◌, ℕ, zero, suc, ℤ, Bool, false, List, [], ◌∷◌, length, refl, sym, ap, subst, ◌∙◌, inl, inr, arith}
-use Rattle.std.specs.Prelude.{◌⊎◌, Option, Some, None, IsTrue}
+use Rattle.std.proofs.Common.{◌≡◌, ◌≢◌, ◌≤◌, ◌<◌, ◌+◌, ◌-◌, ℕ, zero, suc, ℤ, Bool, false, List, [], ◌∷◌, length, ◌≤ℤ◌, refl, sym, ap, subst, ◌∙◌, inl, inr, arith}
+use Rattle.std.specs.Prelude.{◌⊎◌, Option, Some, None, Result, Ok, Err, IfOk, IfErr, OnOk, int_le, IsTrue}
 use Rattle.djvu_base.specs.Meter.{ticked_once}
 use Rattle.djvu_base.proofs.Ticks.{ticks_next, ticks_none}
 use Rattle.zp_decoder.specs.declared.decoder.Decision.{Decision}
 use Rattle.zp_decoder.specs.declared.decoder.Decision.TheVariants as decision
 use Rattle.zp_decoder.specs.Decision.{Adaptive, Interval, Outcome, outcome_of}
 use Rattle.zp_decoder.specs.Decoder.{Decoder, Fed}
+use Rattle.zp_decoder.specs.Chunk.{Chunk, chunk}
 use Rattle.jb2_numbers.specs.declared.reader.NumberStep.{NumberStep}
 use Rattle.jb2_numbers.specs.declared.reader.NumberStep.TheVariants as told
 use Rattle.jb2_numbers.specs.Answer.{Answer}
 use Rattle.jb2_numbers.specs.Answer as answer
-use Rattle.jb2_numbers.specs.Contexts.{Name, name, store}
+use Rattle.jb2_numbers.specs.Contexts.{Name, name, further, store}
 use Rattle.jb2_numbers.specs.Kept.{Numbers, IsCell, states_of, state_in}
 use Rattle.jb2_numbers.specs.Phases.{Phase, Sign, Doubling, Halving, Known, next_phase, implied, is_known, allows}
-use Rattle.jb2_numbers.specs.Number.{Wanted, Chunk, chunk, Reading, phase_after, begun, name_at, next_coded, with_implied, with_coded, with_next, step_in, step, steps, most_decisions, read_on, answer_without, answer_in, answer_at, ArePossible}
-use Rattle.jb2_numbers.specs.Reader.{Reader, Reads, Stands, Ends, IsUnderway, step_of}
-use Rattle.jb2_numbers.specs.Steps.{Takes, Decides, Stops, EndsBy, decision_of, is_stop, state_at}
+use Rattle.jb2_numbers.specs.Number.{Wanted, Reading, phase_after, begun, name_at, next_coded, with_implied, with_coded, with_next, step_in, step, steps, most_decisions, read_on, answer_without, answer_in, answer_at, ArePossible}
+use Rattle.jb2_numbers.specs.Reader.{AreBounds, Reader, Reads, Stands, Ends, IsUnderway, step_of}
+use Rattle.jb2_numbers.specs.Steps.{Takes, Decides, Stops, IsNext, EndsBy, decision_of, is_stop, state_at}
+use Rattle.jb2_numbers.proofs.Bounds.{within_bounds}
 
 reads_on : (wanted : Wanted) (decisions : List Bool) (old new : Reader) (bit : Bool) → Takes old bit new → Reads wanted decisions old → Reads wanted (bit ∷ decisions) new
 unfolding Reads
@@ -34,11 +36,13 @@ name_of_reader wanted decisions reader reads = λ i. name (reads.0 i) (reads.1 i
 -- a decision that the phase allows is a possible one
 pub underway_on : (wanted : Wanted) (old new : Reader) (bit : Bool) → Takes old bit new → IsTrue (allows old.phase bit) → IsUnderway wanted old → IsUnderway wanted new
 underway_on wanted old new bit takes allowed underway =
-    let reads = underway.1.0 in
-    (bit ∷ underway.0, (
-      reads_on wanted underway.0 old new bit takes reads,
-      (underway.1.1, subst (λ (p : Phase). IsTrue (allows p bit)) (phase_of wanted underway.0 old reads) allowed),
-    ))
+    let reads = underway.1.0 in (
+      bit ∷ underway.0,
+      (
+        reads_on wanted underway.0 old new bit takes reads,
+        (underway.1.1, subst (λ (p : Phase). IsTrue (allows p bit)) (phase_of wanted underway.0 old reads) allowed),
+      ),
+    )
 
 pub stands_begun : (wanted : Wanted) (payload : List ℕ) (place : Option Interval) (reader : Reader) (contexts : Numbers) (zp : Decoder) (count : ℕ) → Reads wanted [] reader → Fed payload place zp →
     Stands wanted (chunk zp.table payload zp.ended) count (begun (states_of contexts) place) reader contexts zp count
@@ -63,7 +67,7 @@ answer_in_coded wanted chunk reading (Doubling side cutoff) unknown = refl
 answer_in_coded wanted chunk reading (Halving side cutoff range) unknown = refl
 answer_in_coded wanted chunk reading (Known value) unknown = absurd (cc)
 
-state_of_cell : (contexts : Numbers) (of : Name) (at : ℕ) → IsCell contexts of at → state_at contexts at ≡ states_of contexts of
+pub state_of_cell : (contexts : Numbers) (of : Name) (at : ℕ) → IsCell contexts of at → state_at contexts at ≡ states_of contexts of
 unfolding states_of
 state_of_cell contexts of at cell = ap (state_in contexts.cells) (sym cell.leads)
 
@@ -216,3 +220,123 @@ ends_there wanted chunk before reading given old new contexts zp ticks ends =
       answer = λ memory. let end = ends.ends memory in sym (ap (λ (r : Reading). step_of (answer_at wanted chunk r)) (read_on-ended wanted chunk reading ends.count within end.last) ∙ end.answer);
       stands = λ memory. let end = ends.ends memory in subst (λ (r : Reading). Stands wanted chunk before r new contexts zp ticks) (sym (read_on-ended wanted chunk reading ends.count within end.last)) ends.stands;
     }
+
+-- ---- a step of the reader
+
+-- where room was made, all else stands
+pub stands_moved : (wanted : Wanted) (chunk : Chunk) (before : ℕ) (reading : Reading) (reader : Reader) (contexts contexts' : Numbers) (zp : Decoder) (count : ℕ) → states_of contexts' ≡ states_of contexts →
+    Stands wanted chunk before reading reader contexts zp count → Stands wanted chunk before reading reader contexts' zp count
+stands_moved wanted chunk before reading reader contexts contexts' zp count same stands = record {
+  reads = stands.reads;
+  states = same ∙ stands.states;
+  fed = stands.fed;
+  table = stands.table;
+  ended = stands.ended;
+  ticks = stands.ticks;
+}
+
+-- what a decision does to all that stands
+abbrev pub Moves : Reader → Numbers → Decoder → ℕ → Reader → Numbers → Decoder → ℕ → Type 0
+Moves old contexts zp count new contexts' zp' count' = (wanted : Wanted) (chunk : Chunk) (before : ℕ) (reading : Reading) →
+    Stands wanted chunk before reading old contexts zp count → Stands wanted chunk before (step wanted chunk reading) new contexts' zp' count'
+
+module _ (old : Reader) (at : ℕ) (contexts contexts' : Numbers) (zp zp' : Decoder) (count count' : ℕ) where
+  abbrev Decided : Bool → Type 0
+  Decided bit = (new : Reader) (wanted : Wanted) (chunk : Chunk) (before : ℕ) (reading : Reading) → Takes old bit new →
+      Stands wanted chunk before reading old contexts zp count → Stands wanted chunk before (step wanted chunk reading) new contexts' zp' count'
+
+  abbrev Ended : NumberStep → Type 0
+  Ended end = (wanted : Wanted) (chunk : Chunk) (before : ℕ) (reading : Reading) → Stands wanted chunk before reading old contexts zp count → Ends wanted chunk reading end
+
+  pub decide_goes : (result : Result Bool NumberStep) → IsCell contexts (name old.root old.decisions) at → is_known old.phase ≡ false → implied old.phase ≡ None →
+      IfOk result (λ (bit : Bool). Decides at contexts zp bit contexts' zp') → zp'.table ≡ zp.table → zp'.ended ≡ zp.ended → OnOk result (count' ≡ ticked_once count) → IfOk result Decided
+  decide_goes (Ok bit) cell unknown coded decides table ended ticks = λ new wanted chunk before reading takes stands.
+      stands_coded wanted chunk before reading old new contexts contexts' zp zp' count count' stands at cell bit takes unknown coded decides table ended ticks
+  decide_goes (Err stop) cell unknown coded decides table ended ticks = tt
+
+  pub decide_ends : (result : Result Bool NumberStep) → IsCell contexts (name old.root old.decisions) at → is_known old.phase ≡ false → implied old.phase ≡ None →
+      IfErr result (λ (stop : NumberStep). Stops at contexts zp stop) → IfErr result Ended
+  decide_ends (Ok bit) cell unknown coded stops = tt
+  decide_ends (Err stop) cell unknown coded stops = λ wanted chunk before reading stands.
+      ends_coded wanted chunk before reading old old contexts contexts zp zp count count stands at cell stop unknown coded stops
+
+pub decide_implied : (old : Reader) (contexts : Numbers) (zp : Decoder) (count : ℕ) (bit : Bool) → implied old.phase ≡ Some bit → (new : Reader) (wanted : Wanted) (chunk : Chunk) (before : ℕ) (reading : Reading) → Takes old bit new →
+    Stands wanted chunk before reading old contexts zp count → Stands wanted chunk before (step wanted chunk reading) new contexts zp count
+decide_implied old contexts zp count bit given new wanted chunk before reading takes stands =
+    stands_implied wanted chunk before reading old new contexts contexts zp zp count count stands bit takes given
+
+pub on_ok : {T E P : Type 0} (result : Result T E) → P → OnOk result P
+on_ok (Ok value) p = p
+on_ok (Err error) p = tt
+
+-- what the cell of the next decision answers, where there is none
+abbrev pub Finds : Reader → NumberStep → Type 0
+Finds new end = (end ≡ told.OutOfMemory) ⊎ ((value : ℤ) × (new.phase ≡ Known value) × (end ≡ told.Number value))
+
+ended_by : (wanted : Wanted) (chunk : Chunk) (before : ℕ) (reading : Reading) (new : Reader) (contexts : Numbers) (zp : Decoder) (count : ℕ) (end : NumberStep) → Finds new end →
+    Stands wanted chunk before reading new contexts zp count → end ≢ told.OutOfMemory → Ends wanted chunk reading end
+ended_by wanted chunk before reading new contexts zp count end (inl memory) stands some = absurd (some memory)
+ended_by wanted chunk before reading new contexts zp count end (inr found) stands some =
+    subst (Ends wanted chunk reading) (sym found.2) (ends_known wanted chunk before reading new new contexts contexts zp zp count count stands found.0 found.1)
+
+pub step_ends : (result : Result ℕ NumberStep) (old new : Reader) (contexts contexts' : Numbers) (zp zp' : Decoder) (count count' : ℕ) → IfErr result (Finds new) →
+    length new.decisions ≡ suc (length old.decisions) → length old.decisions < 36 → Moves old contexts zp count new contexts' zp' count' →
+    IfErr result (λ (end : NumberStep). (wanted : Wanted) (chunk : Chunk) (before : ℕ) (reading : Reading) → Stands wanted chunk before reading old contexts zp count →
+    EndsBy wanted chunk before reading end old new contexts' zp' count')
+step_ends (Ok next) old new contexts contexts' zp zp' count count' found more few moves = tt
+step_ends (Err end) old new contexts contexts' zp zp' count count' found more few moves = λ wanted chunk before reading stands. record {
+  count = 1;
+  more = omega (arith, more);
+  few = omega (arith, more, few);
+  stands = moves wanted chunk before reading stands;
+  ends = ended_by wanted chunk before (step wanted chunk reading) new contexts' zp' count' end found (moves wanted chunk before reading stands);
+}
+
+-- no decision was made
+pub none_ends : (wanted : Wanted) (chunk : Chunk) (before : ℕ) (reading : Reading) (reader : Reader) (contexts : Numbers) (zp : Decoder) (count : ℕ) (end : NumberStep) → length reader.decisions ≤ 36 →
+    Stands wanted chunk before reading reader contexts zp count → Ends wanted chunk reading end → EndsBy wanted chunk before reading end reader reader contexts zp count
+none_ends wanted chunk before reading reader contexts zp count end few stands ends = record {
+  count = 0;
+  more = omega arith;
+  few = few;
+  stands = stands;
+  ends = λ memory. ends;
+}
+
+pub known_ends : (wanted : Wanted) (chunk : Chunk) (before : ℕ) (reading : Reading) (reader : Reader) (contexts : Numbers) (zp : Decoder) (count : ℕ) (value : ℤ) → length reader.decisions ≤ 36 → reader.phase ≡ Known value →
+    Stands wanted chunk before reading reader contexts zp count → EndsBy wanted chunk before reading (told.Number value) reader reader contexts zp count
+known_ends wanted chunk before reading reader contexts zp count value few known stands =
+    none_ends wanted chunk before reading reader contexts zp count (told.Number value) few stands (ends_known wanted chunk before reading reader reader contexts contexts zp zp count count stands value known)
+
+name_taken : (old new : Reader) (bit : Bool) → Takes old bit new → name new.root new.decisions ≡ further (name old.root old.decisions) bit
+name_taken old new bit takes = λ i. name (takes.root i) (takes.decisions i)
+
+pub step_next : (result : Result ℕ NumberStep) (old new : Reader) (bit : Bool) (at : ℕ) (contexts contexts' : Numbers) → IfOk result (λ (next : ℕ). (of : Name) → IsCell contexts of at → IsCell contexts' (further of bit) next) →
+    OnOk result (is_known new.phase ≡ false) → IsCell contexts (name old.root old.decisions) at → Takes old bit new → length old.decisions < 36 → IfOk result (λ (next : ℕ). IsNext old new contexts' next)
+step_next (Ok next) old new bit at contexts contexts' leads unknown cell takes few =
+    let more : length new.decisions ≡ suc (length old.decisions) = ap length takes.decisions in
+    record {
+      unknown = unknown;
+      cell = subst (λ (of : Name). IsCell contexts' of next) (sym (name_taken old new bit takes)) (leads (name old.root old.decisions) cell);
+      one = omega (arith, more);
+      few = omega (arith, more, few);
+    }
+step_next (Err end) old new bit at contexts contexts' leads unknown cell takes few = tt
+
+-- ---- bounds of an answer
+
+le_of : (a b : ℤ) → IsTrue (int_le a b) → a ≤ℤ b
+le_of a b h = search (arith, h)
+
+pub number_same : (a b : ℤ) → told.Number a ≡ told.Number b → a ≡ b
+number_same a b e = cc
+
+pub told_within : (wanted : Wanted) (reader : Reader) (value : ℤ) → AreBounds wanted.low wanted.high → IsUnderway wanted reader → reader.phase ≡ Known value → (wanted.low ≤ℤ value) × (value ≤ℤ wanted.high)
+told_within wanted reader value bounds underway known =
+    let within = within_bounds wanted underway.0 value underway.1.1 (sym (phase_of wanted underway.0 reader underway.1.0) ∙ known) in
+    (le_of wanted.low value within.0, le_of value wanted.high within.1)
+
+-- ---- exits
+
+pub exit_by : (result : Result ℕ NumberStep) (P : NumberStep → Type 0) (end : NumberStep) → (y : NumberStep) × (result ≡ Err y) × (y ≡ end) → P end → IfErr result P
+exit_by result P end exit p = subst (λ (r : Result ℕ NumberStep). IfErr r P) (sym (exit.1 ∙ ap Err exit.2)) p

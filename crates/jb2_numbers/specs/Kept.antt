@@ -65,10 +65,6 @@ state_in cells (Some at) = (get_or cells at start).state
 unfoldable pub states_of : Numbers → Name → ℕ
 states_of numbers at = state_in numbers.cells (cell_after numbers.cells at.root at.decisions)
 
--- each state is below this count
-unfoldable pub AreBelow : ℕ → Numbers → Type 0
-AreBelow count numbers = (at : ℕ) → (get_or numbers.cells at start).state < count
-
 -- this is the cell of the context with a name
 pub record IsCell (numbers : Numbers) (of : Name) (at : ℕ) : Type 0 where
   pub leads : cell_after numbers.cells of.root of.decisions ≡ Some at

@@ -1,9 +1,9 @@
 -- Numbers of JB2 by the path of their decisions (DjVu 3 reference, JB2).
 use Rattle.std.specs.Prelude.{ℕ, zero, suc, ℤ, Bool, List, [], ◌∷◌, Option, Some, None, IsTrue, ⊤}
-use Rattle.zp_table.specs.declared.rows.Row.{Row}
 use Rattle.zp_decoder.specs.declared.decoder.Decision.{Decision}
 use Rattle.zp_decoder.specs.declared.decoder.Decision.TheVariants as decision
 use Rattle.zp_decoder.specs.Decision.{Adaptive, Interval, Outcome, outcome_of}
+use Rattle.zp_decoder.specs.Chunk.{Chunk}
 use Rattle.jb2_numbers.specs.declared.roots.Root.{Root}
 use Rattle.jb2_numbers.specs.Answer.{Answer}
 use Rattle.jb2_numbers.specs.Answer as answer
@@ -15,12 +15,6 @@ pub record Wanted : Type 0 where
   pub root : Root
   pub low : ℤ
   pub high : ℤ
-
--- what it is read from: the state table, the bytes of the chunk so far, and whether they are all of it
-pub record Chunk : Type 0 where
-  pub table : List Row
-  pub payload : List ℕ
-  pub ended : Bool
 
 -- the phase after these decisions, the last one first
 abbrev pub phase_after : Wanted → List Bool → Phase
@@ -104,9 +98,6 @@ answer_and_coded wanted chunk reading = (answer_at wanted chunk (read_on wanted 
 
 abbrev pub wanted : Root → ℤ → ℤ → Wanted
 wanted root low high = record { root = root; low = low; high = high }
-
-abbrev pub chunk : List Row → List ℕ → Bool → Chunk
-chunk table payload ended = record { table = table; payload = payload; ended = ended }
 
 -- decisions that the bounds allow, each in its phase
 abbrev pub ArePossible : Wanted → List Bool → Type 0

@@ -1,6 +1,7 @@
 -- How a reader of numbers, the contexts, a decoder and a meter stand to the definition.
 use Rattle.std.specs.Prelude.{◌≡◌, ℕ, ◌≤ℤ◌, ℤ, pos, negsuc, Bool, List}
 use Rattle.djvu_base.specs.Meter.{TicksExactly}
+use Rattle.zp_decoder.specs.Chunk.{Chunk}
 use Rattle.zp_decoder.specs.Decoder.{Decoder, Fed}
 use Rattle.jb2_numbers.specs.declared.reader.NumberStep.{NumberStep}
 use Rattle.jb2_numbers.specs.declared.reader.NumberStep.TheVariants as told
@@ -9,7 +10,7 @@ use Rattle.jb2_numbers.specs.Answer.{Answer}
 use Rattle.jb2_numbers.specs.Answer as answer
 use Rattle.jb2_numbers.specs.Kept.{Numbers, states_of}
 use Rattle.jb2_numbers.specs.Phases.{Phase}
-use Rattle.jb2_numbers.specs.Number.{Wanted, Chunk, Reading, phase_after, step, answer_at, ArePossible}
+use Rattle.jb2_numbers.specs.Number.{Wanted, Reading, phase_after, step, answer_at, ArePossible}
 
 -- low and high are bounds of a number
 pub record AreBounds (low high : ℤ) : Type 0 where

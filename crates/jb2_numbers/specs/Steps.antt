@@ -3,13 +3,14 @@ use Rattle.std.specs.Prelude.{Option, Some, None, ◌≡◌, ◌≢◌, ℕ, ◌
 use Rattle.zp_decoder.specs.declared.decoder.Decision.{Decision}
 use Rattle.zp_decoder.specs.declared.decoder.Decision.TheVariants as decision
 use Rattle.zp_decoder.specs.Decision.{Adaptive, Interval, outcome_of}
+use Rattle.zp_decoder.specs.Chunk.{Chunk}
 use Rattle.zp_decoder.specs.Decoder.{Decoder, Fed}
 use Rattle.jb2_numbers.specs.declared.reader.NumberStep.{NumberStep}
 use Rattle.jb2_numbers.specs.declared.reader.NumberStep.TheVariants as told
 use Rattle.jb2_numbers.specs.declared.paths.Path.{Path}
 use Rattle.jb2_numbers.specs.Contexts.{Name, name, store}
 use Rattle.jb2_numbers.specs.Kept.{Numbers, IsCell, states_of, state_in, decisions_in}
-use Rattle.jb2_numbers.specs.Number.{Wanted, Chunk, Reading, steps}
+use Rattle.jb2_numbers.specs.Number.{Wanted, Reading, steps}
 use Rattle.jb2_numbers.specs.Phases.{Phase, Sign, Doubling, Halving, Known, at_least, opposite, next_phase, is_known}
 use Rattle.jb2_numbers.specs.Reader.{Reader, Stands, Ends}
 

@@ -1,8 +1,9 @@
 //! The contexts of numbers, as a tree of cells.
 ghost use Rattle.std.specs.Prelude.{◌≡◌, ◌<◌, ◌≤◌, ℕ, [], length, get_or, IfOk, IfErr, OnOk, OnErr};
 ghost use Rattle.djvu_base.specs.Meter.{ticked_once};
-ghost use Rattle.jb2_numbers.specs.Contexts.{Name, name, further, at_start, store};
-ghost use Rattle.jb2_numbers.specs.Kept.{decisions_in, link, with_link, start, states_of, AreBelow, IsCell};
+ghost use Rattle.zp_decoder.specs.States.{AreBelow, fresh};
+ghost use Rattle.jb2_numbers.specs.Contexts.{Name, name, further, store};
+ghost use Rattle.jb2_numbers.specs.Kept.{decisions_in, link, with_link, start, states_of, IsCell};
 ghost use Rattle.jb2_numbers.specs.Steps.{Decides, Stops, KeepsCells, state_at};
 
 use crate::paths::Path;
@@ -87,8 +88,8 @@ impl Model for NumberContexts {
 impl NumberContexts {
     /// Contexts that are all at their start.
     pub fn new(alloc: Global) -> NumberContexts
-        ensures start { states_of result ≡ at_start }
-        ensures below { (count : ℕ) → 0 < count → AreBelow count result }
+        ensures start { states_of result ≡ fresh }
+        ensures below { (count : ℕ) → 0 < count → AreBelow count (states_of result) }
     {
         NumberContexts {
             cells: Vec::new(alloc),
@@ -97,8 +98,8 @@ impl NumberContexts {
 
     /// Brings all contexts back to their start. The room for their cells is kept.
     pub fn reset(&mut self)
-        ensures start { states_of self.new ≡ at_start }
-        ensures below { (count : ℕ) → 0 < count → AreBelow count self.new }
+        ensures start { states_of self.new ≡ fresh }
+        ensures below { (count : ℕ) → 0 < count → AreBelow count (states_of self.new) }
     {
         self.cells.clear();
     }
@@ -107,7 +108,6 @@ impl NumberContexts {
     pub(crate) fn find(&mut self, root: Root, path: Path) -> Result<usize, AllocError>
         ensures cell { IfOk result (λ at. IsCell self.new (name root (decisions_in path)) at) }
         ensures same { states_of self.new ≡ states_of self.old }
-        ensures below { (count : ℕ) → AreBelow count self.old → AreBelow count self.new }
     {
         match path.split_last() {
             None => self.root_cell(root),
@@ -122,12 +122,21 @@ impl NumberContexts {
     fn root_cell(&mut self, root: Root) -> Result<usize, AllocError>
         ensures cell { IfOk result (λ at. IsCell self.new (name root []) at) }
         ensures same { states_of self.new ≡ states_of self.old }
-        ensures below { (count : ℕ) → AreBelow count self.old → AreBelow count self.new }
     {
-        if self.cells.is_empty() {
-            self.cells.extend_from_slice(&[Cell::start(); 16])?;
-        }
+        self.make_roots()?;
         Ok(root.index())
+    }
+
+    /// Makes the cells of the roots, where there are none.
+    fn make_roots(&mut self) -> Result<(), AllocError>
+        ensures room { OnOk result (16 ≤ length self.new.cells) }
+        ensures same { states_of self.new ≡ states_of self.old }
+    {
+        if !self.cells.is_empty() {
+            return Ok(());
+        }
+        self.cells.extend_from_slice(&[Cell::start(); 16])?;
+        Ok(())
     }
 
     /// The cell after a decision. Where there was none, it is made.
@@ -135,7 +144,6 @@ impl NumberContexts {
         requires { at < length self.old.cells }
         ensures cell { IfOk result (λ next. (before : Name) → IsCell self.old before at → IsCell self.new (further before decision) next) }
         ensures same { states_of self.new ≡ states_of self.old }
-        ensures below { (count : ℕ) → AreBelow count self.old → AreBelow count self.new }
     {
         let link = self.cells[at].link(decision);
         if link == 0 {
@@ -150,7 +158,6 @@ impl NumberContexts {
         requires none { link (get_or self.old.cells at start) decision ≡ 0 }
         ensures cell { IfOk result (λ next. (before : Name) → IsCell self.old before at → IsCell self.new (further before decision) next) }
         ensures same { states_of self.new ≡ states_of self.old }
-        ensures below { (count : ℕ) → AreBelow count self.old → AreBelow count self.new }
     {
         let next = self.cells.len();
         let Ok(link) = u32::try_from(next) else {
@@ -169,13 +176,13 @@ impl NumberContexts {
         meter: &mut M,
     ) -> Result<bool, NumberStep>
         requires within { at < length self.old.cells }
-        requires below { AreBelow (length zp.old.table) self.old }
+        requires below { state_at self.old at < length zp.old.table }
         ensures bit { IfOk result (λ bit. Decides at self.old zp.old bit self.new zp.new) }
         ensures stop { IfErr result (λ stop. Stops at self.old zp.old stop) }
         ensures still { OnErr result ((self.new ≡ self.old) × (zp.new ≡ zp.old) × (meter.new ≡ meter.old)) }
         ensures ticks { OnOk result (M.count meter.new ≡ ticked_once (M.count meter.old)) }
         ensures cells { KeepsCells self.old self.new }
-        ensures below { AreBelow (length zp.new.table) self.new }
+        ensures below { (of : Name) → IsCell self.old of at → AreBelow (length zp.old.table) (states_of self.old) → AreBelow (length zp.new.table) (states_of self.new) }
         ensures table { zp.new.table ≡ zp.old.table }
         ensures ended { zp.new.ended ≡ zp.old.ended }
     {
@@ -195,7 +202,7 @@ impl NumberContexts {
         requires { at < length self.old.cells }
         ensures cells { KeepsCells self.old self.new }
         ensures stored { (of : Name) → IsCell self.old of at → states_of self.new ≡ store (states_of self.old) of state }
-        ensures below { (count : ℕ) → state < count → AreBelow count self.old → AreBelow count self.new }
+        ensures below { (of : Name) (count : ℕ) → IsCell self.old of at → state < count → AreBelow count (states_of self.old) → AreBelow count (states_of self.new) }
     {
         self.cells[at].state = state;
     }

@@ -1,8 +1,10 @@
 //! The reader of a number: it stands between decisions, so that it can go on where bytes or memory were wanting.
-ghost use Rattle.std.specs.Prelude.{◌≡◌, ◌≢◌, ◌+◌, ◌<◌, ◌≤ℤ◌, ◌⊎◌, ℕ, ℤ, [], length, true, false, negsuc, pos, IfOk, IfErr, OnOk, OnErr, IsTrue};
+ghost use Rattle.std.specs.Prelude.{◌≡◌, ◌≢◌, ◌+◌, ◌<◌, ◌≤◌, ◌≤ℤ◌, ◌⊎◌, ℕ, ℤ, [], length, true, false, negsuc, pos, IfOk, IfErr, OnOk, OnErr, IsTrue};
+ghost use Rattle.zp_decoder.specs.Chunk.{Chunk};
+ghost use Rattle.zp_decoder.specs.States.{AreBelow};
 ghost use Rattle.jb2_numbers.specs.Contexts.{Name, name, further};
-ghost use Rattle.jb2_numbers.specs.Kept.{AreBelow, IsCell, states_of};
-ghost use Rattle.jb2_numbers.specs.Number.{Wanted, Chunk, Reading, step, steps, read_on, answer_at};
+ghost use Rattle.jb2_numbers.specs.Kept.{IsCell, states_of};
+ghost use Rattle.jb2_numbers.specs.Number.{Wanted, Reading, step, steps, read_on, answer_at};
 ghost use Rattle.jb2_numbers.specs.Phases.{Known, allows, is_known};
 ghost use Rattle.jb2_numbers.specs.Reader.{AreBounds, Reader, Reads, Stands, Ends, IsUnderway, StaysWithin, step_of};
 ghost use Rattle.jb2_numbers.specs.Steps.{KeepsCells, Takes, IsNext, EndsBy, is_stop};
@@ -79,7 +81,7 @@ impl NumberReader {
         zp: &mut ZpDecoder,
         meter: &mut M,
     ) -> NumberStep
-        requires { AreBelow (length zp.old.table) contexts.old }
+        requires { AreBelow (length zp.old.table) (states_of contexts.old) }
         ensures answer { (wanted : Wanted) (chunk : Chunk) (before : ℕ) (reading : Reading) → result ≢ NumberStep.OutOfMemory →
             Stands wanted chunk before reading self.old contexts.old zp.old (M.count meter.old) →
             result ≡ step_of (answer_at wanted chunk (read_on wanted chunk reading)) }
@@ -90,7 +92,7 @@ impl NumberReader {
             Stands wanted chunk before reading self.old contexts.old zp.old (M.count meter.old) →
             ((count : ℕ) × Stands wanted chunk before (steps count wanted chunk reading) self.new contexts.new zp.new (M.count meter.new)) }
         ensures within { (wanted : Wanted) → AreBounds wanted.low wanted.high → IsUnderway wanted self.old → StaysWithin wanted result self.new }
-        ensures below { AreBelow (length zp.new.table) contexts.new }
+        ensures below { AreBelow (length zp.new.table) (states_of contexts.new) }
         ensures table { zp.new.table ≡ zp.old.table }
         ensures ended { zp.new.ended ≡ zp.old.ended }
     {
@@ -113,13 +115,13 @@ impl NumberReader {
     ) -> NumberStep
         requires unknown { is_known self.old.phase ≡ false }
         requires cell { IsCell contexts.old (name self.old.root self.old.decisions) at }
-        requires below { AreBelow (length zp.old.table) contexts.old }
+        requires below { AreBelow (length zp.old.table) (states_of contexts.old) }
         ensures ends { (wanted : Wanted) (chunk : Chunk) (before : ℕ) (reading : Reading) →
             Stands wanted chunk before reading self.old contexts.old zp.old (M.count meter.old) →
             EndsBy wanted chunk before reading result self.old self.new contexts.new zp.new (M.count meter.new) }
         ensures underway { (wanted : Wanted) → IsUnderway wanted self.old → IsUnderway wanted self.new }
         ensures known { (value : ℤ) → result ≡ NumberStep.Number value → self.new.phase ≡ Known value }
-        ensures below { AreBelow (length zp.new.table) contexts.new }
+        ensures below { AreBelow (length zp.new.table) (states_of contexts.new) }
         ensures table { zp.new.table ≡ zp.old.table }
         ensures ended { zp.new.ended ≡ zp.old.ended }
     {
@@ -142,7 +144,7 @@ impl NumberReader {
     ) -> Result<usize, NumberStep>
         requires unknown { is_known self.old.phase ≡ false }
         requires cell { IsCell contexts.old (name self.old.root self.old.decisions) at }
-        requires below { AreBelow (length zp.old.table) contexts.old }
+        requires below { AreBelow (length zp.old.table) (states_of contexts.old) }
         ensures goes { OnOk result ((wanted : Wanted) (chunk : Chunk) (before : ℕ) (reading : Reading) →
             Stands wanted chunk before reading self.old contexts.old zp.old (M.count meter.old) →
             Stands wanted chunk before (step wanted chunk reading) self.new contexts.new zp.new (M.count meter.new)) }
@@ -152,7 +154,7 @@ impl NumberReader {
         ensures next { IfOk result (λ next. IsNext self.old self.new contexts.new next) }
         ensures underway { (wanted : Wanted) → IsUnderway wanted self.old → IsUnderway wanted self.new }
         ensures known { IfErr result (λ end. (value : ℤ) → end ≡ NumberStep.Number value → self.new.phase ≡ Known value) }
-        ensures below { AreBelow (length zp.new.table) contexts.new }
+        ensures below { AreBelow (length zp.new.table) (states_of contexts.new) }
         ensures table { zp.new.table ≡ zp.old.table }
         ensures ended { zp.new.ended ≡ zp.old.ended }
     {
@@ -171,17 +173,18 @@ impl NumberReader {
     ) -> Result<bool, NumberStep>
         requires unknown { is_known self.now.phase ≡ false }
         requires cell { IsCell contexts.old (name self.now.root self.now.decisions) at }
-        requires below { AreBelow (length zp.old.table) contexts.old }
+        requires below { AreBelow (length zp.old.table) (states_of contexts.old) }
         ensures goes { IfOk result (λ bit. (new : Reader) (wanted : Wanted) (chunk : Chunk) (before : ℕ) (reading : Reading) → Takes self.now bit new →
             Stands wanted chunk before reading self.now contexts.old zp.old (M.count meter.old) →
             Stands wanted chunk before (step wanted chunk reading) new contexts.new zp.new (M.count meter.new)) }
         ensures allowed { IfOk result (λ bit. IsTrue (allows self.now.phase bit)) }
+        ensures few { length self.now.decisions ≤ 36 }
         ensures ends { IfErr result (λ end. (wanted : Wanted) (chunk : Chunk) (before : ℕ) (reading : Reading) →
             Stands wanted chunk before reading self.now contexts.old zp.old (M.count meter.old) → Ends wanted chunk reading end) }
         ensures stop { IfErr result (λ end. is_stop end ≡ true) }
         ensures still { OnErr result ((contexts.new ≡ contexts.old) × (zp.new ≡ zp.old) × (meter.new ≡ meter.old)) }
         ensures cells { KeepsCells contexts.old contexts.new }
-        ensures below { AreBelow (length zp.new.table) contexts.new }
+        ensures below { AreBelow (length zp.new.table) (states_of contexts.new) }
         ensures table { zp.new.table ≡ zp.old.table }
         ensures ended { zp.new.ended ≡ zp.old.ended }
     {
@@ -213,7 +216,6 @@ impl NumberReader {
         ensures unknown { OnOk result (is_known self.now.phase ≡ false) }
         ensures end { IfErr result (λ end. (end ≡ NumberStep.OutOfMemory) ⊎ ((value : ℤ) × (self.now.phase ≡ Known value) × (end ≡ NumberStep.Number value))) }
         ensures same { states_of contexts.new ≡ states_of contexts.old }
-        ensures below { (count : ℕ) → AreBelow count contexts.old → AreBelow count contexts.new }
     {
         if let Phase::Known(value) = self.phase {
             return Err(NumberStep::Number(value));

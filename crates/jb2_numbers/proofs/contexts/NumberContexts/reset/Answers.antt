@@ -1,14 +1,10 @@
-use Rattle.std.proofs.Common.{rules, ◌≡◌, ◌<◌, ◌≤◌, ℕ, [], length, get_or, IfOk, IfErr, OnOk, OnErr, ◌+◌, ◌-◌, ◌*◌, ◌/◌, ◌%◌, Bool, true, false, nat_eq, nat_lt, List, ◌∷◌, ◌++◌, slice_set, bit_and, bit_or, Fits, w8, w32, w64, Bor, MutBor}
-use Rattle.djvu_base.specs.Meter.{ticked_once}
-use Rattle.jb2_numbers.specs.Contexts.{Name, name, further, at_start, store}
-use Rattle.jb2_numbers.specs.Kept.{decisions_in, link, with_link, start, states_of, AreBelow, IsCell}
-use Rattle.jb2_numbers.specs.Steps.{Decides, Stops, KeepsCells, state_at}
+use Rattle.zp_decoder.proofs.Lemmas.{fresh_below}
+use Rattle.jb2_numbers.specs.Kept.{states_of}
+use Rattle.jb2_numbers.proofs.Cells.{states_started, none_start}
 use Rattle.jb2_numbers.proofs.contexts.NumberContexts.reset.Goals as goal
 
--- src/contexts.rt:99:5
 pub returns-clause-start : goal.returns-clause-start
-returns-clause-start c = ?
+returns-clause-start c = states_started (record { cells = c.clear.new.self.items }) (none_start c.clear.new.self.items c.clear.ensures.items)
 
--- src/contexts.rt:99:5
 pub returns-clause-below : goal.returns-clause-below
-returns-clause-below c = ?
+returns-clause-below c = fresh_below (states_of (record { cells = c.clear.new.self.items })) (states_started (record { cells = c.clear.new.self.items }) (none_start c.clear.new.self.items c.clear.ensures.items))

@@ -1,7 +1,9 @@
 use Rattle.std.proofs.Common.{◌≡◌, ◌≤◌, ◌-◌, ◌+◌, ℕ, false, length}
+use Rattle.zp_decoder.specs.Chunk.{Chunk}
+use Rattle.zp_decoder.specs.States.{AreBelow}
 use Rattle.jb2_numbers.specs.Contexts.{name}
-use Rattle.jb2_numbers.specs.Kept.{AreBelow, IsCell}
-use Rattle.jb2_numbers.specs.Number.{Wanted, Chunk, Reading, steps}
+use Rattle.jb2_numbers.specs.Kept.{IsCell, states_of}
+use Rattle.jb2_numbers.specs.Number.{Wanted, Reading, steps}
 use Rattle.jb2_numbers.specs.Phases.{is_known}
 use Rattle.jb2_numbers.specs.Reader.{Stands, IsUnderway}
 use Rattle.jb2_numbers.proofs.reader.NumberReader.read_on.Given as goal
@@ -15,7 +17,7 @@ invariant-decisions g l = record {
   unknown : is_known l.self.phase ≡ false;
   cell : IsCell l.contexts (name l.self.root l.self.decisions) l.at;
   underway : (wanted : Wanted) → IsUnderway wanted l.initial.self → IsUnderway wanted l.self;
-  below : AreBelow (length l.zp.table) l.contexts;
+  below : AreBelow (length l.zp.table) (states_of l.contexts);
   table : l.zp.table ≡ l.initial.zp.table;
   ended : l.zp.ended ≡ l.initial.zp.ended;
 }

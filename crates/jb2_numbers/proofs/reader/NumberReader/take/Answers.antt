@@ -1,17 +1,18 @@
-use Rattle.std.proofs.Common.{rules, ◌≡◌, ◌≢◌, ◌+◌, ◌<◌, ◌≤ℤ◌, ◌⊎◌, ℕ, ℤ, [], length, false, negsuc, pos, IfOk, IfErr, OnOk, OnErr, IsTrue, ◌-◌, ◌*◌, ◌≤◌, ◌/◌, ◌%◌, Bool, true, nat_eq, nat_lt, List, ◌∷◌, ◌++◌, slice_index_or, slice_set, bit_and, bit_or, Fits, w8, w32, w64, Bor, MutBor}
-use Rattle.jb2_numbers.specs.Contexts.{Name, name, further}
-use Rattle.jb2_numbers.specs.Kept.{AreBelow, IsCell, states_of}
-use Rattle.jb2_numbers.specs.Number.{Wanted, Chunk, Reading, step, steps, read_on, answer_at}
-use Rattle.jb2_numbers.specs.Phases.{Known, allows, is_known}
-use Rattle.jb2_numbers.specs.Reader.{AreBounds, Reader, Reads, Stands, Ends, IsUnderway, StaysWithin, step_of}
-use Rattle.jb2_numbers.specs.Steps.{KeepsCells, Takes, IsNext, EndsBy, is_stop}
+use Rattle.std.proofs.Common.{◌<◌, ap, sym, subst, arith}
+use Rattle.std.specs.Prelude.{IsTrue}
+use Rattle.jb2_numbers.specs.Kept.{phase_in}
+use Rattle.jb2_numbers.specs.Phases.{allows}
+use Rattle.jb2_numbers.specs.Reader.{Reader}
+use Rattle.jb2_numbers.proofs.Sound.{few_taken, fewer_reader}
 use Rattle.jb2_numbers.proofs.reader.NumberReader.take.Goals as goal
 
--- src/reader.rt:201:21
-pub with_decision-self-inside-requires-clause-few :
-    goal.with_decision-self-inside-requires-clause-few
-with_decision-self-inside-requires-clause-few c = ?
+pub with_decision-self-inside-requires-clause-few : goal.with_decision-self-inside-requires-clause-few
+with_decision-self-inside-requires-clause-few c =
+    let few : c.self.inside.path.count < 36 =
+    few_taken c.self.inside.path (phase_in c.self.inside.phase) c.args.decision c.self.invariant (subst (λ (r : Reader). IsTrue (allows r.phase c.args.decision)) (sym c.self.view_is) c.requires) in
+    omega (arith, few)
 
--- src/reader.rt:195:5
 pub returns-clause-few : goal.returns-clause-few
-returns-clause-few c = ?
+returns-clause-few c =
+    fewer_reader c.self.inside.path (phase_in c.self.inside.phase) c.args.decision c.args.self.now.decisions (ap (λ (r : Reader). r.decisions) c.self.view_is) c.self.invariant
+    (subst (λ (r : Reader). IsTrue (allows r.phase c.args.decision)) (sym c.self.view_is) c.requires)

@@ -1,6 +1,6 @@
 //! Contexts of pixels, under their numbers.
 ghost use Rattle.std.specs.Prelude.{◌≡◌, ℕ, ◌<◌, List, Bool, IfOk, replicate};
-ghost use Rattle.jb2_shapes.specs.Contexts.{AreBelow, fresh, with_state};
+ghost use Rattle.zp_decoder.specs.States.{AreBelow, fresh, with_state};
 ghost use Rattle.jb2_shapes.specs.Numbers.{number_limit, number_of, states_of};
 
 use std::alloc::{AllocError, Global};

@@ -1,5 +1,5 @@
 use Rattle.std.proofs.Common.{refl, ap, ◌∙◌, arith}
-use Rattle.jb2_shapes.specs.Contexts.{with_state}
+use Rattle.zp_decoder.specs.States.{with_state}
 use Rattle.jb2_shapes.specs.Numbers.{states_of}
 use Rattle.jb2_shapes.proofs.Numbering.{set_state}
 use Rattle.jb2_shapes.proofs.contexts.ShapeContexts.set.Goals as goal

@@ -60,6 +60,7 @@ pub(crate) struct DirectWindow {
 
 impl DirectWindow {
     /// The window of the pixel that is read next.
+    #[inline(always)]
     pub(crate) fn around(canvas: &Canvas) -> DirectWindow
         requires { IsUnread canvas.now }
         ensures { IsDirectWindow canvas.now.shape (pos (column_of canvas.now)) (pos (row_of canvas.now)) result }
@@ -133,6 +134,7 @@ pub(crate) struct RefinedWindow {
 
 impl RefinedWindow {
     /// The window of the pixel that is read next.
+    #[inline(always)]
     pub(crate) fn around(canvas: &Canvas, matching: &Matching) -> RefinedWindow
         requires { IsUnread canvas.now }
         ensures { IsRefinedWindow matching.now canvas.now.shape (pos (column_of canvas.now)) (pos (row_of canvas.now)) result }

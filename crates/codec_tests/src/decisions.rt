@@ -1,7 +1,7 @@
 //! Decisions of the ZP decoder, in pieces of each size.
 ghost use Rattle.std.specs.Prelude.{◌≡◌, ◌<◌, length, false, IfSome};
 
-use crate::note::MASK;
+use crate::note::mask;
 use crate::shared::flat_decoder;
 use djvu_base::CountMeter;
 use std::alloc::Global;
@@ -187,7 +187,7 @@ fn read_pieces(alloc: Global, bytes: &[u8], size: usize) -> Option<(u32, u32)>
 #[test]
 fn all_decisions_of_a_chunk(rt: HostRuntime) {
     for size in [1, 7, 1000] {
-        let Some((count, sum)) = read_pieces(rt.alloc(), &MASK, size) else {
+        let Some((count, sum)) = read_pieces(rt.alloc(), mask(), size) else {
             panic!(rt; "the chunk is read to its end");
         };
         assert_eq!(rt; count, 19_579);

@@ -136,15 +136,15 @@ impl ZpDecoder {
         ensures needs { result ≡ Decision.NeedBytes → (self.new ≡ self.old) × (ctx.new ≡ ctx.old) × (meter.new ≡ meter.old) }
         ensures exhausted { result ≡ Decision.Exhausted → (self.new ≡ self.old) × (ctx.new ≡ ctx.old) × (meter.new ≡ meter.old) }
     {
-        let row = self.table.row(*ctx);
         let a = self.kept.a;
         let code = self.kept.code;
-        let z = adaptive_split(row.p, a);
+        let z = adaptive_split(self.table.row(*ctx).p, a);
         if is_quiet(z, code, self.kept.spare, self.ended) {
             self.kept.a = z;
             meter.tick();
             return Decision::Bit(*ctx % 2 == 1);
         }
+        let row = self.table.row(*ctx);
         let answer = self.decide(z, *ctx % 2 == 1, meter);
         *ctx = state_after(answer, row, *ctx, z, a, code);
         answer

@@ -1,8 +1,9 @@
 #!/usr/bin/env python3
-"""Writes the bitmap of a page of 2,550 by 3,300 pixels, in the format PBM:  make_page.py FILE
+"""Writes the bitmap of a page of 2,550 by 3,300 pixels, in the format PBM:  make_page.py FILE [SPECKS]
 
 The page has 55 lines of marks that look like letters: strokes drawn from a fixed seed, each mark now and then with a pixel
-more or less, as a scanner would see it. `cjb2 FILE lines` of DjVuLibre makes the page `lines` of it.
+more or less, as a scanner would see it. `cjb2 FILE lines` of DjVuLibre makes the page `lines` of it. With SPECKS so many
+black pixels lie anywhere on it, as in a bad scan.
 """
 import random
 import sys
@@ -45,6 +46,9 @@ for line in range(55):
             if random.random() > 0.004:
                 rows[base + gy][x + gx] = 1
         x += width + 4
+
+for _ in range(int(sys.argv[2]) if len(sys.argv) > 2 else 0):
+    rows[random.randrange(HEIGHT)][random.randrange(WIDTH)] = 1
 
 with open(sys.argv[1], "wb") as out:
     out.write(b"P4\n%d %d\n" % (WIDTH, HEIGHT))

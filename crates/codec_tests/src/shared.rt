@@ -14,7 +14,7 @@ pub fn flat_decoder(alloc: Global) -> Option<ZpDecoder>
 {
     let table = Table::flat(alloc).ok()?;
     let table = Arc::new(alloc, table).ok()?;
-    Some(ZpDecoder::new(alloc, table))
+    Some(ZpDecoder::new(table))
 }
 
 /// Whether a plane has these rows, from the top row down.

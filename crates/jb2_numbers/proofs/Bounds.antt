@@ -4,34 +4,32 @@ use Rattle.std.specs.Prelude.{int_le, IsTrue}
 use Rattle.std.proofs.lemmas.Grind.{common_steps}
 use Rattle.std.proofs.lemmas.Nat.{pow_pos}
 use Rattle.std.proofs.Math.Nat.{pow-suc}
-use Rattle.jb2_numbers.specs.declared.phases.Side.{Side}
-use Rattle.jb2_numbers.specs.declared.phases.Phase.{Phase}
-use Rattle.jb2_numbers.specs.declared.phases.Phase.TheVariants.{Sign, Doubling, Halving, Known}
-use Rattle.jb2_numbers.specs.Number.{Wanted, at_least, opposite, side_of, number_of, halved, settled, next_phase, phase_after, allows, allows_by, ArePossible}
+use Rattle.jb2_numbers.specs.Phases.{at_least, opposite, side_of, number_of, halved, settled, next_phase, allows, allows_by, Side, Phase, Sign, Doubling, Halving, Known}
+use Rattle.jb2_numbers.specs.Number.{Wanted, phase_after, ArePossible}
 
-record IsWithin (wanted : Wanted) (value : ℤ) : Type 0 where
-  least : IsTrue (int_le wanted.low value)
-  most : IsTrue (int_le value wanted.high)
+pub record IsWithin (wanted : Wanted) (value : ℤ) : Type 0 where
+  pub least : IsTrue (int_le wanted.low value)
+  pub most : IsTrue (int_le value wanted.high)
 
 -- a size between the bounds of a side is that of a number within the bounds
-record Holds (wanted : Wanted) (side : Side) : Type 0 where
-  within : (size : ℕ) → IsTrue (at_least side.high size) → IsTrue (not (at_least side.low (size + 1))) → IsWithin wanted (number_of side size)
+pub record Holds (wanted : Wanted) (side : Side) : Type 0 where
+  pub within : (size : ℕ) → IsTrue (at_least side.high size) → IsTrue (not (at_least side.low (size + 1))) → IsWithin wanted (number_of side size)
 
-record Doubles (wanted : Wanted) (side : Side) (cutoff : ℕ) : Type 0 where
-  side_holds : Holds wanted side
-  exponent : ℕ
-  power : cutoff + 1 ≡ 2 ^ suc exponent
-  reached : IsTrue (at_least side.high (cutoff / 2))
+pub record Doubles (wanted : Wanted) (side : Side) (cutoff : ℕ) : Type 0 where
+  pub side_holds : Holds wanted side
+  pub exponent : ℕ
+  pub power : cutoff + 1 ≡ 2 ^ suc exponent
+  pub reached : IsTrue (at_least side.high (cutoff / 2))
 
-record Halves (wanted : Wanted) (side : Side) (cutoff range : ℕ) : Type 0 where
-  side_holds : Holds wanted side
-  exponent : ℕ
-  power : range ≡ 2 ^ suc exponent
-  room : range ≤ cutoff
-  reached : IsTrue (at_least side.high (cutoff - range / 2))
-  missed : IsTrue (not (at_least side.low (cutoff + range / 2)))
+pub record Halves (wanted : Wanted) (side : Side) (cutoff range : ℕ) : Type 0 where
+  pub side_holds : Holds wanted side
+  pub exponent : ℕ
+  pub power : range ≡ 2 ^ suc exponent
+  pub room : range ≤ cutoff
+  pub reached : IsTrue (at_least side.high (cutoff - range / 2))
+  pub missed : IsTrue (not (at_least side.low (cutoff + range / 2)))
 
-abbrev Keeps : Wanted → Phase → Type 0
+abbrev pub Keeps : Wanted → Phase → Type 0
 Keeps wanted (Sign low high) = (low ≡ wanted.low) × (high ≡ wanted.high)
 Keeps wanted (Doubling side cutoff) = Doubles wanted side cutoff
 Keeps wanted (Halving side cutoff range) = Halves wanted side cutoff range
@@ -80,7 +78,7 @@ first_keeps wanted low high decision same allowed = record {
   reached = first_reached low high decision allowed;
 }
 
-not_one : (range half : ℕ) → range ≡ half * 2 → 0 < half → (range == 1) ≡ false
+pub not_one : (range half : ℕ) → range ≡ half * 2 → 0 < half → (range == 1) ≡ false
 not_one range half double some = grind (arith, common_steps)
 
 -- the settled range is half of what the cutoff counts
@@ -174,7 +172,7 @@ next_keeps wanted (Doubling side cutoff) false keeps allowed = settled_keeps wan
 next_keeps wanted (Halving side cutoff range) decision keeps allowed = halved_keeps wanted side cutoff range decision keeps allowed
 next_keeps wanted (Known value) decision keeps allowed = absurd (cc)
 
-phase_keeps : (wanted : Wanted) (decisions : List Bool) → ArePossible wanted decisions → Keeps wanted (phase_after wanted decisions)
+pub phase_keeps : (wanted : Wanted) (decisions : List Bool) → ArePossible wanted decisions → Keeps wanted (phase_after wanted decisions)
 phase_keeps wanted [] possible = (refl, refl)
 phase_keeps wanted (decision ∷ decisions) possible = next_keeps wanted (phase_after wanted decisions) decision (phase_keeps wanted decisions possible.0) possible.1
 

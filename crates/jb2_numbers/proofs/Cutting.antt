@@ -7,17 +7,15 @@ use Rattle.zp_table.specs.Rows.{IsTable}
 use Rattle.zp_decoder.specs.declared.decoder.Decision.{Decision}
 use Rattle.zp_decoder.specs.declared.decoder.Decision.TheVariants as decision
 use Rattle.zp_decoder.specs.Decision.{Interval, Form, Outcome, Adaptive, interval_at, split_of, is_determined, outcome_of, outcome_at}
-use Rattle.zp_decoder.specs.Decoder.{IsStanding}
-use Rattle.zp_decoder.specs.Runs.{IsFormOf, room}
-use Rattle.zp_decoder.proofs.Lemmas.{grown, Comes, comes, needs, exhausts, moves, standing, state_below, fewer, le_from_le_true, between_facts, between-from_facts}
-use Rattle.jb2_numbers.specs.declared.phases.Phase.{Phase}
-use Rattle.jb2_numbers.specs.declared.phases.Phase.TheVariants.{Sign, Doubling, Halving, Known}
+use Rattle.zp_decoder.specs.Runs.{IsFormOf, IsStanding, room}
+use Rattle.zp_decoder.proofs.Lemmas.{grown, Comes, comes, needs, exhausts, moves, standing, state_below, fewer, le_from_le_true, between_facts, between-from_facts, stored_below}
+use Rattle.zp_decoder.specs.Chunk.{Chunk, chunk, IsReady}
 use Rattle.jb2_numbers.specs.Contexts.{Name, is_same, store}
-use Rattle.jb2_numbers.specs.Number.{Wanted, Chunk, chunk, Reading, implied, phase_after, begun, name_at, next_coded, with_coded, step_in, step, steps, most_decisions, read_on}
+use Rattle.jb2_numbers.specs.Phases.{implied, Phase, Sign, Doubling, Halving, Known, is_known}
+use Rattle.jb2_numbers.specs.Number.{Wanted, Reading, phase_after, begun, name_at, next_coded, with_coded, step_in, step, steps, most_decisions, read_on, ArePossible}
 use Rattle.jb2_numbers.specs.Reader.{AreBounds}
-use Rattle.jb2_numbers.specs.Steps.{is_known}
-use Rattle.jb2_numbers.proofs.Stepping.{step_in_implied, step_in_coded, steps_ended}
-use Rattle.jb2_numbers.proofs.Ending.{read_on-ends}
+use Rattle.jb2_numbers.proofs.Stepping.{step_in_implied, step_in_coded, steps_ended, steps_add}
+use Rattle.jb2_numbers.proofs.Ending.{read_on-ends_from}
 
 -- ---- decisions of a chunk that goes on
 
@@ -88,10 +86,6 @@ pub record Behind (from : Chunk) (first reading : Reading) : Type 0 where
   pub leaves : room from.payload reading.place + reading.coded ≤ room from.payload first.place + first.coded
   pub more : first.coded ≤ reading.coded
 
-stored_below : (states : Name → ℕ) (at : Name) (state count : ℕ) → ((name : Name) → states name < count) → state < count → (name : Name) → store states at state name < count
-stored_below states at state count below within other =
-    elim (is_same at other) as (λ same. (if same then state else states other) < count) [ true ↦ within | false ↦ below other ]
-
 module _ (wanted : Wanted) (from : Chunk) (table : IsTable from.table) (first : Reading) where
   coded_behind : (reading : Reading) (given : Decision) → (next_coded wanted from reading).answer ≡ given → Behind from first reading →
       Behind from first (with_coded reading (name_at wanted reading) (next_coded wanted from reading) given)
@@ -102,7 +96,7 @@ module _ (wanted : Wanted) (from : Chunk) (table : IsTable from.table) (first : 
       let was = behind.leaves in
       let more = behind.more in
       record {
-        states = stored_below reading.states at (next_coded wanted from reading).state (length from.table) behind.states
+        states = stored_below is_same reading.states at (next_coded wanted from reading).state (length from.table) behind.states
             (state_below from.table (reading.states at) from.payload from.ended reading.place table below);
         stands = standing from.table (Adaptive (reading.states at)) from.payload from.ended reading.place table below behind.stands;
         leaves = omega arith;
@@ -191,26 +185,25 @@ module _ (wanted : Wanted) (rows : List Row) (payload more : List ℕ) (ended : 
   follows (suc count) below stands =
       step_beside (steps count wanted short first) (steps count wanted long first) count refl (stays_behind wanted long table first count below stands) (follows count below stands)
 
--- so many steps, and so many before them
-steps_add : (wanted : Wanted) (from : Chunk) (reading : Reading) (m n : ℕ) → steps m wanted from (steps n wanted from reading) ≡ steps (m + n) wanted from reading
-steps_add wanted from reading zero n = let e : n ≡ zero + n = omega arith in ap (λ (k : ℕ). steps k wanted from reading) e
-steps_add wanted from reading (suc m) n =
-    let e : suc (m + n) ≡ suc m + n = omega arith in
-    ap (step wanted from) (steps_add wanted from reading m n) ∙ ap (λ (k : ℕ). steps k wanted from reading) e
-
-cut_by : (wanted : Wanted) (short long : Chunk) (states : Name → ℕ) (place : Option Interval) (a : Reading) → AreBounds wanted.low wanted.high →
-    Follows wanted short long (begun states place) a (read_on wanted long (begun states place)) → read_on wanted long a ≡ read_on wanted long (begun states place)
-cut_by wanted short long states place a bounds (same e) =
-    let whole : Reading = read_on wanted long (begun states place) in
-    ap (read_on wanted long) e ∙ steps_ended wanted long whole most_decisions 0 (omega arith) (read_on-ends wanted long states place bounds)
-cut_by wanted short long states place a bounds (waits passed is unknown none e less) =
+cut_by : (wanted : Wanted) (short long : Chunk) (first a : Reading) (count : ℕ) → AreBounds wanted.low wanted.high → ArePossible wanted first.decisions →
+    Follows wanted short long first a (steps count wanted long first) → read_on wanted long a ≡ read_on wanted long first
+cut_by wanted short long first a count bounds possible (same e) =
+    ap (read_on wanted long) e
+    ∙ (steps_add wanted long first most_decisions count ∙ steps_ended wanted long first (most_decisions + count) most_decisions (omega arith) (read_on-ends_from wanted long first bounds possible))
+cut_by wanted short long first a count bounds possible (waits passed is unknown none e less) =
     ap (read_on wanted long) is
-    ∙ (steps_add wanted long (begun states place) most_decisions passed
-    ∙ steps_ended wanted long (begun states place) (most_decisions + passed) most_decisions (omega arith) (read_on-ends wanted long states place bounds))
+    ∙ (steps_add wanted long first most_decisions passed
+    ∙ steps_ended wanted long first (most_decisions + passed) most_decisions (omega arith) (read_on-ends_from wanted long first bounds possible))
+
+pub stopped_anywhere : (wanted : Wanted) (rows : List Row) (payload more : List ℕ) (ended : Bool) (at : Reading) (count : ℕ) → AreBounds wanted.low wanted.high → ArePossible wanted at.decisions →
+    IsReady (chunk rows payload false) at.states at.place →
+    read_on wanted (chunk rows (payload ++ more) ended) (steps count wanted (chunk rows payload false) at) ≡ read_on wanted (chunk rows (payload ++ more) ended) at
+stopped_anywhere wanted rows payload more ended at count bounds possible ready =
+    cut_by wanted (chunk rows payload false) (chunk rows (payload ++ more) ended) at (steps count wanted (chunk rows payload false) at) count bounds possible
+    (follows wanted rows payload more ended ready.table at count ready.below (standing_after payload more at.place ready.standing))
 
 pub cut_anywhere : (wanted : Wanted) (rows : List Row) (payload more : List ℕ) (ended : Bool) (states : Name → ℕ) (place : Option Interval) → AreBounds wanted.low wanted.high →
-    IsTable rows → ((name : Name) → states name < length rows) → IsStanding (length payload) place →
+    IsReady (chunk rows payload false) states place →
     read_on wanted (chunk rows (payload ++ more) ended) (read_on wanted (chunk rows payload false) (begun states place)) ≡ read_on wanted (chunk rows (payload ++ more) ended) (begun states place)
-cut_anywhere wanted rows payload more ended states place bounds table below stands =
-    cut_by wanted (chunk rows payload false) (chunk rows (payload ++ more) ended) states place (read_on wanted (chunk rows payload false) (begun states place)) bounds
-    (follows wanted rows payload more ended table (begun states place) most_decisions below (standing_after payload more place stands))
+cut_anywhere wanted rows payload more ended states place bounds ready =
+    stopped_anywhere wanted rows payload more ended (begun states place) most_decisions bounds tt ready

@@ -5,15 +5,14 @@ use Rattle.std.proofs.lemmas.Grind.{common_steps}
 use Rattle.zp_decoder.specs.declared.decoder.Decision.{Decision}
 use Rattle.zp_decoder.specs.declared.decoder.Decision.TheVariants as decision
 use Rattle.zp_decoder.specs.Decision.{Interval}
-use Rattle.jb2_numbers.specs.declared.phases.Side.{Side}
-use Rattle.jb2_numbers.specs.declared.phases.Phase.{Phase}
-use Rattle.jb2_numbers.specs.declared.phases.Phase.TheVariants.{Sign, Doubling, Halving, Known}
-use Rattle.jb2_numbers.specs.declared.reader.NumberStep.TheVariants as answer
+use Rattle.zp_decoder.specs.Chunk.{Chunk}
+use Rattle.jb2_numbers.specs.Answer as answer
 use Rattle.jb2_numbers.specs.Contexts.{Name}
-use Rattle.jb2_numbers.specs.Number.{Wanted, Chunk, Reading, at_least, opposite, settled, halved, next_phase, implied, implied_by, allows, phase_after, begun, name_at, next_coded, with_implied, with_coded, step_in, step, steps, most_decisions, read_on, answer_without, answer_in, answer_at, ArePossible}
+use Rattle.jb2_numbers.specs.Phases.{at_least, opposite, settled, halved, next_phase, implied, implied_by, allows, Side, Phase, Sign, Doubling, Halving, Known, is_known}
+use Rattle.jb2_numbers.specs.Number.{Wanted, Reading, phase_after, begun, name_at, next_coded, with_implied, with_coded, step_in, step, steps, most_decisions, read_on, answer_without, answer_in, answer_at, ArePossible}
 use Rattle.jb2_numbers.specs.Reader.{AreBounds}
-use Rattle.jb2_numbers.specs.Steps.{is_sound, is_known, limit}
-use Rattle.jb2_numbers.proofs.Sound.{next_sound, allowed_implied, allowed_coded, few_before, halving_few}
+use Rattle.jb2_numbers.specs.Steps.{is_sound, limit}
+use Rattle.jb2_numbers.proofs.Sound.{next_sound, allowed_implied, allowed_coded, few_before, few_sound}
 use Rattle.jb2_numbers.proofs.Stepping.{step_in_implied, step_in_coded}
 use Rattle.jb2_numbers.proofs.Bounds.{within_bounds}
 
@@ -81,47 +80,54 @@ first_by (negsuc l) (negsuc h) order least most = search rules
 first_sound : (wanted : Wanted) → AreBounds wanted.low wanted.high → IsTrue (is_sound 0 (Sign wanted.low wanted.high))
 first_sound wanted bounds = first_by wanted.low wanted.high bounds.order bounds.least bounds.most
 
-goes_after : (wanted : Wanted) (chunk : Chunk) (states : Name → ℕ) (place : Option Interval) (count : ℕ) → AreBounds wanted.low wanted.high → Goes wanted (steps count wanted chunk (begun states place))
-goes_after wanted chunk states place zero bounds = record { possible = tt; sound = first_sound wanted bounds }
-goes_after wanted chunk states place (suc count) bounds =
-    goes_by wanted chunk (steps count wanted chunk (begun states place)) (goes_after wanted chunk states place count bounds) (comes wanted chunk (steps count wanted chunk (begun states place)))
+-- after possible decisions a phase is sound
+pub sound_of : (wanted : Wanted) (decisions : List Bool) → AreBounds wanted.low wanted.high → ArePossible wanted decisions → IsTrue (is_sound (length decisions) (phase_after wanted decisions))
+sound_of wanted [] bounds possible = first_sound wanted bounds
+sound_of wanted (decision ∷ decisions) bounds possible = sound_more wanted decisions decision (sound_of wanted decisions bounds possible.0) possible.1
+
+goes_from : (wanted : Wanted) (chunk : Chunk) (at : Reading) (count : ℕ) → AreBounds wanted.low wanted.high → ArePossible wanted at.decisions → Goes wanted (steps count wanted chunk at)
+goes_from wanted chunk at zero bounds possible = record { possible = possible; sound = sound_of wanted at.decisions bounds possible }
+goes_from wanted chunk at (suc count) bounds possible =
+    goes_by wanted chunk (steps count wanted chunk at) (goes_from wanted chunk at count bounds possible) (comes wanted chunk (steps count wanted chunk at))
+
+pub possible_from : (wanted : Wanted) (chunk : Chunk) (at : Reading) (count : ℕ) → AreBounds wanted.low wanted.high → ArePossible wanted at.decisions → ArePossible wanted (steps count wanted chunk at).decisions
+possible_from wanted chunk at count bounds possible = (goes_from wanted chunk at count bounds possible).possible
 
 pub possible_after : (wanted : Wanted) (chunk : Chunk) (states : Name → ℕ) (place : Option Interval) (count : ℕ) → AreBounds wanted.low wanted.high →
     ArePossible wanted (steps count wanted chunk (begun states place)).decisions
-possible_after wanted chunk states place count bounds = (goes_after wanted chunk states place count bounds).possible
+possible_after wanted chunk states place count bounds = possible_from wanted chunk (begun states place) count bounds tt
 
-few_by : (count : ℕ) (phase : Phase) → IsTrue (is_sound count phase) → count ≤ 36
-few_by count (Sign low high) sound = grind (arith, common_steps)
-few_by count (Doubling side cutoff) sound = grind (arith, common_steps)
-few_by count (Halving side cutoff range) sound = halving_few count side cutoff range sound
-few_by count (Known value) sound = grind (arith, common_steps)
+few_from : (wanted : Wanted) (chunk : Chunk) (at : Reading) (count : ℕ) → AreBounds wanted.low wanted.high → ArePossible wanted at.decisions → length (steps count wanted chunk at).decisions ≤ 36
+few_from wanted chunk at count bounds possible =
+    few_sound (length (steps count wanted chunk at).decisions) (phase_after wanted (steps count wanted chunk at).decisions) (goes_from wanted chunk at count bounds possible).sound
 
 pub few_after : (wanted : Wanted) (chunk : Chunk) (states : Name → ℕ) (place : Option Interval) (count : ℕ) → AreBounds wanted.low wanted.high →
     length (steps count wanted chunk (begun states place)).decisions ≤ 36
-few_after wanted chunk states place count bounds =
-    few_by (length (steps count wanted chunk (begun states place)).decisions) (phase_after wanted (steps count wanted chunk (begun states place)).decisions) (goes_after wanted chunk states place count bounds).sound
+few_after wanted chunk states place count bounds = few_from wanted chunk (begun states place) count bounds tt
 
 -- each step adds a decision, but for the last one
-longer_by : (wanted : Wanted) (chunk : Chunk) (reading : Reading) (count : ℕ) → length reading.decisions ≡ count → Comes wanted chunk reading →
-    (step wanted chunk reading ≡ reading) ⊎ (length (step wanted chunk reading).decisions ≡ suc count)
-longer_by wanted chunk reading count e (knows value phase same) = inl same
-longer_by wanted chunk reading count e (waits none unknown same) = inl same
-longer_by wanted chunk reading count e (implies bit given same) = inr (ap (λ (r : Reading). length r.decisions) same ∙ ap suc e)
-longer_by wanted chunk reading count e (codes bit unknown none same) = inr (ap (λ (r : Reading). length r.decisions) same ∙ ap suc e)
+longer_by : (wanted : Wanted) (chunk : Chunk) (reading : Reading) (count : ℕ) → count ≤ length reading.decisions → Comes wanted chunk reading →
+    (step wanted chunk reading ≡ reading) ⊎ (suc count ≤ length (step wanted chunk reading).decisions)
+longer_by wanted chunk reading count few (knows value phase same) = inl same
+longer_by wanted chunk reading count few (waits none unknown same) = inl same
+longer_by wanted chunk reading count few (implies bit given same) =
+    let more : length (step wanted chunk reading).decisions ≡ suc (length reading.decisions) = ap (λ (r : Reading). length r.decisions) same in inr (omega (arith, more, few))
+longer_by wanted chunk reading count few (codes bit unknown none same) =
+    let more : length (step wanted chunk reading).decisions ≡ suc (length reading.decisions) = ap (λ (r : Reading). length r.decisions) same in inr (omega (arith, more, few))
 
-longer : (wanted : Wanted) (chunk : Chunk) (states : Name → ℕ) (place : Option Interval) (count : ℕ) →
-    (step wanted chunk (steps count wanted chunk (begun states place)) ≡ steps count wanted chunk (begun states place)) ⊎ (length (steps count wanted chunk (begun states place)).decisions ≡ count)
-longer wanted chunk states place zero = inr refl
-longer wanted chunk states place (suc count) =
-    elim (longer wanted chunk states place count) [
+longer : (wanted : Wanted) (chunk : Chunk) (at : Reading) (count : ℕ) →
+    (step wanted chunk (steps count wanted chunk at) ≡ steps count wanted chunk at) ⊎ (count ≤ length (steps count wanted chunk at).decisions)
+longer wanted chunk at zero = inr (omega arith)
+longer wanted chunk at (suc count) =
+    elim (longer wanted chunk at count) [
       | inl same ↦ inl (ap (step wanted chunk) same)
-      | inr e ↦ elim (longer_by wanted chunk (steps count wanted chunk (begun states place)) count e (comes wanted chunk (steps count wanted chunk (begun states place)))) [
+      | inr e ↦ elim (longer_by wanted chunk (steps count wanted chunk at) count e (comes wanted chunk (steps count wanted chunk at))) [
         | inl same ↦ inl (ap (step wanted chunk) same)
         | inr f ↦ inr f
       ]
     ]
 
-full_ends : (wanted : Wanted) (chunk : Chunk) (reading : Reading) → length reading.decisions ≡ 36 → Goes wanted reading → Comes wanted chunk reading → step wanted chunk reading ≡ reading
+full_ends : (wanted : Wanted) (chunk : Chunk) (reading : Reading) → 36 ≤ length reading.decisions → Goes wanted reading → Comes wanted chunk reading → step wanted chunk reading ≡ reading
 full_ends wanted chunk reading e goes (knows value phase same) = same
 full_ends wanted chunk reading e goes (waits none unknown same) = same
 full_ends wanted chunk reading e goes (implies bit given same) =
@@ -131,18 +137,17 @@ full_ends wanted chunk reading e goes (codes bit unknown none same) =
     let few = few_before (length reading.decisions) (phase_after wanted reading.decisions) bit goes.sound (allowed_coded (phase_after wanted reading.decisions) bit unknown none) in
     absurd (omega (arith, few, e))
 
-ends_at : (wanted : Wanted) (chunk : Chunk) (states : Name → ℕ) (place : Option Interval) (count : ℕ) → count ≡ 36 → AreBounds wanted.low wanted.high →
-    step wanted chunk (steps count wanted chunk (begun states place)) ≡ steps count wanted chunk (begun states place)
-ends_at wanted chunk states place count full bounds =
-    elim (longer wanted chunk states place count) [
+pub read_on-ends_from : (wanted : Wanted) (chunk : Chunk) (at : Reading) → AreBounds wanted.low wanted.high → ArePossible wanted at.decisions → step wanted chunk (read_on wanted chunk at) ≡ read_on wanted chunk at
+unfolding most_decisions
+read_on-ends_from wanted chunk at bounds possible =
+    elim (longer wanted chunk at 36) [
       | inl same ↦ same
-      | inr e ↦ full_ends wanted chunk (steps count wanted chunk (begun states place)) (e ∙ full) (goes_after wanted chunk states place count bounds) (comes wanted chunk (steps count wanted chunk (begun states place)))
+      | inr e ↦ full_ends wanted chunk (steps 36 wanted chunk at) e (goes_from wanted chunk at 36 bounds possible) (comes wanted chunk (steps 36 wanted chunk at))
     ]
 
 pub read_on-ends : (wanted : Wanted) (chunk : Chunk) (states : Name → ℕ) (place : Option Interval) → AreBounds wanted.low wanted.high →
     step wanted chunk (read_on wanted chunk (begun states place)) ≡ read_on wanted chunk (begun states place)
-unfolding most_decisions
-read_on-ends wanted chunk states place bounds = ends_at wanted chunk states place 36 refl bounds
+read_on-ends wanted chunk states place bounds = read_on-ends_from wanted chunk (begun states place) bounds tt
 
 without : (given : Decision) (value : ℤ) → answer_without given ≡ answer.Number value → ⊥
 without (decision.Bit bit) value e = absurd (cc)

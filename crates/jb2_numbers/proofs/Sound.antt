@@ -1,17 +1,14 @@
 -- What phases keep to, and how many decisions lead to them.
-use Rattle.std.proofs.Common.{◌≡◌, ◌≤◌, ◌<◌, ◌+◌, ◌-◌, ◌*◌, ◌/◌, ◌^◌, ◌==◌, ℕ, zero, suc, ℤ, pos, negsuc, add-one, pow-add, Bool, true, false, not, refl, sym, ap, subst, ◌∙◌, arith}
+use Rattle.std.proofs.Common.{◌≡◌, ◌≤◌, ◌<◌, ◌+◌, ◌-◌, ◌*◌, ◌/◌, ◌^◌, ◌==◌, ℕ, zero, suc, ℤ, pos, negsuc, add-one, pow-add, Bool, true, false, not, List, length, refl, sym, ap, subst, ◌∙◌, arith}
 use Rattle.std.specs.Prelude.{Some, None, nat_le, int_le, IsTrue, if◌then◌else◌}
 use Rattle.std.proofs.lemmas.Grind.{common_steps}
 use Rattle.std.proofs.Math.Nat.{pow-suc, mul-le-mul_right}
 use Rattle.std.proofs.Math.Pow.{pow_mono}
-use Rattle.jb2_numbers.specs.declared.roots.Root.{Root}
-use Rattle.jb2_numbers.specs.declared.contexts.Path.{Path}
-use Rattle.jb2_numbers.specs.declared.phases.Side.{Side}
-use Rattle.jb2_numbers.specs.declared.phases.Phase.{Phase}
-use Rattle.jb2_numbers.specs.declared.phases.Phase.TheVariants.{Sign, Doubling, Halving, Known}
-use Rattle.jb2_numbers.specs.Number.{at_least, side_of, number_of, halved, settled, next_phase, implied_by, implied, allows, allows_by}
-use Rattle.jb2_numbers.specs.Reader.{Reader}
-use Rattle.jb2_numbers.specs.Steps.{IsSound, is_sound, is_bounded, limit, is_known}
+use Rattle.jb2_numbers.specs.declared.paths.Path.{Path}
+use Rattle.jb2_numbers.specs.Phases.{at_least, side_of, number_of, halved, settled, next_phase, implied_by, implied, allows, allows_by, Side, Phase, Sign, Doubling, Halving, Known, is_known}
+use Rattle.jb2_numbers.specs.Kept.{decisions_in}
+use Rattle.jb2_numbers.specs.Steps.{IsSound, is_sound, is_bounded, limit}
+use Rattle.jb2_numbers.proofs.Digits.{how_many}
 
 pub record DoublingFacts (count cutoff : ℕ) : Type 0 where
   pub some : 1 ≤ count
@@ -267,28 +264,36 @@ few_before count (Doubling side cutoff) decision sound allowed = let facts = dou
 few_before count (Halving side cutoff range) decision sound allowed = let facts = halving_facts count side cutoff range sound in few_decisions count range facts.some facts.few
 few_before count (Known value) decision sound allowed = absurd (cc)
 
-sound_part : (path : Path) (phase : Phase) → IsSound path phase → IsTrue (is_sound path.count phase)
+pub sound_part : (path : Path) (phase : Phase) → IsSound path phase → IsTrue (is_sound path.count phase)
 sound_part path phase sound = grind (arith, common_steps)
 
-few_at : (path : Path) (phase : Phase) (decision : Bool) → IsSound path phase → IsTrue (allows phase decision) → path.count < 36
-few_at path phase decision sound allowed = few_before path.count phase decision (sound_part path phase sound) allowed
+pub bits_within : (path : Path) (phase : Phase) → IsSound path phase → path.bits < 2 ^ path.count
+bits_within path phase sound = grind (arith, common_steps)
 
--- the same of a reader
-pub few_read : (root : Root) (path : Path) (phase : Phase) (reader : Reader) (decision : Bool) → record { root = root; path = path; phase = phase } ≡ reader → IsSound path phase →
-    IsTrue (allows reader.phase decision) → reader.path.count < 36
-few_read root path phase reader decision same sound allowed =
-    let P : Reader → Type 0 = λ (r : Reader). IsTrue (allows r.phase decision) → r.path.count < 36 in
-    subst P same (λ a. few_at path phase decision sound a) allowed
+pub sound_join : (path : Path) (phase : Phase) → IsTrue (is_sound path.count phase) → path.bits < 2 ^ path.count → IsSound path phase
+sound_join path phase sound within = grind (arith, common_steps)
 
-pub few_inside : (root : Root) (path : Path) (phase : Phase) (reader : Reader) (decision : Bool) → record { root = root; path = path; phase = phase } ≡ reader → IsSound path phase →
-    IsTrue (allows reader.phase decision) → path.count < 63
-few_inside root path phase reader decision same sound allowed =
-    let count : path.count ≡ reader.path.count = ap (λ (r : Reader). r.path.count) same in
-    let few : reader.path.count < 36 = few_read root path phase reader decision same sound allowed in
-    omega arith
+-- where a decision is allowed in the phase of a path, it is a short one
+pub few_taken : (path : Path) (phase : Phase) (decision : Bool) → IsSound path phase → IsTrue (allows phase decision) → path.count < 36
+few_taken path phase decision sound allowed = few_before path.count phase decision (sound_part path phase sound) allowed
 
 pub halving_few : (count : ℕ) (side : Side) (cutoff range : ℕ) → IsTrue (is_sound count (Halving side cutoff range)) → count ≤ 36
 halving_few count side cutoff range sound =
     let facts = halving_facts count side cutoff range sound in
     let few = few_decisions count range facts.some facts.few in
     omega (arith, few)
+
+pub few_sound : (count : ℕ) (phase : Phase) → IsTrue (is_sound count phase) → count ≤ 36
+few_sound count (Sign low high) sound = grind (arith, common_steps)
+few_sound count (Doubling side cutoff) sound = grind (arith, common_steps)
+few_sound count (Halving side cutoff range) sound = halving_few count side cutoff range sound
+few_sound count (Known value) sound = grind (arith, common_steps)
+
+-- a reader has read few decisions
+pub few_reader : (path : Path) (phase : Phase) (decisions : List Bool) → decisions_in path ≡ decisions → IsSound path phase → length decisions ≤ 36
+few_reader path phase decisions same sound =
+    subst (λ (ds : List Bool). length ds ≤ 36) same (subst (λ (n : ℕ). n ≤ 36) (sym (how_many path.count path.bits)) (few_sound path.count phase (sound_part path phase sound)))
+
+pub fewer_reader : (path : Path) (phase : Phase) (decision : Bool) (decisions : List Bool) → decisions_in path ≡ decisions → IsSound path phase → IsTrue (allows phase decision) → length decisions < 36
+fewer_reader path phase decision decisions same sound allowed =
+    subst (λ (ds : List Bool). length ds < 36) same (subst (λ (n : ℕ). n < 36) (sym (how_many path.count path.bits)) (few_taken path phase decision sound allowed))

@@ -4,11 +4,12 @@ use Rattle.std.specs.Prelude.{Option, Some, None, ℤ, pos}
 use Rattle.zp_decoder.specs.declared.decoder.Decision.{Decision}
 use Rattle.zp_decoder.specs.declared.decoder.Decision.TheVariants as decision
 use Rattle.zp_decoder.specs.Decision.{Interval}
+use Rattle.zp_decoder.specs.Chunk.{Chunk}
 use Rattle.jb2_numbers.specs.declared.roots.Root.{Root}
-use Rattle.jb2_numbers.specs.declared.phases.Phase.TheVariants.{Known}
-use Rattle.jb2_numbers.specs.declared.reader.NumberStep.TheVariants as answer
+use Rattle.jb2_numbers.specs.Answer as answer
 use Rattle.jb2_numbers.specs.Contexts.{Name}
-use Rattle.jb2_numbers.specs.Number.{Wanted, wanted, Chunk, Reading, implied, phase_after, begun, name_at, next_coded, with_implied, with_coded, step_in, step, steps, most_decisions, read_on, answer_at}
+use Rattle.jb2_numbers.specs.Phases.{implied, Known}
+use Rattle.jb2_numbers.specs.Number.{Wanted, wanted, Reading, phase_after, begun, name_at, next_coded, with_implied, with_coded, step_in, step, steps, most_decisions, read_on, answer_at}
 use Rattle.jb2_numbers.proofs.Stepping.{step_in_implied, step_in_coded}
 use Rattle.jb2_numbers.proofs.Ending.{known_answer}
 use Rattle.jb2_numbers.proofs.Cutting.{Turns, knows, implies, codes, turns}

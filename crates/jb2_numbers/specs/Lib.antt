@@ -1,10 +1,15 @@
 pub use Rattle.djvu_base.specs.Meter
 pub use Rattle.zp_table.specs.Rows
 pub use Rattle.zp_decoder.specs.Decision
-pub use Rattle.zp_decoder.specs.Decoder
 pub use Rattle.zp_decoder.specs.Runs
+pub use Rattle.zp_decoder.specs.States
+pub use Rattle.zp_decoder.specs.Chunk
+pub use Rattle.zp_decoder.specs.Decoder
 pub mod Roots
+pub mod Answer
+pub mod Phases
 pub mod Contexts
 pub mod Number
+pub mod Kept
 pub mod Reader
 pub mod Steps

@@ -1,115 +1,195 @@
-//! The contexts of numbers: their states, by names.
-ghost use Rattle.std.specs.Prelude.{◌≡◌, ◌+◌, ◌*◌, ◌^◌, ◌<◌, List, [], Bool, ℕ, length, IfOk, IfErr, OnOk, OnErr, not, IsTrue};
+//! The contexts of numbers, as a tree of cells.
+ghost use Rattle.std.specs.Prelude.{◌≡◌, ◌<◌, ◌≤◌, ℕ, [], length, get_or, IfOk, IfErr, OnOk, OnErr};
 ghost use Rattle.djvu_base.specs.Meter.{ticked_once};
-ghost use Rattle.jb2_numbers.specs.declared.roots.Root.{Root as RootValue};
-ghost use Rattle.jb2_numbers.specs.Contexts.{Numbers, name, at_start, store, with_decision, path_of, key_of, has_room, state_at, states_of, AreBelow};
-ghost use Rattle.jb2_numbers.specs.Steps.{Decides, Stops};
+ghost use Rattle.zp_decoder.specs.States.{AreBelow, fresh};
+ghost use Rattle.jb2_numbers.specs.Contexts.{Name, name, further, store};
+ghost use Rattle.jb2_numbers.specs.Kept.{decisions_in, link, with_link, start, states_of, IsCell};
+ghost use Rattle.jb2_numbers.specs.Steps.{Decides, Stops, KeepsCells, state_at};
 
+use crate::paths::Path;
 use crate::reader::NumberStep;
 use crate::roots::Root;
 use djvu_base::Meter;
 use std::alloc::{AllocError, Global};
-use std::collections::BTreeMap;
 use std::marker::Model;
 use zp_decoder::{Decision, ZpDecoder};
 
-/// The decisions of a number so far: how many, and as the digits of a number, the last one lowest.
-#[derive(Clone, Copy, Debug, PartialEq, Eq, PartialOrd, Ord)]
-pub(crate) struct Path {
-    pub(crate) count: u8,
-    pub(crate) bits: u64,
+/// The context of a name: its state, and the cells of the two names with a decision more.
+#[derive(Clone, Copy, Debug)]
+pub(crate) struct Cell {
+    pub(crate) state: u8,
+    /// The number of a cell; or 0 where there is none yet, since no decision leads to the cell of a root.
+    pub(crate) after_false: u32,
+    /// The same after a true.
+    pub(crate) after_true: u32,
 }
 
-impl Path {
-    /// No decision.
-    pub(crate) fn new() -> Path
-        ensures { result ≡ path_of [] }
+impl Cell {
+    /// At the start of a chunk.
+    fn start() -> Cell
+        ensures { result ≡ start }
     {
-        Path { count: 0, bits: 0 }
-    }
-
-    /// One decision more.
-    pub(crate) fn with_decision(self, decision: bool) -> Path
-        requires few { self.count < 63 }
-        requires within { self.bits < 2 ^ self.count }
-        ensures more { result ≡ with_decision self decision }
-        ensures within { result.bits < 2 ^ result.count }
-    {
-        Path {
-            count: self.count + 1,
-            bits: 2 * self.bits + u64::from(decision),
+        Cell {
+            state: 0,
+            after_false: 0,
+            after_true: 0,
         }
     }
-}
 
-/// The name of a context, as it is kept.
-#[derive(Clone, Copy, Debug, PartialEq, Eq, PartialOrd, Ord)]
-pub(crate) struct Key {
-    pub(crate) root: Root,
-    pub(crate) path: Path,
+    /// The cell after a decision, or 0.
+    fn link(self, decision: bool) -> u32
+        ensures { result ≡ link self decision }
+    {
+        if decision {
+            self.after_true
+        } else {
+            self.after_false
+        }
+    }
+
+    /// The same cell, with this one after a decision.
+    fn with_link(self, decision: bool, next: u32) -> Cell
+        ensures { result ≡ with_link self decision next }
+    {
+        if decision {
+            Cell {
+                after_true: next,
+                ..self
+            }
+        } else {
+            Cell {
+                after_false: next,
+                ..self
+            }
+        }
+    }
 }
 
 /// The contexts of the numbers of a chunk: a state for each name, which begins at 0. The name of a context is the root
 /// of its number and all decisions of this number before it (DjVu 3 reference, JB2). Contracts see them by `states_of`.
+///
+/// Each name that a number reached has a cell. Those of the sixteen roots come first, and from there the links lead
+/// along the decisions; so a number goes one link further with each decision, and searches for none.
 #[derive(Debug, Drop)]
 pub struct NumberContexts {
-    states: BTreeMap<Key, u8>,
+    cells: Vec<Cell>,
 }
 
 impl Model for NumberContexts {
-    ghost use Rattle.jb2_numbers.specs.Contexts.{Numbers};
+    ghost use Rattle.jb2_numbers.specs.Kept.{Numbers, HaveNames};
 
     ghost Value = { Numbers };
 
-    ghost view = { λ a. record { kept = a.states.entries } };
+    ghost view = { λ a. record { cells = a.cells.items } };
+
+    ghost invariant = { λ a. HaveNames a.cells.items };
 }
 
 impl NumberContexts {
     /// Contexts that are all at their start.
-    #[tactic(auto, unfolding(crate::specs::Contexts::states_of, crate::specs::Contexts::AreBelow))]
     pub fn new(alloc: Global) -> NumberContexts
-        ensures start { states_of result ≡ at_start }
-        ensures below { (count : ℕ) → 0 < count → AreBelow count result }
+        ensures start { states_of result ≡ fresh }
+        ensures below { (count : ℕ) → 0 < count → AreBelow count (states_of result) }
     {
         NumberContexts {
-            states: BTreeMap::new(alloc),
+            cells: Vec::new(alloc),
         }
     }
 
-    /// Brings all contexts back to their start.
-    #[tactic(auto, unfolding(crate::specs::Contexts::states_of, crate::specs::Contexts::AreBelow))]
+    /// Brings all contexts back to their start. The room for their cells is kept.
     pub fn reset(&mut self)
-        ensures start { states_of self.new ≡ at_start }
-        ensures below { (count : ℕ) → 0 < count → AreBelow count self.new }
+        ensures start { states_of self.new ≡ fresh }
+        ensures below { (count : ℕ) → 0 < count → AreBelow count (states_of self.new) }
     {
-        self.states.clear();
+        self.cells.clear();
     }
 
-    /// Decodes a bit in the context of this key, once there is room for its state; or tells what keeps it from that,
-    /// and then nothing changes.
-    #[tactic(auto, unfolding(crate::specs::Contexts::AreBelow))]
+    /// The cell of the context with this root and these decisions. Where there was none, it is made.
+    pub(crate) fn find(&mut self, root: Root, path: Path) -> Result<usize, AllocError>
+        ensures cell { IfOk result (λ at. IsCell self.new (name root (decisions_in path)) at) }
+        ensures same { states_of self.new ≡ states_of self.old }
+    {
+        match path.split_last() {
+            None => self.root_cell(root),
+            Some((before, decision)) => {
+                let at = self.find(root, before)?;
+                self.next(at, decision)
+            }
+        }
+    }
+
+    /// The cell of a root.
+    fn root_cell(&mut self, root: Root) -> Result<usize, AllocError>
+        ensures cell { IfOk result (λ at. IsCell self.new (name root []) at) }
+        ensures same { states_of self.new ≡ states_of self.old }
+    {
+        self.make_roots()?;
+        Ok(root.index())
+    }
+
+    /// Makes the cells of the roots, where there are none.
+    fn make_roots(&mut self) -> Result<(), AllocError>
+        ensures room { OnOk result (16 ≤ length self.new.cells) }
+        ensures same { states_of self.new ≡ states_of self.old }
+    {
+        if !self.cells.is_empty() {
+            return Ok(());
+        }
+        self.cells.extend_from_slice(&[Cell::start(); 16])?;
+        Ok(())
+    }
+
+    /// The cell after a decision. Where there was none, it is made.
+    pub(crate) fn next(&mut self, at: usize, decision: bool) -> Result<usize, AllocError>
+        requires { at < length self.old.cells }
+        ensures cell { IfOk result (λ next. (before : Name) → IsCell self.old before at → IsCell self.new (further before decision) next) }
+        ensures same { states_of self.new ≡ states_of self.old }
+    {
+        let link = self.cells[at].link(decision);
+        if link == 0 {
+            return self.grow(at, decision);
+        }
+        Ok(link as usize)
+    }
+
+    /// Makes the cell after a decision.
+    fn grow(&mut self, at: usize, decision: bool) -> Result<usize, AllocError>
+        requires within { at < length self.old.cells }
+        requires none { link (get_or self.old.cells at start) decision ≡ 0 }
+        ensures cell { IfOk result (λ next. (before : Name) → IsCell self.old before at → IsCell self.new (further before decision) next) }
+        ensures same { states_of self.new ≡ states_of self.old }
+    {
+        let next = self.cells.len();
+        let Ok(link) = u32::try_from(next) else {
+            return Err(AllocError);
+        };
+        self.cells.push(Cell::start())?;
+        self.cells[at] = self.cells[at].with_link(decision, link);
+        Ok(next)
+    }
+
+    /// Decodes a bit in the context of a cell; or tells what keeps it from that, and then nothing changes.
     pub(crate) fn decode<M: Meter>(
         &mut self,
-        key: Key,
+        at: usize,
         zp: &mut ZpDecoder,
         meter: &mut M,
     ) -> Result<bool, NumberStep>
-        requires { AreBelow (length zp.old.table) self.old }
-        ensures bit { IfOk result (λ bit. Decides key self.old zp.old bit self.new zp.new) }
-        ensures stop { IfErr result (λ stop. Stops key self.old zp.old stop self.new) }
-        ensures still { OnErr result ((zp.new ≡ zp.old) × (meter.new ≡ meter.old)) }
+        requires within { at < length self.old.cells }
+        requires below { state_at self.old at < length zp.old.table }
+        ensures bit { IfOk result (λ bit. Decides at self.old zp.old bit self.new zp.new) }
+        ensures stop { IfErr result (λ stop. Stops at self.old zp.old stop) }
+        ensures still { OnErr result ((self.new ≡ self.old) × (zp.new ≡ zp.old) × (meter.new ≡ meter.old)) }
         ensures ticks { OnOk result (M.count meter.new ≡ ticked_once (M.count meter.old)) }
-        ensures below { AreBelow (length zp.new.table) self.new }
+        ensures cells { KeepsCells self.old self.new }
+        ensures below { (of : Name) → IsCell self.old of at → AreBelow (length zp.old.table) (states_of self.old) → AreBelow (length zp.new.table) (states_of self.new) }
         ensures table { zp.new.table ≡ zp.old.table }
         ensures ended { zp.new.ended ≡ zp.old.ended }
     {
-        let Ok(state) = self.make_room(key) else {
-            return Err(NumberStep::OutOfMemory);
-        };
-        let mut state = state;
+        let mut state = self.cells[at].state;
         match zp.decode(&mut state, meter) {
             Decision::Bit(bit) => {
-                self.put(key, state);
+                self.move_to(at, state);
                 Ok(bit)
             }
             Decision::NeedBytes => Err(NumberStep::NeedBytes),
@@ -117,40 +197,13 @@ impl NumberContexts {
         }
     }
 
-    /// Makes room for the state of a context, which is 0 at first, and tells its state.
-    pub(crate) fn make_room(&mut self, key: Key) -> Result<u8, AllocError>
-        ensures state { IfOk result (λ state. state ≡ state_at self.old key) }
-        ensures room { OnOk result (IsTrue (has_room self.new key)) }
-        ensures same { states_of self.new ≡ states_of self.old }
-        ensures below { (count : ℕ) → AreBelow count self.old → AreBelow count self.new }
+    /// Moves the context of a cell to a state.
+    fn move_to(&mut self, at: usize, state: u8)
+        requires { at < length self.old.cells }
+        ensures cells { KeepsCells self.old self.new }
+        ensures stored { (of : Name) → IsCell self.old of at → states_of self.new ≡ store (states_of self.old) of state }
+        ensures below { (of : Name) (count : ℕ) → IsCell self.old of at → state < count → AreBelow count (states_of self.old) → AreBelow count (states_of self.new) }
     {
-        match self.states.get(&key) {
-            Some(state) => Ok(*state),
-            None => self.insert_start(key),
-        }
-    }
-
-    /// Makes room where there is none.
-    fn insert_start(&mut self, key: Key) -> Result<u8, AllocError>
-        requires { IsTrue (not (has_room self.old key)) }
-        ensures state { IfOk result (λ state. state ≡ state_at self.old key) }
-        ensures room { OnOk result (IsTrue (has_room self.new key)) }
-        ensures same { states_of self.new ≡ states_of self.old }
-        ensures below { (count : ℕ) → AreBelow count self.old → AreBelow count self.new }
-    {
-        self.states.insert(key, 0)?;
-        Ok(0)
-    }
-
-    /// Puts a state where there is room for it.
-    pub(crate) fn put(&mut self, key: Key, state: u8)
-        requires { IsTrue (has_room self.old key) }
-        ensures below { (count : ℕ) → state < count → AreBelow count self.old → AreBelow count self.new }
-        ensures stored { (root : RootValue) (decisions : List Bool) → key ≡ key_of (name root decisions) →
-            states_of self.new ≡ store (states_of self.old) (name root decisions) state }
-    {
-        let Ok(_) = self.states.insert(key, state) else {
-            unreachable!()
-        };
+        self.cells[at].state = state;
     }
 }

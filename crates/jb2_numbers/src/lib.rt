@@ -9,6 +9,7 @@
 
 mod contexts;
 pub mod laws;
+mod paths;
 mod phases;
 mod reader;
 mod roots;

@@ -1,6 +1,7 @@
 //! What is known of a number before its next decision.
 ghost use Rattle.std.specs.Prelude.{◌≡◌, ◌+◌, ◌*◌, ◌/◌, ◌<◌, ◌≤◌, IsTrue};
-ghost use Rattle.jb2_numbers.specs.Number.{at_least, opposite, side_of, number_of, halved, settled, next_phase, implied_by, implied, allows};
+ghost use Rattle.jb2_numbers.specs.Kept.{side_in, phase_in};
+ghost use Rattle.jb2_numbers.specs.Phases.{Doubling, at_least, opposite, side_of, number_of, halved, settled, next_phase, implied_by, implied, allows};
 ghost use Rattle.jb2_numbers.specs.Steps.{is_sound};
 
 /// The sign of a number, and the bounds of its size: a negative number is `-size - 1`.
@@ -40,7 +41,7 @@ fn opposite(value: i32) -> i32
 
 /// The bounds of the size, by the sign.
 fn side_of(low: i32, high: i32, is_positive: bool) -> Side
-    ensures { result ≡ side_of low high is_positive }
+    ensures { side_in result ≡ side_of low high is_positive }
 {
     if is_positive {
         Side {
@@ -61,7 +62,7 @@ impl Side {
     /// The number of this size.
     fn number_of(self, size: u32) -> i32
         requires { size < 0x100000 }
-        ensures { result ≡ number_of self size }
+        ensures { result ≡ number_of (side_in self) size }
     {
         if self.negative {
             -1 - size as i32
@@ -82,7 +83,7 @@ impl Side {
 fn doubled(side: Side, cutoff: u32, decision: bool) -> Phase
     requires some { 1 ≤ cutoff }
     requires below { cutoff < 0x80000 }
-    ensures { result ≡ next_phase (Phase.Doubling side cutoff) decision }
+    ensures { phase_in result ≡ next_phase (Doubling (side_in side) cutoff) decision }
 {
     if decision {
         Phase::Doubling(side, 2 * cutoff + 1)
@@ -107,7 +108,7 @@ fn implied_by(low: i32, high: i32, cutoff: u32) -> Option<bool>
 /// After the first false of the doubling.
 fn settled(side: Side, cutoff: u32, range: u32) -> Phase
     requires { range ≤ cutoff }
-    ensures { result ≡ settled side cutoff range }
+    ensures { phase_in result ≡ settled (side_in side) cutoff range }
 {
     if range == 1 {
         Phase::Known(side.number_of(0))
@@ -121,7 +122,7 @@ fn halved(side: Side, cutoff: u32, range: u32, decision: bool) -> Phase
     requires some { 1 ≤ range }
     requires within { range ≤ cutoff }
     requires below { cutoff + range ≤ 0x80000 }
-    ensures { result ≡ halved side cutoff range decision }
+    ensures { phase_in result ≡ halved (side_in side) cutoff range decision }
 {
     if range == 1 {
         Phase::Known(side.number_of(if decision { cutoff } else { cutoff - 1 }))
@@ -142,10 +143,10 @@ fn halved(side: Side, cutoff: u32, range: u32, decision: bool) -> Phase
 impl Phase {
     /// The phase after a decision that the bounds allow.
     pub(crate) fn next(self, count: u8, decision: bool) -> Phase
-        requires sound { IsTrue (is_sound count self) }
-        requires allowed { IsTrue (allows self decision) }
-        ensures next { result ≡ next_phase self decision }
-        ensures sound { IsTrue (is_sound (count + 1) result) }
+        requires sound { IsTrue (is_sound count (phase_in self)) }
+        requires allowed { IsTrue (allows (phase_in self) decision) }
+        ensures next { phase_in result ≡ next_phase (phase_in self) decision }
+        ensures sound { IsTrue (is_sound (count + 1) (phase_in result)) }
     {
         match self {
             Phase::Sign(low, high) => Phase::Doubling(side_of(low, high, decision), 1),
@@ -157,7 +158,7 @@ impl Phase {
 
     /// The next decision, where the bounds imply it.
     pub(crate) fn implied(self) -> Option<bool>
-        ensures { result ≡ implied self }
+        ensures { result ≡ implied (phase_in self) }
     {
         match self {
             Phase::Sign(low, high) => implied_by(low, high, 0),

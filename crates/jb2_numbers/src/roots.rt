@@ -1,7 +1,9 @@
 //! What a number of JB2 stands for.
+ghost use Rattle.std.specs.Prelude.{◌≡◌};
+ghost use Rattle.jb2_numbers.specs.Roots.{root_index};
 
 /// What a number stands for: numbers of one kind share their contexts (DjVu 3 reference, JB2).
-#[derive(Clone, Copy, Debug, PartialEq, Eq, PartialOrd, Ord)]
+#[derive(Clone, Copy, Debug, PartialEq, Eq)]
 pub enum Root {
     /// The type of a record.
     RecordType,
@@ -35,4 +37,13 @@ pub enum Root {
     CommentLength,
     /// A byte of a comment.
     CommentByte,
+}
+
+impl Root {
+    /// The sixteen roots, counted from 0.
+    pub(crate) fn index(self) -> usize
+        ensures { result ≡ root_index self }
+    {
+        self as usize
+    }
 }

@@ -1,5 +1,5 @@
 -- What `Places` keeps of the boxes that it placed.
-use Rattle.std.specs.Prelude.{◌≡◌, ℕ, ◌<◌, ◌^◌, ℤ, pos, neg_ℤ, ◌≤ℤ◌, List, [], ◌∷◌, length, All, FitsSigned, slice_index_or}
+use Rattle.std.specs.Prelude.{◌≡◌, ℕ, ◌+◌, ◌<◌, ◌^◌, ℤ, pos, neg_ℤ, ◌≤ℤ◌, List, [], ◌∷◌, length, All, FitsSigned, slice_index_or}
 use Rattle.std.specs.Int.{w32}
 use Rattle.jb2_places.specs.Place.{Placement, Placed, row_left, row_bottom, last_right, bottom_at, placed_boxes}
 
@@ -62,3 +62,7 @@ pub record LeadsWithin (r : ℕ) (lead : Lead) : Type 0 where
 -- how far the numbers can come in as many calls as there may be: each moves them by less than 2 ^ 32
 abbrev pub far : ℕ
 far = 0x10_0001_0000_0000
+
+-- and how far a spot can lie from 0, with one placement more
+abbrev pub spot_far : ℕ
+spot_far = far + 0x2_0000_0000

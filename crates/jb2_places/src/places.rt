@@ -1,7 +1,7 @@
 //! The places of marks, one after another.
-ghost use Rattle.std.specs.Prelude.{◌≡◌, ℕ, ◌^◌, pos, ◌+ℤ◌, ◌-ℤ◌, ◌++◌, true, false, List, [], ◌∷◌};
+ghost use Rattle.std.specs.Prelude.{◌≡◌, ℕ, pos, ◌+ℤ◌, ◌-ℤ◌, ◌++◌, true, false, List, [], ◌∷◌};
 ghost use Rattle.jb2_places.specs.Place.{Placement, median, spot_at, place, absolute_place};
-ghost use Rattle.jb2_places.specs.After.{IsAfter, IsSize, HasRoom, Within};
+ghost use Rattle.jb2_places.specs.After.{IsAfter, IsSize, HasRoom, Within, far, spot_far};
 
 use std::marker::Model;
 
@@ -56,8 +56,8 @@ impl Places {
             result ≡ place image_height earlier (record { new_row = true; dx = dx; dy = dy; width = width; height = height }) }
         ensures after { (image_height : ℕ) (earlier : List Placement) → IsAfter image_height earlier self.old →
             IsAfter image_height (earlier ++ record { new_row = true; dx = dx; dy = dy; width = width; height = height } ∷ []) self.new }
-        ensures left { Within (2 ^ 59) result.left }
-        ensures bottom { Within (2 ^ 59) result.bottom }
+        ensures left { Within spot_far result.left }
+        ensures bottom { Within spot_far result.bottom }
     {
         let left = moved(self.row_left, dx);
         let bottom = bottom_under(moved(self.row_bottom, dy), height);
@@ -77,8 +77,8 @@ impl Places {
             result ≡ place image_height earlier (record { new_row = false; dx = dx; dy = dy; width = width; height = height }) }
         ensures after { (image_height : ℕ) (earlier : List Placement) → IsAfter image_height earlier self.old →
             IsAfter image_height (earlier ++ record { new_row = false; dx = dx; dy = dy; width = width; height = height } ∷ []) self.new }
-        ensures left { Within (2 ^ 59) result.left }
-        ensures bottom { Within (2 ^ 59) result.bottom }
+        ensures left { Within spot_far result.left }
+        ensures bottom { Within spot_far result.bottom }
     {
         let [latest, middle, oldest] = self.bottoms;
         let left = moved(self.last_right, dx);
@@ -105,7 +105,7 @@ fn median(a: i64, b: i64, c: i64) -> i64
 
 /// The place that lies so far from this one.
 fn moved(from: i64, by: i32) -> i64
-    requires { Within (2 ^ 56) from }
+    requires { Within far from }
     ensures { result ≡ from +ℤ by }
 {
     from + i64::from(by)
@@ -113,7 +113,7 @@ fn moved(from: i64, by: i32) -> i64
 
 /// The last column of a box.
 fn right_of(left: i64, width: i32) -> i64
-    requires { Within (2 ^ 57) left }
+    requires { Within spot_far left }
     ensures { result ≡ left +ℤ width -ℤ pos 1 }
 {
     left + i64::from(width) - 1
@@ -121,7 +121,7 @@ fn right_of(left: i64, width: i32) -> i64
 
 /// The lowest row of a box.
 fn bottom_under(top: i64, height: i32) -> i64
-    requires { Within (2 ^ 57) top }
+    requires { Within spot_far top }
     ensures { result ≡ top -ℤ height +ℤ pos 1 }
 {
     top - i64::from(height) + 1
@@ -129,11 +129,9 @@ fn bottom_under(top: i64, height: i32) -> i64
 
 /// The spot of a box whose left side and bottom are counted from 1.
 fn from_zero(left: i64, bottom: i64) -> Spot
-    requires left { Within (2 ^ 58) left }
-    requires bottom { Within (2 ^ 58) bottom }
-    ensures spot { result ≡ spot_at left bottom }
-    ensures left { Within (2 ^ 59) result.left }
-    ensures bottom { Within (2 ^ 59) result.bottom }
+    requires left { Within spot_far left }
+    requires bottom { Within spot_far bottom }
+    ensures { result ≡ spot_at left bottom }
 {
     Spot {
         left: left - 1,

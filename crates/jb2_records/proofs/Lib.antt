@@ -1,6 +1,10 @@
 -- The lemmas of this crate, lowest first; above each stand the functions and laws whose clauses it ends in, or the files that cite it.
 -- Finishing
 mod Bounding
+-- Numbering; src/unread.rt
+mod Offering
+-- Unread::number
+mod Numbering
 -- src/coder.rt
 mod Calling
 -- Continuing

@@ -1,7 +1,5 @@
 -- Records that are read one after the other are those of the chunk.
 use Rattle.std.proofs.Common.{◌≡◌, ◌≢◌, ◌<◌, ℕ, zero, suc, Bool, true, false, List, [], ◌∷◌, length, refl, sym, ap, subst, ◌∙◌, arith}
-use Rattle.zp_decoder.specs.Decoder.{room_left}
-use Rattle.zp_decoder.proofs.Lemmas.{room_is}
 use Rattle.zp_decoder.specs.Runs.{room}
 use Rattle.djvu_base.specs.Meter.{ticked_once, ticked, TicksExactly}
 use Rattle.djvu_base.proofs.Ticks.{ticks_next}
@@ -13,6 +11,8 @@ use Rattle.jb2_records.specs.Coding.{Coder, chunk_start, Why, Need, Wrong, Read,
 use Rattle.jb2_records.specs.Reading.{Input, Outcome, outcome, answer_of, after_record, after_end, read_record, records_from, records_of, most_records}
 use Rattle.jb2_records.specs.Mask.{mask_of}
 use Rattle.jb2_records.specs.Growth.{IsSound}
+use Rattle.jb2_records.specs.Taking.{room_of}
+use Rattle.jb2_records.proofs.Offering.{room_there}
 use Rattle.jb2_records.specs.Telling.{Parts, Stands, IsStopped}
 use Rattle.jb2_records.specs.Drawing.{Task, input_for, Scene, drawn, Shows, Adds, DrawsAll, IsBegun}
 use Rattle.jb2_records.proofs.Leaving.{record_leaves, start_is_sound}
@@ -123,10 +123,10 @@ fault_all task parts new scene next_scene units kind all stopped shows =
 
 -- each record leaves less room
 pub less_room : (task : Task) (parts new : Parts) (scene next_scene : Scene) (units : ℕ) (is_last : Bool) (all : GoesAll task parts scene units) →
-    Adds task all.before (read_record (input_for task) all.before all.at) is_last new next_scene → room_left new.zp < room_left parts.zp
+    Adds task all.before (read_record (input_for task) all.before all.at) is_last new next_scene → room_of new.unread new.zp < room_of parts.unread parts.zp
 less_room task parts new scene next_scene units is_last all adds =
     let left = record_leaves (input_for task) all.before all.at adds.next adds.entry all.sound adds.got in
     let less : room task.chunk.payload adds.next.place < room task.chunk.payload all.at.place = left.1 in
-    let first : room_left parts.zp ≡ room task.chunk.payload all.at.place = room_is task.chunk.payload all.at.place parts.zp all.stands.fed in
-    let second : room_left new.zp ≡ room task.chunk.payload adds.next.place = room_is task.chunk.payload adds.next.place new.zp adds.stands.fed in
+    let first : room_of parts.unread parts.zp ≡ room task.chunk.payload all.at.place = room_there task.chunk all.at.place parts.unread parts.zp all.stands.takes in
+    let second : room_of new.unread new.zp ≡ room task.chunk.payload adds.next.place = room_there task.chunk adds.next.place new.unread new.zp adds.stands.takes in
     omega arith

@@ -10,6 +10,7 @@ pub mod Mask
 pub mod Reader
 pub mod Growth
 pub mod Sides
+pub mod Taking
 pub mod Telling
 pub mod Drawing
 pub mod Holding

@@ -1,7 +1,7 @@
 -- How a coder stands to the definitions, and what it answers.
 use Rattle.std.specs.Prelude.{◌≡◌, ℕ, ◌<◌, List, length, Option, Some, Result, Ok, Err}
 use Rattle.djvu_base.specs.Meter.{TicksExactly}
-use Rattle.zp_decoder.specs.Decoder.{Decoder, Fed}
+use Rattle.zp_decoder.specs.Decoder.{Decoder}
 use Rattle.djvu_base.specs.declared.faults.FaultKind.{FaultKind}
 use Rattle.jb2_numbers.specs.Contexts as numbers
 use Rattle.jb2_numbers.specs.Contexts.{Numbers}
@@ -12,19 +12,22 @@ use Rattle.jb2_shapes.specs.Numbers.{Cells}
 use Rattle.jb2_records.specs.declared.stops.Stop.{Stop}
 use Rattle.jb2_records.specs.declared.stops.Stop.TheVariants as stop
 use Rattle.jb2_records.specs.Records.{Record, Comment}
+use Rattle.jb2_records.specs.Taking.{Unread, Feeds, Takes}
 use Rattle.jb2_records.specs.Coding.{Coder, Why, Need, Wrong, Read, Got, Stops}
 
--- the parts of a coder: a decoder, the contexts, and the count of decisions
+-- the parts of a coder: a decoder, the bytes that it hasn't taken, the contexts, and the count of decisions
 pub record Parts : Type 0 where
   pub zp : Decoder
+  pub unread : Unread
   pub numbers : Numbers
   pub pixels : Cells
   pub flag : ℕ
   pub row : ℕ
   pub count : ℕ
 
--- each state is a row of the decoder's table
+-- the decoder is told the end in time, and each state is a row of its table
 pub record IsReady (parts : Parts) : Type 0 where
+  pub feeds : Feeds parts.unread parts.zp
   pub numbers : numbers.AreBelow (length parts.zp.table) parts.numbers
   pub pixels : shapes.AreBelow (length parts.zp.table) (cells.states_of parts.pixels)
   pub flag : parts.flag < length parts.zp.table
@@ -36,9 +39,7 @@ pub record Stands (source : Chunk) (at : Coder) (parts : Parts) : Type 0 where
   pub pixels : cells.states_of parts.pixels ≡ at.pixels
   pub flag : parts.flag ≡ at.flag
   pub row : parts.row ≡ at.row
-  pub fed : Fed source.payload at.place parts.zp
-  pub table : parts.zp.table ≡ source.table
-  pub ended : parts.zp.ended ≡ source.ended
+  pub takes : Takes source at.place parts.unread parts.zp
   pub count : TicksExactly at.decisions 0 parts.count
 
 -- this was read, and the parts stand behind it

@@ -11,8 +11,10 @@ ghost use Rattle.jb2_records.specs.Reading.{with_fresh_numbers};
 ghost use Rattle.jb2_records.specs.Telling.{Stands, Told};
 
 use crate::stops::Stop;
+use crate::unread::{Unread, is_all, sound_rows};
 use bit_plane::Plane;
 use djvu_base::{CountMeter, FaultKind};
+use jb2_numbers::laws::states_are_below;
 use jb2_numbers::{NumberContexts, NumberReader, NumberStep, Root};
 use jb2_shapes::{DirectReader, RefineReader, ShapeContexts, ShapeStep};
 use std::alloc::{AllocError, Global};
@@ -26,6 +28,7 @@ use zp_table::Table;
 pub(crate) struct Coder {
     alloc: Global,
     zp: ZpDecoder,
+    unread: Unread,
     numbers: NumberContexts,
     pixels: ShapeContexts,
     flag: u8,
@@ -38,9 +41,9 @@ impl Model for Coder {
 
     ghost Value = { Parts };
 
-    ghost view = { λ a. record { zp = a.zp; numbers = a.numbers; pixels = a.pixels; flag = a.flag; row = a.row; count = a.meter } };
+    ghost view = { λ a. record { zp = a.zp; unread = a.unread; numbers = a.numbers; pixels = a.pixels; flag = a.flag; row = a.row; count = a.meter } };
 
-    ghost invariant = { λ a. IsReady (record { zp = a.zp; numbers = a.numbers; pixels = a.pixels; flag = a.flag; row = a.row; count = a.meter }) };
+    ghost invariant = { λ a. IsReady (record { zp = a.zp; unread = a.unread; numbers = a.numbers; pixels = a.pixels; flag = a.flag; row = a.row; count = a.meter }) };
 }
 
 impl Coder {
@@ -53,16 +56,18 @@ impl Coder {
     ) -> Result<Coder, AllocError>
         ensures { IfOk result (λ coder. Stands (chunk (arc_value table) bytes.now is_whole) chunk_start coder) }
     {
+        sound_rows(&table);
         let rows = table.len();
         prove!(rows > 0);
-        let mut zp = ZpDecoder::new(alloc, table);
-        zp.push(bytes)?;
-        if is_whole {
+        let unread = Unread::new(alloc, bytes, is_whole)?;
+        let mut zp = ZpDecoder::new(table);
+        if is_all(bytes, is_whole) {
             zp.end();
         }
         Ok(Coder {
             alloc,
             zp,
+            unread,
             numbers: NumberContexts::new(alloc),
             pixels: ShapeContexts::new(alloc)?,
             flag: 0,
@@ -85,8 +90,15 @@ impl Coder {
             Told (λ number. number) source (read_number source root low high at) result self.new }
         ensures within { IfOk result (λ number. (low ≤ℤ number) × (number ≤ℤ high)) }
     {
+        states_are_below();
+        self.zp.was_fed();
         let mut reader = NumberReader::begin(low, high, root);
-        match reader.advance(&mut self.numbers, &mut self.zp, &mut self.meter) {
+        match self.unread.number(
+            &mut reader,
+            &mut self.numbers,
+            &mut self.zp,
+            &mut self.meter,
+        ) {
             NumberStep::Number(number) => Ok(number),
             NumberStep::NeedBytes => Err(Stop::NeedBytes),
             NumberStep::Exhausted => Err(Stop::Refused(FaultKind::ZpExhausted)),
@@ -99,7 +111,10 @@ impl Coder {
         ensures { (source : Chunk) (at : Place) → Stands source at self.old →
             Told (λ flag. flag) source (read_flag source at) result self.new }
     {
-        match self.zp.decode(&mut self.flag, &mut self.meter) {
+        match self
+            .unread
+            .decide(&mut self.zp, &mut self.flag, &mut self.meter)
+        {
             Decision::Bit(flag) => Ok(flag),
             Decision::NeedBytes => Err(Stop::NeedBytes),
             Decision::Exhausted => Err(Stop::Refused(FaultKind::ZpExhausted)),
@@ -111,7 +126,10 @@ impl Coder {
         ensures { (source : Chunk) (at : Place) → Stands source at self.old →
             Told (λ is_new. is_new) source (read_row source at) result self.new }
     {
-        match self.zp.decode(&mut self.row, &mut self.meter) {
+        match self
+            .unread
+            .decide(&mut self.zp, &mut self.row, &mut self.meter)
+        {
             Decision::Bit(is_new) => Ok(is_new),
             Decision::NeedBytes => Err(Stop::NeedBytes),
             Decision::Exhausted => Err(Stop::Refused(FaultKind::ZpExhausted)),
@@ -129,7 +147,7 @@ impl Coder {
         ensures height { IfOk result (λ shape. (arc_value shape).height ≡ height) }
     {
         let mut reader = DirectReader::begin(self.alloc, width, height)?;
-        match reader.advance(&mut self.pixels, &mut self.zp, &mut self.meter) {
+        match self.unread.direct(&mut reader, &mut self.pixels, &mut self.zp, &mut self.meter) {
             ShapeStep::Done => Ok(Arc::new(self.alloc, reader.take())?),
             ShapeStep::NeedBytes => Err(Stop::NeedBytes),
             ShapeStep::Exhausted => Err(Stop::Refused(FaultKind::ZpExhausted)),
@@ -152,7 +170,7 @@ impl Coder {
         ensures height { IfOk result (λ shape. (arc_value shape).height ≡ height) }
     {
         let mut reader = RefineReader::begin(self.alloc, width, height, matched)?;
-        match reader.advance(&mut self.pixels, &mut self.zp, &mut self.meter) {
+        match self.unread.refined(&mut reader, &mut self.pixels, &mut self.zp, &mut self.meter) {
             ShapeStep::Done => Ok(Arc::new(self.alloc, reader.take())?),
             ShapeStep::NeedBytes => Err(Stop::NeedBytes),
             ShapeStep::Exhausted => Err(Stop::Refused(FaultKind::ZpExhausted)),

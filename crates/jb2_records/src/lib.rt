@@ -5,7 +5,8 @@
 //!
 //! `specs/` has the definitions: `Records` (records, and what a list of them comes to), `Coding` and `Reading` (how they are
 //! read), `Mask` (what they draw), `Reader` (how a reader stands to its bytes), `Growth` (what more bytes do), and `Worked`
-//! (small chunks). What only the code needs: `Telling` (how a coder stands to the reading), `Sides` (shapes that can be placed,
+//! (small chunks). What only the code needs: `Taking` (how a
+//! decoder, and the bytes that it hasn't taken, stand to a chunk), `Telling` (how a coder stands to the reading), `Sides` (shapes that can be placed,
 //! which the contract of `Dictionary` speaks of, too), `Drawing` (how a scene stands to the records) and `Holding` (what a
 //! reader keeps to).
 #![tactic(auto)]
@@ -22,6 +23,7 @@ mod scene;
 mod shapes;
 mod stops;
 mod types;
+mod unread;
 
 pub use dictionary::Dictionary;
 pub use reader::{Jb2Step, MaskReader};

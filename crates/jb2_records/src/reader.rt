@@ -5,7 +5,6 @@ ghost use Rattle.bit_plane.specs.Pixels.{Pixels, area_limit, side_limit};
 ghost use Rattle.djvu_base.specs.Meter.{ticked, TicksExactly};
 ghost use Rattle.jb2_records.specs.Reading.{records_of};
 ghost use Rattle.jb2_records.specs.Mask.{mask_drawn};
-ghost use Rattle.zp_table.specs.Rows.{IsTable};
 ghost use Rattle.jb2_records.specs.Holding.{IsDecoded, with_decoded};
 ghost use Rattle.jb2_records.specs.Reader.{Fed, input_of, standing, inherited_of};
 
@@ -13,6 +12,7 @@ use crate::coder::Coder;
 use crate::dictionary::Dictionary;
 use crate::records::read_records;
 use crate::scene::Scene;
+use crate::unread::sound_rows;
 use bit_plane::Plane;
 use djvu_base::{FaultKind, Meter};
 use std::alloc::{AllocError, Global};
@@ -266,15 +266,6 @@ fn standing(answer: Jb2Step) -> Option<Jb2Step>
         Jb2Step::NeedBytes | Jb2Step::OutOfMemory => None,
         Jb2Step::Finished | Jb2Step::Refused(_) => Some(answer),
     }
-}
-
-/// The rows of a table are as decisions need them.
-fn sound_rows(table: &Table)
-    ensures { IsTable table.now }
-{
-    let rows = table.len();
-    prove!(rows > 0);
-    table.row(0);
 }
 
 /// The same dictionary, if there is one.

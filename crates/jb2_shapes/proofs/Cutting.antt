@@ -7,9 +7,9 @@ use Rattle.zp_table.specs.Rows.{IsTable}
 use Rattle.zp_decoder.specs.declared.decoder.Decision.{Decision}
 use Rattle.zp_decoder.specs.declared.decoder.Decision.TheVariants as decision
 use Rattle.zp_decoder.specs.Decision.{Interval, Form, Outcome, Adaptive, interval_at, is_determined, outcome_of}
-use Rattle.zp_decoder.specs.Decoder.{IsStanding}
-use Rattle.zp_decoder.proofs.Lemmas.{grown, standing, state_below}
-use Rattle.jb2_shapes.specs.Contexts.{States, AreBelow, same_colours, state_or, with_state}
+use Rattle.zp_decoder.specs.Runs.{IsStanding}
+use Rattle.zp_decoder.proofs.Lemmas.{grown, standing, state_below, stored_below}
+use Rattle.zp_decoder.specs.States.{States, AreBelow, are_same, with_state}
 use Rattle.jb2_shapes.specs.Shape.{Progress, Reading, IsUnread, left_of, progress, with_pixel, after_decision, read_pixels, reading_of}
 use Rattle.jb2_shapes.proofs.Going.{Context, next_colours, after_bit, left_after}
 
@@ -23,8 +23,7 @@ determined_by rows form payload ended place bit e =
     ]
 
 pub moved_below : (states : States) (colours : List Bool) (state count : ℕ) → AreBelow count states → state < count → AreBelow count (with_state states colours state)
-moved_below states colours state count below within other =
-    elim (same_colours colours other) as (λ same. state_or same state states other < count) [ true ↦ within | false ↦ below other ]
+moved_below = stored_below are_same
 
 -- the pixels that can be read with more bytes, from where the reading stands and from where it stood
 abbrev GoesFrom : Context → List Row → List ℕ → List ℕ → Bool → ℕ → Progress → Type 0

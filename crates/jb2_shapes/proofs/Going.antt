@@ -11,7 +11,7 @@ use Rattle.zp_decoder.specs.Decoder.{Decoder, Fed, room_left}
 use Rattle.bit_plane.specs.Pixels.{Pixels}
 use Rattle.jb2_shapes.specs.declared.steps.ShapeStep.{ShapeStep}
 use Rattle.jb2_shapes.specs.declared.steps.ShapeStep.TheVariants as step
-use Rattle.jb2_shapes.specs.Contexts.{States, AreBelow, with_state}
+use Rattle.zp_decoder.specs.States.{States, AreBelow, with_state}
 use Rattle.jb2_shapes.specs.Numbers.{number_of}
 use Rattle.jb2_shapes.specs.Shape.{Sketch, Progress, Reading, IsUnread, IsWhole, column_of, row_of, left_of, progress, stands, with_pixel, after_decision, read_pixels, reading_of}
 use Rattle.jb2_shapes.specs.Steps.{IsReading, GoesOn, Counts, Keeps}

@@ -5,11 +5,10 @@ use Rattle.zp_table.specs.Rows.{IsTable}
 use Rattle.zp_decoder.specs.declared.decoder.Decision.{Decision}
 use Rattle.zp_decoder.specs.declared.decoder.Decision.TheVariants as decision
 use Rattle.zp_decoder.specs.Decision.{Outcome, Adaptive, outcome_of}
-use Rattle.zp_decoder.specs.Decoder.{IsStanding}
-use Rattle.zp_decoder.specs.Runs.{room}
+use Rattle.zp_decoder.specs.Runs.{IsStanding, room}
 use Rattle.zp_decoder.proofs.Lemmas.{standing, state_below, fewer}
 use Rattle.bit_plane.specs.Pixels.{Pixels}
-use Rattle.jb2_shapes.specs.Contexts.{AreBelow, with_state}
+use Rattle.zp_decoder.specs.States.{AreBelow, with_state}
 use Rattle.jb2_shapes.specs.Shape.{Sketch, Progress, Reading, left_of, progress, with_pixel, after_decision, read_pixels, reading_of}
 use Rattle.jb2_shapes.proofs.Going.{Context, next_colours}
 use Rattle.jb2_shapes.proofs.Cutting.{moved_below}

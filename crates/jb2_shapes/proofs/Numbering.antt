@@ -1,26 +1,12 @@
 -- Numbers of contexts: no two have the same, and what a written cell means.
-use Rattle.std.proofs.Common.{◌≡◌, ◌≢◌, ℕ, ◌+◌, ◌*◌, ◌<◌, ◌≤◌, Bool, true, false, List, [], ◌∷◌, length, get_or, set, replicate, refl, ap, sym, ◌∙◌, subst, arith, inl, inr}
+use Rattle.std.proofs.Common.{◌≡◌, ◌≢◌, ℕ, ◌+◌, ◌*◌, ◌<◌, ◌≤◌, Bool, true, false, List, [], ◌∷◌, length, get_or, set, replicate, refl, ap, sym, ◌∙◌, arith, inl, inr}
 use Rattle.std.proofs.Math.Path.{fun_ext}
 use Rattle.std.proofs.lemmas.Bool.{cases_Bool, cases_lt}
-use Rattle.std.proofs.lemmas.List.{get_or-set_same, get_or-set_other, get_or-replicate, get_or_past, length-replicate}
-use Rattle.jb2_shapes.specs.Contexts.{States, AreBelow, fresh, same_colours, state_or, with_state}
+use Rattle.std.proofs.lemmas.List.{get_or-set_same, get_or-set_other, get_or-replicate, get_or_past, get_or_read_under, length-replicate}
+use Rattle.zp_decoder.specs.States.{States, fresh, are_same, with_state}
+use Rattle.zp_decoder.proofs.Lemmas.{are_same-true, are_same-refl, stored_here, stored_elsewhere}
 use Rattle.bit_plane.specs.Bits.{digit_of}
-use Rattle.jb2_shapes.specs.Numbers.{Cells, number_from, number_of, states_of}
-
--- equal lists of colours are the same
-pub same-true : (colours others : List Bool) → same_colours colours others ≡ true → colours ≡ others
-same-true [] [] p = refl
-same-true [] (other ∷ others) p = cc
-same-true (colour ∷ colours) [] p = cc
-same-true (true ∷ colours) (true ∷ others) p = ap (λ rest. true ∷ rest) (same-true colours others p)
-same-true (true ∷ colours) (false ∷ others) p = cc
-same-true (false ∷ colours) (true ∷ others) p = cc
-same-true (false ∷ colours) (false ∷ others) p = ap (λ rest. false ∷ rest) (same-true colours others p)
-
-pub same-refl : (colours : List Bool) → same_colours colours colours ≡ true
-same-refl [] = refl
-same-refl (true ∷ colours) = same-refl colours
-same-refl (false ∷ colours) = same-refl colours
+use Rattle.jb2_shapes.specs.Numbers.{Cells, number_from, number_of, number_limit, states_of}
 
 -- further digits leave a number at least as large
 grows : (colours : List Bool) (number : ℕ) → number ≤ number_from number colours
@@ -74,31 +60,35 @@ pub all_zero : (contexts : Cells) (count : ℕ) → contexts.cells ≡ replicate
 unfolding states_of
 all_zero contexts count e = fun_ext (λ colours. ap (λ cells. get_or cells (number_of colours) 0) e ∙ constant count (number_of colours) 0)
 
-pub fresh_below : (states : States) → states ≡ fresh → (count : ℕ) → 0 < count → AreBelow count states
-fresh_below states e count some = subst (AreBelow count) (sym e) (λ colours. some)
-
 pub set_state : (old : Cells) (cells : List ℕ) (colours : List Bool) (number state : ℕ) → number_of colours ≡ number → number < length old.cells →
     cells ≡ set old.cells number state → states_of (record { cells = cells }) ≡ with_state (states_of old) colours state
 unfolding states_of
 set_state old cells colours number state n p e = fun_ext (λ other.
     ap (λ cells. get_or cells (number_of other) 0) (e ∙ ap (λ i. set old.cells i state) (sym n))
-    ∙ elim (cases_Bool (same_colours colours other)) [
+    ∙ elim (cases_Bool (are_same colours other)) [
       | inl same ↦
-          ap (λ o. get_or (set old.cells (number_of colours) state) (number_of o) 0) (sym (same-true colours other same))
+          ap (λ o. get_or (set old.cells (number_of colours) state) (number_of o) 0) (sym (are_same-true colours other same))
           ∙ get_or-set_same old.cells (number_of colours) state 0 (omega arith)
-          ∙ sym (ap (λ t. state_or t state (states_of old) other) same)
+          ∙ sym (stored_here are_same (states_of old) colours other state same)
       | inr differs ↦
           get_or-set_other old.cells (number_of colours) (number_of other) state 0 (λ e.
           let one = number-injective other colours e in
-          let is : same_colours colours colours ≡ false = ap (λ o. same_colours colours o) (sym one) ∙ differs in
-          let is_not = same-refl colours in
+          let is : are_same colours colours ≡ false = ap (λ o. are_same colours o) (sym one) ∙ differs in
+          let is_not = are_same-refl colours in
           cc)
-          ∙ sym (ap (λ t. state_or t state (states_of old) other) differs)
+          ∙ sym (stored_elsewhere are_same (states_of old) colours other state differs)
     ])
+
+-- the cell of a context holds its state
+pub state_in : (old : Cells) (colours : List Bool) (number state : ℕ) → number_of colours ≡ number → number < number_limit → length old.cells ≡ number_limit →
+    state ≡ get_or old.cells number state → state ≡ states_of old colours
+unfolding states_of
+state_in old colours number state n within size read =
+    get_or_read_under old.cells number number_limit state 0 read within (sym size) ∙ ap (λ i. get_or old.cells i 0) (sym n)
 
 pub others_stay : (states : States) (colours other : List Bool) (state : ℕ) → colours ≢ other → with_state states colours state other ≡ states other
 others_stay states colours other state differs =
-    elim (cases_Bool (same_colours colours other)) [
-      | inl same ↦ absurd (differs (same-true colours other same))
-      | inr different ↦ ap (λ t. state_or t state states other) different
+    elim (cases_Bool (are_same colours other)) [
+      | inl same ↦ absurd (differs (are_same-true colours other same))
+      | inr different ↦ stored_elsewhere are_same states colours other state different
     ]

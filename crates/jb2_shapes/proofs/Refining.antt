@@ -3,7 +3,7 @@ use Rattle.std.proofs.Common.{◌≡◌, ℕ, Bool, List, Option, ap, ◌∙◌}
 use Rattle.zp_table.specs.declared.rows.Row.{Row}
 use Rattle.zp_decoder.specs.Decision.{Interval}
 use Rattle.bit_plane.specs.Ink.{ink_box_of}
-use Rattle.jb2_shapes.specs.Contexts.{States}
+use Rattle.zp_decoder.specs.States.{States}
 use Rattle.jb2_shapes.specs.Shape.{Sketch, progress, reading_of}
 use Rattle.jb2_shapes.specs.Refined.{Matching, Refinement, column_shift, row_shift, matching_context, refined_context, refined_reading}
 

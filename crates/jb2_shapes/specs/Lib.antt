@@ -3,7 +3,8 @@ pub use Rattle.bit_plane.specs.Pixels
 pub use Rattle.zp_decoder.specs.Decision
 pub use Rattle.zp_decoder.specs.Decoder
 pub use Rattle.zp_decoder.specs.Runs
-pub mod Contexts
+pub use Rattle.zp_decoder.specs.States
+pub use Rattle.zp_decoder.specs.Chunk
 pub mod Shape
 pub mod Refined
 pub mod Numbers

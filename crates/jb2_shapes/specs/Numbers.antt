@@ -1,7 +1,7 @@
 -- Numbers of contexts: their colours as digits, behind a one.
 use Rattle.std.specs.Prelude.{◌≡◌, ℕ, ◌+◌, ◌*◌, ◌<◌, Bool, List, [], ◌∷◌, slice_index}
 use Rattle.bit_plane.specs.Bits.{digit_of}
-use Rattle.jb2_shapes.specs.Contexts.{States}
+use Rattle.zp_decoder.specs.States.{States}
 
 -- a number with these colours as further binary digits, of which black is 1
 abbrev pub number_from : ℕ → List Bool → ℕ

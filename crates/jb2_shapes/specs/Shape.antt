@@ -7,7 +7,7 @@ use Rattle.zp_decoder.specs.Decision.{Interval, Outcome, Adaptive, outcome_of}
 use Rattle.bit_plane.specs.Pixels.{Pixels, is_black, blank, with_black}
 use Rattle.jb2_shapes.specs.declared.steps.ShapeStep.{ShapeStep}
 use Rattle.jb2_shapes.specs.declared.steps.ShapeStep.TheVariants as step
-use Rattle.jb2_shapes.specs.Contexts.{States, with_state}
+use Rattle.zp_decoder.specs.States.{States, with_state}
 
 -- the colours of the ten pixels near (x, y) that were read before it: three two rows above, five one row above and two
 -- to the left

@@ -6,7 +6,7 @@ use Rattle.zp_decoder.specs.Decision.{Interval}
 use Rattle.zp_decoder.specs.Decoder.{Decoder, Fed, room_left}
 use Rattle.bit_plane.specs.Pixels.{Pixels}
 use Rattle.jb2_shapes.specs.declared.steps.ShapeStep.{ShapeStep}
-use Rattle.jb2_shapes.specs.Contexts.{States, AreBelow}
+use Rattle.zp_decoder.specs.States.{States, AreBelow}
 use Rattle.jb2_shapes.specs.Shape.{Sketch, Progress, Reading, progress, reading_of}
 
 -- the answer, shape, contexts and decoder that a reading gives

@@ -3,7 +3,7 @@ use Rattle.std.specs.Prelude.{ℕ, true, List, [], ◌∷◌, Some, None}
 use Rattle.zp_table.specs.Listing.{djvu_rows, flat_rows}
 use Rattle.zp_decoder.specs.Decision.{interval}
 use Rattle.bit_plane.specs.Pixels.{Pixels}
-use Rattle.jb2_shapes.specs.Contexts.{fresh}
+use Rattle.zp_decoder.specs.States.{fresh}
 use Rattle.jb2_shapes.specs.Shape.{Reading, direct_reading, progress, empty_sketch}
 use Rattle.jb2_shapes.specs.Refined.{refined_reading}
 

@@ -4,7 +4,7 @@ ghost use Rattle.bit_plane.specs.Pixels.{area_limit, side_limit};
 ghost use Rattle.djvu_base.specs.Meter.{TicksExactly};
 ghost use Rattle.zp_decoder.specs.Decision.{Interval};
 ghost use Rattle.zp_decoder.specs.Decoder.{Fed, room_left};
-ghost use Rattle.jb2_shapes.specs.Contexts.{AreBelow};
+ghost use Rattle.zp_decoder.specs.States.{AreBelow};
 ghost use Rattle.jb2_shapes.specs.Numbers.{states_of};
 ghost use Rattle.jb2_shapes.specs.Steps.{Reads, Counts};
 ghost use Rattle.jb2_shapes.specs.Shape.{direct_reading, direct_context, progress, empty_sketch, IsWhole};

@@ -3,7 +3,7 @@ ghost use Rattle.std.specs.Prelude.{◌≡◌, ℕ, ◌<◌, ◌≤◌, length, 
 ghost use Rattle.bit_plane.specs.Pixels.{is_black};
 ghost use Rattle.zp_decoder.specs.Decision.{Interval, Adaptive, outcome_of, counted};
 ghost use Rattle.zp_decoder.specs.Decoder.{Fed, room_left};
-ghost use Rattle.jb2_shapes.specs.Contexts.{AreBelow, with_state};
+ghost use Rattle.zp_decoder.specs.States.{AreBelow, with_state};
 ghost use Rattle.jb2_shapes.specs.Numbers.{number_of, number_limit, states_of, IsNumber};
 ghost use Rattle.jb2_shapes.specs.Shape.{IsUnread, column_of, row_of, with_pixel};
 
@@ -39,10 +39,8 @@ pub(crate) fn read_pixel<M: Meter>(
     ensures needs { result ≡ Decision.NeedBytes → (canvas.new ≡ canvas.old) × (contexts.new ≡ contexts.old) × (zp.new ≡ zp.old) × (meter.new ≡ meter.old) }
     ensures exhausted { result ≡ Decision.Exhausted → (canvas.new ≡ canvas.old) × (contexts.new ≡ contexts.old) × (zp.new ≡ zp.old) × (meter.new ≡ meter.old) }
 {
-    let mut state = contexts.state(number);
-    match zp.decode(&mut state, meter) {
+    match contexts.decode(number, zp, meter) {
         Decision::Bit(black) => {
-            contexts.set(number, state);
             canvas.put(black);
             Decision::Bit(black)
         }

@@ -1,4 +1,4 @@
-use Rattle.zp_decoder.specs.Decoder.{room_left}
+use Rattle.jb2_records.specs.Taking.{room_of}
 use Rattle.jb2_records.specs.Drawing.{Task, IsBegun}
 use Rattle.jb2_records.proofs.Looping.{GoesAll}
 use Rattle.jb2_records.proofs.records.read_records.Given as goal
@@ -7,4 +7,4 @@ abbrev pub invariant-records : goal.invariant-records
 invariant-records l = (task : Task) → IsBegun task l.initial.coder l.initial.scene → GoesAll task l.coder l.scene l.units
 
 abbrev pub decreases-records : goal.decreases-records
-decreases-records l = room_left l.coder.zp
+decreases-records l = room_of l.coder.unread l.coder.zp

@@ -1,57 +1,59 @@
-use Rattle.std.proofs.Common.{◌≡◌, ◌≤◌, ◌<◌, ◌+◌, ◌-◌, ℕ, suc, refl, sym, ap, subst, ◌∙◌, arith}
-use Rattle.jb2_numbers.specs.Number.{Reading, steps, answer_at}
-use Rattle.jb2_numbers.specs.Reader.{Stands, Ends}
-use Rattle.jb2_numbers.proofs.Stepping.{stands_first, read_on-ended}
+use Rattle.std.proofs.Common.{◌≡◌, ℕ, ℤ, sym, ap, ◌∙◌, to_z, of_z, w32, rules}
+use Rattle.jb2_numbers.specs.declared.reader.NumberStep.TheVariants as told
+use Rattle.zp_decoder.specs.Chunk.{Chunk}
+use Rattle.jb2_numbers.specs.Kept.{phase_in}
+use Rattle.jb2_numbers.specs.Number.{Wanted, Reading}
+use Rattle.jb2_numbers.specs.Phases.{Known}
+use Rattle.jb2_numbers.specs.Reader.{Reader, Stands}
+use Rattle.jb2_numbers.proofs.Sound.{few_reader}
+use Rattle.jb2_numbers.proofs.Stepping.{Comes, stands_moved, known_ends, ends_there, told_within, number_same}
 use Rattle.jb2_numbers.proofs.reader.NumberReader.advance.Goals as goal
 
-pub decisions-init : goal.decisions-init
-decisions-init g c = record {
-  stands = λ wanted chunk before reading start. stands_first wanted chunk before reading c.args.self.now c.args.contexts.now c.args.zp.now (g.M.Meter.count c.args.meter.now) start;
-  more = omega arith;
-  few = omega arith;
-  below = c.requires;
-  table = refl;
-  ended = refl;
-}
+pub returns-in-Known-clause-answer : goal.returns-in-Known-clause-answer
+returns-in-Known-clause-answer g c wanted chunk before reading memory start =
+    let fits : to_z w32 (of_z w32 c.in-Known.value) ≡ c.in-Known.value = search rules in
+    let few = few_reader c.self.inside.path (phase_in c.self.inside.phase) c.args.self.now.decisions (ap (λ (r : Reader). r.decisions) c.self.view_is) c.self.invariant in
+    let known : c.args.self.now.phase ≡ Known c.in-Known.value = ap (λ (r : Reader). r.phase) (sym c.self.view_is) ∙ ap phase_in c.in-Known.is in
+    let comes = ends_there wanted chunk before reading (told.Number c.in-Known.value) c.args.self.now c.args.self.now c.args.contexts.now c.args.zp.now (g.M.Meter.count c.args.meter.now)
+    (known_ends wanted chunk before reading c.args.self.now c.args.contexts.now c.args.zp.now (g.M.Meter.count c.args.meter.now) c.in-Known.value few known start) in
+    ap (λ (v : ℤ). told.Number v) fits ∙ comes.answer (λ none. cc)
 
-pub decisions-preserved : goal.decisions-preserved
-decisions-preserved g c =
-    let first : ℕ = c.args.self.now.path.count in
-    let now : ℕ = c.decisions.self.path.count in
-    let next : ℕ = c.step.new.self.path.count in
-    let one : next ≡ now + 1 = c.in_default.ensures.one refl in
-    let low : now < 36 = c.in_default.ensures.few refl in
-    let more : first ≤ now = c.decisions.invariant.more in
-    let later : next - first ≡ suc (now - first) = omega arith in
+pub returns-in-Known-clause-stands : goal.returns-in-Known-clause-stands
+returns-in-Known-clause-stands g c wanted chunk before reading memory start =
+    let few = few_reader c.self.inside.path (phase_in c.self.inside.phase) c.args.self.now.decisions (ap (λ (r : Reader). r.decisions) c.self.view_is) c.self.invariant in
+    let known : c.args.self.now.phase ≡ Known c.in-Known.value = ap (λ (r : Reader). r.phase) (sym c.self.view_is) ∙ ap phase_in c.in-Known.is in
+    let comes = ends_there wanted chunk before reading (told.Number c.in-Known.value) c.args.self.now c.args.self.now c.args.contexts.now c.args.zp.now (g.M.Meter.count c.args.meter.now)
+    (known_ends wanted chunk before reading c.args.self.now c.args.contexts.now c.args.zp.now (g.M.Meter.count c.args.meter.now) c.in-Known.value few known start) in
+    comes.stands (λ none. cc)
+
+pub returns-in-Known-clause-within : goal.returns-in-Known-clause-within
+returns-in-Known-clause-within g c wanted bounds underway =
+    let fits : to_z w32 (of_z w32 c.in-Known.value) ≡ c.in-Known.value = search rules in
+    let known : c.args.self.now.phase ≡ Known c.in-Known.value = ap (λ (r : Reader). r.phase) (sym c.self.view_is) ∙ ap phase_in c.in-Known.is in
     record {
-      stands = λ wanted chunk before reading start.
-          subst (λ (k : ℕ). Stands wanted chunk before (steps k wanted chunk reading) c.step.new.self c.step.new.contexts c.step.new.zp (g.M.Meter.count c.step.new.meter)) (sym later)
-          (c.in_default.ensures.goes refl wanted chunk before (steps (now - first) wanted chunk reading) (c.decisions.invariant.stands wanted chunk before reading start));
-      more = omega arith;
-      few = omega arith;
-      below = c.step.ensures.below;
-      table = c.step.ensures.table ∙ c.decisions.invariant.table;
-      ended = c.step.ensures.ended ∙ c.decisions.invariant.ended;
+      value = λ value is. told_within wanted c.args.self.now value bounds underway (known ∙ ap (λ (v : ℤ). Known v) (sym fits ∙ number_same (to_z w32 (of_z w32 c.in-Known.value)) value is));
+      goes = underway;
     }
 
-pub returns-in-Some-clause-answer : goal.returns-in-Some-clause-answer
-returns-in-Some-clause-answer g c wanted chunk before reading memory start =
-    let count : ℕ = c.decisions.self.path.count - c.args.self.now.path.count in
-    let here = c.decisions.invariant.stands wanted chunk before reading start in
-    let ends : Ends wanted chunk (steps count wanted chunk reading) c.in-Some.answer = c.in-Some.ensures.ends c.in-Some.answer wanted chunk before (steps count wanted chunk reading) refl memory here in
-    sym (ap (answer_at wanted chunk) (read_on-ended wanted chunk reading count c.decisions.invariant.few ends.last) ∙ ends.answer)
-
-pub returns-in-Some-clause-stands : goal.returns-in-Some-clause-stands
-returns-in-Some-clause-stands g c wanted chunk before reading memory start =
-    let count : ℕ = c.decisions.self.path.count - c.args.self.now.path.count in
-    let here = c.decisions.invariant.stands wanted chunk before reading start in
-    let ends : Ends wanted chunk (steps count wanted chunk reading) c.in-Some.answer = c.in-Some.ensures.ends c.in-Some.answer wanted chunk before (steps count wanted chunk reading) refl memory here in
-    subst (λ (r : Reading). Stands wanted chunk before r c.step.new.self c.step.new.contexts c.step.new.zp (g.M.Meter.count c.step.new.meter))
-    (sym (read_on-ended wanted chunk reading count c.decisions.invariant.few ends.last))
-    (c.in-Some.ensures.stays c.in-Some.answer wanted chunk before (steps count wanted chunk reading) refl here)
-
-pub returns-in-Some-clause-out_of_memory : goal.returns-in-Some-clause-out_of_memory
-returns-in-Some-clause-out_of_memory g c wanted chunk before reading memory start =
-    let count : ℕ = c.decisions.self.path.count - c.args.self.now.path.count in
-    let here = c.decisions.invariant.stands wanted chunk before reading start in
-    (count, c.in-Some.ensures.stays c.in-Some.answer wanted chunk before (steps count wanted chunk reading) refl here)
+pub returns-in-Ok : goal.returns-in-Ok
+returns-in-Ok g c =
+    let comes : (wanted : Wanted) (chunk : Chunk) (before : ℕ) (reading : Reading) → Stands wanted chunk before reading c.args.self.now c.args.contexts.now c.args.zp.now (g.M.Meter.count c.args.meter.now) →
+    Comes wanted chunk before reading c.read_on.result c.read_on.new.self c.read_on.new.contexts c.read_on.new.zp (g.M.Meter.count c.read_on.new.meter) = λ wanted chunk before reading start.
+    ends_there wanted chunk before reading c.read_on.result c.args.self.now c.read_on.new.self c.read_on.new.contexts c.read_on.new.zp (g.M.Meter.count c.read_on.new.meter)
+    (c.read_on.ensures.ends wanted chunk before reading
+    (stands_moved wanted chunk before reading c.args.self.now c.args.contexts.now c.find.new.self c.args.zp.now (g.M.Meter.count c.args.meter.now) c.find.ensures.same start)) in
+    record {
+      answer = λ wanted chunk before reading memory start. (comes wanted chunk before reading start).answer memory;
+      stands = λ wanted chunk before reading memory start. (comes wanted chunk before reading start).stands memory;
+      out_of_memory = λ wanted chunk before reading memory start.
+          let ends = c.read_on.ensures.ends wanted chunk before reading
+          (stands_moved wanted chunk before reading c.args.self.now c.args.contexts.now c.find.new.self c.args.zp.now (g.M.Meter.count c.args.meter.now) c.find.ensures.same start) in
+          (ends.count, ends.stands);
+      within = λ wanted bounds underway. record {
+        value = λ value is. told_within wanted c.read_on.new.self value bounds (c.read_on.ensures.underway wanted underway) (c.read_on.ensures.known value is);
+        goes = c.read_on.ensures.underway wanted underway;
+      };
+      below = c.read_on.ensures.below;
+      table = c.read_on.ensures.table;
+      ended = c.read_on.ensures.ended;
+    }

@@ -6,23 +6,18 @@ use Rattle.jb2_records.proofs.coder.Coder.read_row.Goals.{in-Bit, in-NeedBytes, 
 
 pub returns : goal.returns
 returns c =
-    let old : Parts = record { zp = c.self.inside.zp; numbers = c.self.inside.numbers; pixels = c.self.inside.pixels; flag = c.self.inside.flag; row = c.self.inside.row; count = c.self.inside.meter } in
-    let new : Parts = record { zp = c.decode.new.self; numbers = c.self.inside.numbers; pixels = c.self.inside.pixels; flag = c.self.inside.flag; row = c.decode.new.ctx; count = c.decode.new.meter } in
-    let same : c.match-decode.result ≡ bit_result c.decode.result =
-    elim c.match-decode.branch [
+    let old : Parts = record { zp = c.self.inside.zp; unread = c.self.inside.unread; numbers = c.self.inside.numbers; pixels = c.self.inside.pixels; flag = c.self.inside.flag; row = c.self.inside.row; count = c.self.inside.meter } in
+    let new : Parts = record { zp = c.decide.new.zp; unread = c.decide.new.self; numbers = c.self.inside.numbers; pixels = c.self.inside.pixels; flag = c.self.inside.flag; row = c.decide.new.state; count = c.decide.new.meter } in
+    let same : c.match-decide.result ≡ bit_result c.decide.result =
+    elim c.match-decide.branch [
       | in-Bit w ↦ w.result-is ∙ sym (ap bit_result w.in-Bit.is)
       | in-NeedBytes w ↦ w.result-is ∙ sym (ap bit_result w.in-NeedBytes.is)
       | in-Exhausted w ↦ w.result-is ∙ sym (ap bit_result w.in-Exhausted.is)
     ] in
     λ source at stands.
-    row_told old new c.decode.result c.match-decode.result
+    row_told old new c.decide.result c.match-decide.result
     (record {
-      answer = c.decode.ensures.answer;
-      fed = c.decode.ensures.fed;
-      context = c.decode.ensures.context;
-      table = c.decode.ensures.table;
-      ended = c.decode.ensures.ended;
-      ticks = c.decode.ensures.ticks;
+      decides = c.decide.ensures.decides;
       numbers = refl;
       pixels = refl;
     }) refl same source at (subst (λ (p : Parts). Stands source at p) (sym c.self.view_is) stands)

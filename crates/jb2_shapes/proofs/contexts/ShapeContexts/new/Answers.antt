@@ -1,4 +1,5 @@
-use Rattle.jb2_shapes.proofs.Numbering.{all_zero, fresh_below}
+use Rattle.zp_decoder.proofs.Lemmas.{fresh_below}
+use Rattle.jb2_shapes.proofs.Numbering.{all_zero}
 use Rattle.jb2_shapes.proofs.contexts.ShapeContexts.new.Goals as goal
 
 pub returns-clause-fresh : goal.returns-clause-fresh

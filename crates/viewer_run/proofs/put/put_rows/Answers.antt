@@ -2,7 +2,7 @@ use Rattle.std.proofs.Common.{◌≡◌, ℕ, ◌+◌, ◌-◌, ◌++◌, List, 
 use Rattle.std.proofs.lemmas.Result.{err_from_is_err_and}
 use Rattle.std.proofs.lemmas.List.{append_assoc}
 use Rattle.djvu_outside.specs.Reading.{GrowsWithin}
-use Rattle.layer_compose.specs.Drawing.{samples_of, rows_of}
+use Rattle.layer_compose.specs.Drawing.{samples_of, rows_of, drawing_height}
 use Rattle.djvu_outside.proofs.Lemmas.{grows_after}
 use Rattle.viewer_run.proofs.Rows.{rows_more, rows_left}
 use Rattle.viewer_run.proofs.put.put_rows.Goals as goal
@@ -13,7 +13,7 @@ returns-in_err-put_block-clause-taken g c before given =
     let law = c.rows_make_the_raster.ensures in
     let done : ℕ = c.loop-done.done in
     let now : ℕ = c.min-now.result in
-    let height : ℕ = layers.height in
+    let height : ℕ = drawing_height layers in
     let left : ℕ = height - (done + now) in
     let part : List ℕ = rows_of layers 0 done in
     let text : List ℕ = rows_of layers done now in

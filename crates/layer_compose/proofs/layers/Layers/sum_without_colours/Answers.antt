@@ -1,8 +1,8 @@
 use Rattle.std.proofs.Common.{◌≡◌, ◌*◌, ◌+◌, arith, ap, ◌∙◌}
 use Rattle.layer_compose.specs.Drawing.{white_count}
 use Rattle.layer_compose.proofs.Summing.{sum_of_white, all_white, others_white}
-use Rattle.layer_compose.proofs.layers.Layers.sum.Goals as goal
-use Rattle.layer_compose.proofs.layers.Layers.sum.Goals.{in-Some, in-None}
+use Rattle.layer_compose.proofs.layers.Layers.sum_without_colours.Goals as goal
+use Rattle.layer_compose.proofs.layers.Layers.sum_without_colours.Goals.{in-Some, in-None}
 
 pub returns : goal.returns
 returns c =
@@ -18,5 +18,5 @@ returns c =
           let none : c.match-self.black ≡ 0 = w.black-is in
           omega arith
     ] in
-    let sum = sum_of_white c.args.self.now in
+    let sum = sum_of_white c.args.self.now c.requires.front c.requires.back in
     omega arith

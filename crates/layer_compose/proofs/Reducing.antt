@@ -4,6 +4,7 @@ use Rattle.std.specs.Int.{div_ceil}
 use Rattle.std.specs.Option.{IfSome, IsSome, unwrap_or}
 use Rattle.std.proofs.lemmas.Bool.{cases_lt}
 use Rattle.std.proofs.lemmas.Nat.{mul-le, div-add-mod'}
+use Rattle.std.proofs.lemmas.Grind.{div_ceil_times}
 use Rattle.djvu_base.specs.Picture.{Picture}
 use Rattle.bit_plane.specs.Pixels.{Pixels}
 use Rattle.layer_compose.specs.declared.layers.Layers.{Layers}
@@ -135,25 +136,47 @@ unwrapped : (k : Option ℕ) → IsSome k → k ≡ Some (unwrap_or k 1)
 unwrapped (Some k) is = refl
 unwrapped None is = let f : false ≡ true = is in absurd (let g : true ≡ false = sym f in cc)
 
--- the pixel of a layer that a place has lies in it
-covers_picture : (page : ℕ × ℕ) (picture : Picture) (x y k : ℕ) → reduction_of page (picture.width, picture.height) ≡ Some k → x < page.0 → y < page.1 →
-    (x / k < picture.width) × (y / k < picture.height)
-covers_picture page picture x y k is column row =
+-- a layer that has a reduction has the page's sizes, divided by it and rounded up
+divided : (page : ℕ × ℕ) (picture : Picture) (k : ℕ) → reduction_of page (picture.width, picture.height) ≡ Some k →
+    (0 < k) × (div_ceil page.0 k ≡ picture.width) × (div_ceil page.1 k ≡ picture.height)
+divided page picture k is =
     let first = reduction_is page (picture.width, picture.height) k is in
     let both = both_true (eqb (div_ceil page.0 k) picture.width) (eqb (div_ceil page.1 k) picture.height) first.passes in
-    let wide : div_ceil page.0 k ≡ picture.width = equal_is (div_ceil page.0 k) picture.width both.0 in
-    let high : div_ceil page.1 k ≡ picture.height = equal_is (div_ceil page.1 k) picture.height both.1 in
-    let some : 0 < k = omega (arith, first.some) in (
-      subst (λ n. x / k < n) wide (within_layer x page.0 k some column),
-      subst (λ n. y / k < n) high (within_layer y page.1 k some row),
-    )
+    (omega (arith, first.some), equal_is (div_ceil page.0 k) picture.width both.0, equal_is (div_ceil page.1 k) picture.height both.1)
 
+-- the reduction of a layer of a page that can be drawn
+of_layers : (layers : Layers) (picture : Picture) → ColourFits layers (Some picture) →
+    reduction_of (layers.width, layers.height) (picture.width, picture.height) ≡ Some (reduction_in layers (Some picture))
+of_layers layers picture fits = unwrapped (reduction_of (layers.width, layers.height) (picture.width, picture.height)) fits
+
+-- the pixel of a layer that a place has lies in it
 pub covers : (layers : Layers) (colour : Option Picture) (x y : ℕ) → ColourFits layers colour → x < layers.width → y < layers.height →
     Covers colour (reduction_in layers colour) x y
 covers layers None x y fits column row = tt
 covers layers (Some picture) x y fits column row =
-    covers_picture (layers.width, layers.height) picture x y (reduction_in layers (Some picture))
-    (unwrapped (reduction_of (layers.width, layers.height) (picture.width, picture.height)) fits) column row
+    let k : ℕ = reduction_in layers (Some picture) in
+    let sizes = divided (layers.width, layers.height) picture k (of_layers layers picture fits) in (
+      subst (λ n. x / k < n) sizes.1 (within_layer x layers.width k sizes.0 column),
+      subst (λ n. y / k < n) sizes.2 (within_layer y layers.height k sizes.0 row),
+    )
+
+-- so does its row, for a row of the page
+pub row_in_layer : (layers : Layers) (colour : Option Picture) (y : ℕ) → ColourFits layers colour → y < layers.height →
+    IfSome colour (λ picture. y / reduction_in layers colour < picture.height)
+row_in_layer layers None y fits row = tt
+row_in_layer layers (Some picture) y fits row =
+    let k : ℕ = reduction_in layers (Some picture) in
+    let sizes = divided (layers.width, layers.height) picture k (of_layers layers picture fits) in
+    subst (λ n. y / k < n) sizes.2 (within_layer y layers.height k sizes.0 row)
+
+-- widened, a layer has all columns of the page
+pub wide_enough : (layers : Layers) (colour : Option Picture) → ColourFits layers colour → IfSome colour (λ picture. layers.width ≤ picture.width * reduction_in layers colour)
+wide_enough layers None fits = tt
+wide_enough layers (Some picture) fits =
+    let k : ℕ = reduction_in layers (Some picture) in
+    let sizes = divided (layers.width, layers.height) picture k (of_layers layers picture fits) in
+    let enough = div_ceil_times layers.width k sizes.0 in
+    subst (λ n. layers.width ≤ n * k) sizes.1 enough.0
 
 -- a reduction is at least 1
 some_by : (k : Option ℕ) → ((n : ℕ) → k ≡ Some n → 1 ≤ n) → 0 < unwrap_or k 1

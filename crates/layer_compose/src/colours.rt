@@ -1,7 +1,7 @@
 //! Colours of pixels.
 ghost use Rattle.std.specs.Prelude.{◌≡◌, ℕ, ◌+◌, ◌*◌, ◌<◌, ◌≤◌, ◌==◌, length, IfSome};
 ghost use Rattle.layer_compose.specs.Drawing.{picture_sample, layer_sample};
-ghost use Rattle.layer_compose.specs.Laying.{channel_of, IsColour, Lays, Covers};
+ghost use Rattle.layer_compose.specs.Laying.{channel_of, IsColour, Lays, Covers, in_span};
 
 use djvu_base::Raster;
 
@@ -69,5 +69,16 @@ impl Colour {
         out[3 * at] = self.red;
         out[3 * at + 1] = self.green;
         out[3 * at + 2] = self.blue;
+    }
+
+    /// Lays the colour over the pixels from one on and before another.
+    pub fn lay_run(self, out: &mut [u8], from: usize, to: usize)
+        requires order { from ≤ to }
+        requires room { 3 * to ≤ length out.old }
+        ensures { Lays (in_span from to) (λ pixel channel. channel_of self channel) out.old out.new }
+    {
+        for at in from..to {
+            self.lay(out, at);
+        }
     }
 }

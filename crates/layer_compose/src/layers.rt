@@ -5,6 +5,7 @@ ghost use Rattle.layer_compose.specs.Laying.{IsColour, row_sum};
 
 use crate::colours::Colour;
 use crate::reductions::reduction;
+use crate::rows::{lay_layer, lay_masked};
 use bit_plane::Plane;
 use djvu_base::{Raster, Turn};
 use std::alloc::{AllocError, Global};
@@ -67,7 +68,15 @@ impl Layers {
         requires room { length out.old ≡ 3 * drawing_width self.now }
         ensures { out.new ≡ row_of self.now y }
     {
-        self.row_by_steps(y, 1, self.drawing_width(), out);
+        match self.turn {
+            Turn::Upright => self.coded_row(self.height - 1 - y, out),
+            Turn::Right | Turn::Over | Turn::Left => self.row_by_steps(
+                y,
+                1,
+                self.drawing_width(),
+                out,
+            ),
+        }
     }
 
     /// Writes the samples of so many rows of the drawing, one behind the other, from a row on.
@@ -122,6 +131,20 @@ impl Layers {
         let mut samples = white(alloc, 3 * columns as usize * rows as usize)?;
         self.rows_by_steps(step, columns, rows, &mut samples);
         Ok(Raster::new(columns, rows, samples))
+    }
+
+    /// Writes the samples of a row of the page as it is coded, counted from the bottom.
+    fn coded_row(&self, y: u32, out: &mut [u8])
+        requires drawable { IsDrawable self.now }
+        requires row { y < self.now.height }
+        requires room { length out.old ≡ 3 * self.now.width }
+        ensures { out.new ≡ samples_by self.now.width 1 (λ x row channel. sample_at self.now x y channel) }
+    {
+        let by = self.reductions();
+        lay_layer(&self.back, 255, by.back, self.width, y, out);
+        if let Some(mask) = &self.mask {
+            lay_masked(mask, &self.front, by.front, y, out);
+        }
     }
 
     /// Writes so many pixels of so many rows of the drawing, both so many steps apart, from the top left on.

@@ -13,6 +13,7 @@ mod colours;
 pub mod laws;
 mod layers;
 mod reductions;
+mod rows;
 
 pub use layers::Layers;
 pub use reductions::reduction;

@@ -1,7 +1,7 @@
 use Rattle.std.proofs.Common.{◌≡◌, ◌*◌, ℕ, length, arith, rules, subst}
 use Rattle.layer_compose.specs.Drawing.{sample_from_top}
-use Rattle.layer_compose.specs.Laying.{Lays}
-use Rattle.layer_compose.proofs.Laying.{below, row_whole}
+use Rattle.layer_compose.specs.Laying.{Lays, below}
+use Rattle.layer_compose.proofs.Laying.{row_whole}
 use Rattle.layer_compose.proofs.layers.Layers.row_by_steps.Goals as goal
 
 pub returns : goal.returns

@@ -1,7 +1,6 @@
 use Rattle.std.proofs.Common.{◌*◌}
 use Rattle.layer_compose.specs.Drawing.{sample_from_top}
-use Rattle.layer_compose.specs.Laying.{Lays}
-use Rattle.layer_compose.proofs.Laying.{below}
+use Rattle.layer_compose.specs.Laying.{Lays, below}
 use Rattle.layer_compose.proofs.layers.Layers.row_by_steps.Given as goal
 
 abbrev pub invariant-loop-x : goal.invariant-loop-x

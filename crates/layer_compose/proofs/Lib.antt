@@ -15,3 +15,5 @@ mod CodedRows
 mod Steps
 -- Layers::sum; laws sums_count_white, turning_changes_no_sum, white_without_layers
 mod Summing
+-- Layers::row_sum, sum_on, count_on, count_masked
+mod SideSums

@@ -188,3 +188,16 @@ reduction_some layers None = omega arith
 reduction_some layers (Some picture) =
     some_by (reduction_of (layers.width, layers.height) (picture.width, picture.height))
     (λ k is. (reduction_is (layers.width, layers.height) (picture.width, picture.height) k is).some)
+
+-- a reduction is at most 12
+most_by : (k : Option ℕ) → ((n : ℕ) → k ≡ Some n → n < 13) → unwrap_or k 1 ≤ 12
+most_by None few = omega arith
+most_by (Some k) few = omega (arith, few k refl)
+
+pub reduction_most : (layers : Layers) (colour : Option Picture) → reduction_in layers colour ≤ 12
+reduction_most layers None = omega arith
+reduction_most layers (Some picture) =
+    most_by (reduction_of (layers.width, layers.height) (picture.width, picture.height))
+    (λ k is.
+    let first = reduction_is (layers.width, layers.height) (picture.width, picture.height) k is in
+    omega (arith, first.within))

@@ -16,13 +16,13 @@ use Rattle.layer_compose.proofs.Reducing.{sizes_of}
 
 -- ---- sums over the first numbers
 
-total_times : (m : ℕ) (f : ℕ → ℕ) (n : ℕ) → total (λ i. m * f i) n ≡ m * total f n
+pub total_times : (m : ℕ) (f : ℕ → ℕ) (n : ℕ) → total (λ i. m * f i) n ≡ m * total f n
 total_times m f zero = omega arith
 total_times m f (suc n) =
     let before = total_times m f n in
     grind arith
 
-total_added : (f g : ℕ → ℕ) (n : ℕ) → total (λ i. f i + g i) n ≡ total f n + total g n
+pub total_added : (f g : ℕ → ℕ) (n : ℕ) → total (λ i. f i + g i) n ≡ total f n + total g n
 total_added f g zero = refl
 total_added f g (suc n) =
     let before = total_added f g n in

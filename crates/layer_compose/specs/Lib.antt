@@ -3,4 +3,5 @@ pub use Rattle.bit_plane.specs.Pixels
 pub mod Reduction
 pub mod Drawing
 pub mod Laying
+pub mod Sides
 pub mod Worked

@@ -6,6 +6,7 @@ ghost use Rattle.layer_compose.specs.Laying.{IsColour, row_sum};
 use crate::colours::Colour;
 use crate::reductions::reduction;
 use crate::rows::{lay_layer, lay_masked};
+use crate::sums::{Side, sum_on};
 use bit_plane::Plane;
 use djvu_base::{Raster, Turn};
 use std::alloc::{AllocError, Global};
@@ -267,13 +268,18 @@ impl Layers {
         requires front { by.front ≡ reduction_in self.now self.now.front }
         requires back { by.back ≡ reduction_in self.now self.now.back }
         ensures sum { result ≡ row_sum self.now y }
-        ensures most { result ≤ 765 * self.now.width }
+        ensures most { result ≤ 1530 * self.now.width }
     {
-        let mut total = 0u64;
-        for x in 0..self.width {
-            total += self.colour_at(by, x, y).sum();
-        }
-        total
+        let front = sum_on(
+            Side::Front,
+            &self.mask,
+            &self.front,
+            by.front,
+            self.width,
+            y,
+        );
+        let back = sum_on(Side::Back, &self.mask, &self.back, by.back, self.width, y);
+        front + back
     }
 }
 

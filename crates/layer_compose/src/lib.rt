@@ -14,6 +14,7 @@ pub mod laws;
 mod layers;
 mod reductions;
 mod rows;
+mod sums;
 
 pub use layers::Layers;
 pub use reductions::reduction;

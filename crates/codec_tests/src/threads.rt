@@ -1,6 +1,7 @@
 //! Values that threads will hold or share.
 
 use bit_plane::Plane;
+use djvu_base::Turn;
 use iw44_blocks::{Coefficients, Grid};
 use jb2_numbers::NumberContexts;
 use jb2_records::{Dictionary, MaskReader};
@@ -35,6 +36,7 @@ fn hand_on(alloc: Global) -> Result<(), AllocError> {
     let layers = Layers {
         width: 3,
         height: 2,
+        turn: Turn::Upright,
         mask: None,
         front: None,
         back: None,

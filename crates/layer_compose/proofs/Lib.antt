@@ -1,13 +1,19 @@
 -- The lemmas of this crate, lowest first; above each stand the functions and laws whose clauses it ends in, or the files that cite it.
--- blacken_run
-mod Pixelwise
--- Layers::preview, Layers::row
-mod DrawnRows
--- blacken_row, blacken_steps
-mod MaskRows
+-- laws reductions_are_least; Layers::colour_at
+mod Reducing
+-- Colour::lay_run, lay_layer, widen, Layers::coded_row, Layers::row_by_steps; Masking
+mod Laying
+-- lay_masked, lay_digits
+mod Masking
+-- Layers::drawn_colour; laws turns_go_round, samples_come_from_layers
+mod Turning
 -- Layers::compose, Layers::rows; laws rows_make_the_raster
 mod RowLists
--- blacken_steps; laws previews_fit
+-- Layers::coded_row, Layers::row
+mod CodedRows
+-- Layers::preview; laws previews_fit
 mod Steps
--- Layers::sum; laws sums_count_white, white_without_mask
+-- Layers::sum; laws sums_count_white, turning_changes_no_sum, white_without_layers
 mod Summing
+-- Layers::row_sum, sum_on, count_on, count_masked
+mod SideSums

@@ -1,11 +1,11 @@
 -- Pixels that are so many steps apart.
-use Rattle.std.proofs.Common.{◌≡◌, ℕ, ◌+◌, ◌*◌, ◌/◌, ◌%◌, ◌<◌, ◌≤◌, inl, inr, arith, ap}
+use Rattle.std.proofs.Common.{◌≡◌, ℕ, ◌+◌, ◌*◌, ◌/◌, ◌<◌, ◌≤◌, inl, inr, List, arith, ap, ◌∙◌}
 use Rattle.std.specs.Int.{div_ceil}
-use Rattle.std.proofs.Math.Nat.{mul_comm, mul_assoc}
 use Rattle.std.proofs.lemmas.Bool.{cases_lt}
-use Rattle.std.proofs.lemmas.Nat.{mul-le, div_below, mod_below, div-add-mod'}
-use Rattle.bit_plane.proofs.Lemmas.{wide}
-use Rattle.layer_compose.specs.Drawing.{step_of}
+use Rattle.std.proofs.lemmas.Nat.{mul-le, div-add-mod'}
+use Rattle.djvu_base.specs.Picture.{Picture}
+use Rattle.layer_compose.specs.declared.layers.Layers.{Layers}
+use Rattle.layer_compose.specs.Drawing.{step_of, samples_by, sample_from_top, drawing_width, drawing_height, preview_samples, preview_of}
 
 -- what so many whole steps lead to is within, as long as they are fewer than there are
 within_steps : (q n step : ℕ) → 0 < step → q < div_ceil n step → q * step < n
@@ -22,33 +22,28 @@ within_steps q n step some fewer =
           omega arith
     ]
 
--- a pixel of the preview is below their number
-below_count : (across down count pixel : ℕ) → count ≡ 3 * across * down → pixel < count / 3 → pixel < across * down
-below_count across down count pixel is below =
-    let all = mul_assoc 3 across down in
-    omega arith
+-- the same with numbers that are known by equations
+pub steps_within : (n wide step count : ℕ) → 0 < step → wide ≡ n → count ≡ div_ceil wide step → (x : ℕ) → x < count → x * step < n
+steps_within n wide step count some is fewer x below =
+    let few : count ≡ div_ceil n step = fewer ∙ ap (λ k. div_ceil k step) is in
+    within_steps x n step some (omega arith)
 
-column_within : (w h step count pixel : ℕ) → 0 < step → count ≡ 3 * div_ceil w step * div_ceil h step → pixel < count / 3 → pixel % div_ceil w step * step < w
-column_within w h step count pixel some is below =
-    let index = below_count (div_ceil w step) (div_ceil h step) count pixel is below in
-    within_steps (pixel % div_ceil w step) w step some (mod_below pixel (div_ceil w step) (wide (div_ceil w step) (div_ceil h step) pixel index))
+-- ---- what a preview is
 
-row_within : (w h step count pixel : ℕ) → 0 < step → count ≡ 3 * div_ceil w step * div_ceil h step → pixel < count / 3 → pixel / div_ceil w step * step < h
-row_within w h step count pixel some is below =
-    let index = below_count (div_ceil w step) (div_ceil h step) count pixel is below in
-    within_steps (pixel / div_ceil w step) h step some
-    (div_below pixel (div_ceil w step) (div_ceil h step) (wide (div_ceil w step) (div_ceil h step) pixel index) (omega (arith, mul_comm (div_ceil w step) (div_ceil h step))))
-
--- the same with a number of columns that is known by an equation
-pub column_below : (w h step across count pixel : ℕ) → across ≡ div_ceil w step → 0 < step → count ≡ 3 * div_ceil w step * div_ceil h step → pixel < count / 3 →
-    pixel % across * step < w
-column_below w h step across count pixel is some room below =
-    omega (arith, column_within w h step count pixel some room below, ap (λ n. pixel % n * step) is)
-
-pub row_below : (w h step across count pixel : ℕ) → across ≡ div_ceil w step → 0 < step → count ≡ 3 * div_ceil w step * div_ceil h step → pixel < count / 3 →
-    pixel / across * step < h
-row_below w h step across count pixel is some room below =
-    omega (arith, row_within w h step count pixel some room below, ap (λ n. pixel / n * step) is)
+pub preview_is : (layers : Layers) (width height step across down : ℕ) (samples : List ℕ) (result : Picture) → result ≡ record { width = across; height = down; samples = samples } →
+    width ≡ drawing_width layers → height ≡ drawing_height layers → step ≡ step_of width height → across ≡ div_ceil width step → down ≡ div_ceil height step →
+    samples ≡ samples_by across down (λ x y channel. sample_from_top layers (x * step) (y * step) channel) → result ≡ preview_of layers
+unfolding preview_samples
+preview_is layers width height step across down samples result is wide high least columns rows same =
+    let sample : ℕ → ℕ → ℕ → ℕ → ℕ = λ s x y channel. sample_from_top layers (x * s) (y * s) channel in
+    let picture : ℕ → ℕ → ℕ → Picture = λ s w h. record { width = w; height = h; samples = samples_by w h (sample s) } in
+    is
+    ∙ ap (λ xs. record { width = across; height = down; samples = xs }) same
+    ∙ ap (λ w. picture step w down) columns
+    ∙ ap (picture step (div_ceil width step)) rows
+    ∙ ap (λ s. picture s (div_ceil width s) (div_ceil height s)) least
+    ∙ ap (λ w. picture (step_of w height) (div_ceil w (step_of w height)) (div_ceil height (step_of w height))) wide
+    ∙ ap (λ h. picture (step_of (drawing_width layers) h) (div_ceil (drawing_width layers) (step_of (drawing_width layers) h)) (div_ceil h (step_of (drawing_width layers) h))) high
 
 -- ---- the least step
 

@@ -18,6 +18,7 @@ use Rattle.jb2_records.specs.declared.reader.Jb2Step.{Jb2Step}
 use Rattle.jb2_records.specs.declared.reader.Jb2Step.TheVariants as answer
 use Rattle.jb2_records.specs.Reading as jb2
 use Rattle.jb2_records.specs.Mask.{mask_drawn}
+use Rattle.djvu_base.specs.declared.turns.Turn.TheVariants.{Upright}
 use Rattle.layer_compose.specs.declared.layers.Layers.{Layers}
 use Rattle.page_decoder.specs.declared.page.Size.{Size}
 
@@ -83,10 +84,10 @@ size_fault size =
 
 -- a page of this size on which nothing is laid
 abbrev pub blank_page : Size → Layers
-blank_page size = record { width = size.width; height = size.height; mask = None; front = None; back = None }
+blank_page size = record { width = size.width; height = size.height; turn = Upright; mask = None; front = None; back = None }
 
 abbrev pub with_mask : Layers → Pixels → Layers
-with_mask layers mask = record { width = layers.width; height = layers.height; mask = Some mask; front = layers.front; back = layers.back }
+with_mask layers mask = record layers { mask = Some mask }
 
 abbrev pub mask_in : Option Layers → Option Pixels
 mask_in None = None

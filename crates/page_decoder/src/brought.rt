@@ -10,7 +10,7 @@ ghost use Rattle.page_decoder.specs.Brought.{fault_of, laid, IsBrought};
 
 use crate::page::{Size, is_info, is_mask, size_fault, size_in};
 use bit_plane::Plane;
-use djvu_base::{FaultKind, Meter};
+use djvu_base::{FaultKind, Meter, Turn};
 use jb2_records::{Jb2Step, MaskReader};
 use layer_compose::Layers;
 use std::alloc::{AllocError, Global};
@@ -50,6 +50,7 @@ pub fn laid(layers: Option<Layers>, brought: Brought) -> Option<Layers>
         Brought::PageSize(size) => Some(Layers {
             width: u32::from(size.width),
             height: u32::from(size.height),
+            turn: Turn::Upright,
             mask: None,
             front: None,
             back: None,

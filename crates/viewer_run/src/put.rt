@@ -1,6 +1,6 @@
 //! Putting rasters into sinks.
 ghost use Rattle.std.specs.Prelude.{◌≡◌, ℕ, ◌+◌, ◌*◌, ◌<◌, ◌≤◌, IfOk, length, vec_len};
-ghost use Rattle.layer_compose.specs.Drawing.{samples_of, rows_of};
+ghost use Rattle.layer_compose.specs.Drawing.{samples_of, rows_of, drawing_width, drawing_height};
 ghost use Rattle.page_decoder.specs.Found.{CanDraw};
 ghost use Rattle.djvu_outside.specs.Parts.{SinkStops, Gives};
 ghost use Rattle.viewer_run.specs.Rasters.{raster_head, raster_text};
@@ -18,7 +18,7 @@ pub fn put_raster<S: Sink>(alloc: Global, sink: &mut S, layers: &Layers) -> Resu
     ensures taken { Gives result (S.given sink.old) (S.given sink.new) (raster_text layers.now) }
     ensures stops { SinkStops result (S.faults sink.old) (S.faults sink.new) }
 {
-    let head = raster_head(alloc, layers.width, layers.height)?;
+    let head = raster_head(alloc, layers.drawing_width(), layers.drawing_height())?;
     put_text(sink, head.as_slice())?;
     put_rows(alloc, sink, layers)
 }
@@ -30,12 +30,13 @@ fn put_rows<S: Sink>(alloc: Global, sink: &mut S, layers: &Layers) -> Result<(),
     ensures stops { SinkStops result (S.faults sink.old) (S.faults sink.new) }
 {
     layer_compose::laws::rows_make_the_raster();
-    let row = 3 * layers.width;
+    let row = 3 * layers.drawing_width();
+    let height = layers.drawing_height();
     let at_once = (BLOCK / row).max(1);
     let mut block = make_block(alloc, (at_once * row) as usize)?;
     let mut done = 0;
-    while done < layers.height {
-        let now = (layers.height - done).min(at_once);
+    while done < height {
+        let now = (height - done).min(at_once);
         put_block(sink, layers, done, now, &mut block[..(now * row) as usize])?;
         done += now;
     }
@@ -51,8 +52,8 @@ fn put_block<S: Sink>(
     block: &mut [u8],
 ) -> Result<(), Stop>
     requires drawable { CanDraw layers.now }
-    requires rows { from + count ≤ layers.now.height }
-    requires room { length block.old ≡ 3 * layers.now.width * count }
+    requires rows { from + count ≤ drawing_height layers.now }
+    requires room { length block.old ≡ 3 * drawing_width layers.now * count }
     ensures taken { Gives result (S.given sink.old) (S.given sink.new) (rows_of layers.now from count) }
     ensures stops { SinkStops result (S.faults sink.old) (S.faults sink.new) }
 {

@@ -2,7 +2,7 @@ use Rattle.std.proofs.Common.{◌≡◌, ◌++◌, [], refl, ap, sym, ◌∙◌,
 use Rattle.std.proofs.lemmas.List.{append-nil}
 use Rattle.std.proofs.lemmas.Result.{err_from_is_err_and}
 use Rattle.djvu_outside.specs.Reading.{GrowsWithin}
-use Rattle.layer_compose.specs.Drawing.{samples_of}
+use Rattle.layer_compose.specs.Drawing.{samples_of, drawing_width, drawing_height}
 use Rattle.viewer_run.specs.Rasters.{raster_head, raster_text}
 use Rattle.djvu_outside.specs.Parts.{Delivers}
 use Rattle.djvu_outside.proofs.Lemmas.{grows_within_more, delivers_after}
@@ -18,14 +18,20 @@ returns-in_err-put_text-clause-taken g c before given =
     let layers = c.args.layers.now in
     let took = c.in_err-put_text.ensures.taken before given in
     let p = err_from_is_err_and c.from_residual-in_err-put_text.result c.from_residual-in_err-put_text.ensures.1 in
-    let head : c.as_slice.result.now ≡ raster_head layers.width layers.height = c.as_slice.ensures.value ∙ c.in_ok-head.ensures in
-    rw p.1 (took.0, took.1, grows_within_more before (raster_head layers.width layers.height) (samples_of layers) took.0 (subst (λ t. GrowsWithin before t took.0) head took.2))
+    let head : c.as_slice.result.now ≡ raster_head (drawing_width layers) (drawing_height layers) =
+    c.as_slice.ensures.value ∙ c.in_ok-head.ensures
+    ∙ ap (λ w. raster_head w c.drawing_height.result) c.drawing_width.ensures.value
+    ∙ ap (raster_head (drawing_width layers)) c.drawing_height.ensures.value in
+    rw p.1 (took.0, took.1, grows_within_more before (raster_head (drawing_width layers) (drawing_height layers)) (samples_of layers) took.0 (subst (λ t. GrowsWithin before t took.0) head took.2))
 
 pub returns-clause-taken : goal.returns-clause-taken
 returns-clause-taken g c before given =
     let layers = c.args.layers.now in
     let took = c.in_ok-put_text.ensures.taken before given in
     let rows = c.put_rows.ensures.taken took.0 took.1 in
-    let head : c.as_slice.result.now ≡ raster_head layers.width layers.height = c.as_slice.ensures.value ∙ c.in_ok-head.ensures in
+    let head : c.as_slice.result.now ≡ raster_head (drawing_width layers) (drawing_height layers) =
+    c.as_slice.ensures.value ∙ c.in_ok-head.ensures
+    ∙ ap (λ w. raster_head w c.drawing_height.result) c.drawing_width.ensures.value
+    ∙ ap (raster_head (drawing_width layers)) c.drawing_height.ensures.value in
     let all : c.as_slice.result.now ++ samples_of layers ≡ raster_text layers = ap (λ h. h ++ samples_of layers) head in
     (rows.0, rows.1, subst (λ t. Delivers c.put_rows.result before t rows.0) all (delivers_after c.put_rows.result before c.as_slice.result.now took.0 _ rows.0 took.2 rows.2))

@@ -5,6 +5,7 @@ pub use Rattle.djvu_base.specs.Meter
 pub mod Faults
 pub mod Reading
 pub mod Parts
+pub mod Puts
 pub mod FileReads
 pub mod Cut
 -- the folders and sinks here

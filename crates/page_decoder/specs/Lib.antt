@@ -11,6 +11,7 @@ pub mod Reading
 pub mod Ends
 pub mod Found
 pub mod Progress
+pub mod Work
 pub mod Worked
 -- the inside of this crate
 pub mod Walk

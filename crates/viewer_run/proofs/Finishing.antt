@@ -1,33 +1,46 @@
 -- A page that isn't refused has the raster of its last drawing.
-use Rattle.std.proofs.Common.{◌≡◌, ◌≢◌, ℕ, false, Some, List, [], ◌∷◌, refl, ap, ◌∙◌}
+use Rattle.std.proofs.Common.{◌≡◌, ◌≢◌, ◌++◌, ℕ, false, Some, List, [], ◌∷◌, refl, ap, ◌∙◌}
 use Rattle.djvu_base.specs.Library.{File, Mark, Open}
+use Rattle.djvu_outside.specs.Puts.{to_out, to_report}
 use Rattle.zp_table.specs.declared.rows.Row.{Row}
 use Rattle.layer_compose.specs.declared.layers.Layers.{Layers}
 use Rattle.page_decoder.specs.Reading.{Notice, Ending, Finished, Fault, NeedBytes, Reading, reading}
 use Rattle.page_decoder.specs.Found.{last_layers}
+use Rattle.viewer_words.specs.Lines.{name_at}
 use Rattle.viewer_run.specs.Rasters.{raster_text}
-use Rattle.viewer_run.specs.Texts.{raster_of, texts_at, lines_of, texts_of_reading, texts_of_file}
+use Rattle.viewer_run.specs.Texts.{raster_of, lines_of, is_refused, lines_at, raster_at, texts_of_reading, texts_of_file}
 
 last_there : (notices : List Notice) → notices ≢ [] → (layers : Layers) × (last_layers notices ≡ Some layers)
 last_there [] some = absurd (some refl)
 last_there (notice ∷ []) some = (notice.layers, refl)
 last_there (notice ∷ next ∷ notices) some = last_there (next ∷ notices) (λ e. cc)
 
--- a page that isn't refused has the raster of its last drawing
+-- a page that isn't refused is finished, and what is put of it is its lines and the raster of its last drawing
+pub record IsDrawn (names : List (List ℕ)) (page : ℕ) (read : Reading) : Type 0 where
+  pub layers : Layers
+  pub last : last_layers read.notices ≡ Some layers
+  pub puts : (texts_of_reading names page read).puts ≡ to_report (lines_of (name_at names page) read.notices) ++ to_out (raster_text layers)
+
+pub is_drawn : (names : List (List ℕ)) (page : ℕ) (read : Reading) → (read.end ≡ Finished → read.notices ≢ []) → read.end ≢ NeedBytes → is_refused read.end ≡ false → IsDrawn names page read
+is_drawn names page read drawn known = ends_so read.end refl
+  where
+    ends_so : (end : Ending) → read.end ≡ end → is_refused end ≡ false → IsDrawn names page read
+    ends_so Finished e refused =
+        let there = last_there read.notices (drawn e) in
+        let lines = lines_of (name_at names page) read.notices in
+        record {
+          layers = there.0;
+          last = there.1;
+          puts = ap (λ x. to_report (lines_at names page lines x) ++ to_out (raster_at (raster_of (last_layers read.notices)) x)) e ∙ ap (λ l. to_report lines ++ to_out (raster_of l)) there.1;
+        }
+    ends_so (Fault kind offset) e refused = cc
+    ends_so NeedBytes e refused = absurd (known e)
+
 pub raster_there : ((rows : List Row) (mark : Mark) (bytes : List ℕ) → (reading rows mark bytes).end ≡ Finished → (reading rows mark bytes).notices ≢ [])
     → ((rows : List Row) (mark : Mark) (bytes : List ℕ) → mark ≢ Open → (reading rows mark bytes).end ≢ NeedBytes)
-    → (rows : List Row) (file : File) → file.mark ≢ Open → (texts_of_file rows file).refused ≡ false
-    → (layers : Layers) × (last_layers (reading rows file.mark file.bytes).notices ≡ Some layers) × ((texts_of_file rows file).out ≡ raster_text layers)
-raster_there is_drawn is_known rows file some = by (reading rows file.mark file.bytes) (is_drawn rows file.mark file.bytes) (is_known rows file.mark file.bytes some)
-  where
-    by : (read : Reading) → (read.end ≡ Finished → read.notices ≢ []) → read.end ≢ NeedBytes → (texts_of_reading file.name read).refused ≡ false
-        → (layers : Layers) × (last_layers read.notices ≡ Some layers) × ((texts_of_reading file.name read).out ≡ raster_text layers)
-    by read drawn known = ends_so read.end refl
-      where
-        ends_so : (end : Ending) → read.end ≡ end → (texts_at file.name (lines_of file.name read.notices) (raster_of (last_layers read.notices)) end read.decisions).refused ≡ false
-            → (layers : Layers) × (last_layers read.notices ≡ Some layers) × ((texts_at file.name (lines_of file.name read.notices) (raster_of (last_layers read.notices)) read.end read.decisions).out ≡ raster_text layers)
-        ends_so Finished e refused =
-            let last = last_there read.notices (drawn e) in
-            (last.0, last.1, ap (λ (x : Ending). (texts_at file.name (lines_of file.name read.notices) (raster_of (last_layers read.notices)) x read.decisions).out) e ∙ ap raster_of last.1)
-        ends_so (Fault kind offset) e refused = cc
-        ends_so NeedBytes e refused = absurd (known e)
+    → (rows : List Row) (names : List (List ℕ)) (page : ℕ) (file : File) → file.mark ≢ Open → (texts_of_file rows names page file).refused ≡ false
+    → (layers : Layers) × (last_layers (reading rows file.mark file.bytes).notices ≡ Some layers)
+    × ((texts_of_file rows names page file).puts ≡ to_report (lines_of (name_at names page) (reading rows file.mark file.bytes).notices) ++ to_out (raster_text layers))
+raster_there drawn known rows names page file some refused =
+    let there = is_drawn names page (reading rows file.mark file.bytes) (drawn rows file.mark file.bytes) (known rows file.mark file.bytes some) refused in
+    (there.layers, there.last, there.puts)

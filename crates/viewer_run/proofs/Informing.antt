@@ -13,11 +13,11 @@ use Rattle.iff_chunks.specs.declared.walker.WalkEnd.{WalkEnd}
 use Rattle.iff_chunks.specs.declared.walker.WalkEnd.TheVariants as ended
 use Rattle.iff_chunks.specs.Chunks.{Form, Chunk, Chunks, Tail, InHead, InHeader, InData, InPad, FormEnd, Broken, chunks_of}
 use Rattle.iff_chunks.specs.Events.{Event, Begun, Header, Data, ChunkEnd, data_events, chunk_events, tail_events, form_events, events_of, tell, with_data, is_event}
-use Rattle.iff_chunks.specs.Ends.{tail_of}
+use Rattle.iff_chunks.specs.Ends.{tail_of, file_end}
 use Rattle.iff_chunks.specs.Told.{Walking, Told}
 use Rattle.iff_chunks.specs.Walk.{IsFed}
-use Rattle.viewer_run.specs.Info.{form_lines, header_line, tail_line, heading_lines, event_line, event_lines, step_line, fault_text, with_headings, info_report, Informs, InformsWhole}
-use Rattle.viewer_run.specs.Texts.{Texts, page_fault}
+use Rattle.viewer_run.specs.Info.{form_lines, header_line, tail_line, heading_lines, event_line, event_lines, step_line, fault_text, has_fault, info_lines, Informs, InformsWhole}
+use Rattle.viewer_run.specs.Texts.{page_fault}
 use Rattle.iff_chunks.proofs.Lemmas.{Finishes, walk_begins, walk_goes_on, walk_told, walk_over, walk_end}
 
 data_lines : (name bytes : List ℕ) (events : List Event) → event_lines name (data_events bytes ++ events) ≡ event_lines name events
@@ -89,10 +89,13 @@ informs_start file name walker t = record { told = []; walk = walk_begins file w
 
 -- the whole report of a file, by what the walker says of its end
 report_so : (file name lines : List ℕ) (walker : Walking) (end : FileEnd) (answer : WalkEnd) → InformsWhole file name lines walker → Finishes walker end (length file) answer
-    → info_report name (mark_of end) file ≡ with_headings lines (fault_text name (tail_of answer))
+    → (info_lines (name ∷ []) 0 (mark_of end) file ≡ lines ++ fault_text (name ∷ []) 0 (tail_of answer)) × (has_fault (file_end (mark_of end) file) ≡ has_fault (tail_of answer))
 report_so file name lines walker end answer f says =
-    ap (λ t. with_headings (heading_lines name (chunks_of file)) (fault_text name t)) (sym (walk_end file walker end answer f.walk says))
-    ∙ ap (λ l. with_headings l (fault_text name (tail_of answer))) (sym (f.lines_so ∙ all_lines name (chunks_of file)))
+    let ends = sym (walk_end file walker end answer f.walk says) in (
+      ap (λ t. heading_lines name (chunks_of file) ++ fault_text (name ∷ []) 0 t) ends
+          ∙ ap (λ l. l ++ fault_text (name ∷ []) 0 (tail_of answer)) (sym (f.lines_so ∙ all_lines name (chunks_of file))),
+      ap has_fault ends,
+    )
 
 none_broken : (answer : WalkEnd) → ((kind : FaultKind) (offset : ℕ) → answer ≡ ended.Broken kind offset → ⊥) → answer ≡ ended.FormEnd
 none_broken ended.FormEnd never = refl
@@ -100,14 +103,19 @@ none_broken (ended.Broken kind offset) never = absurd (never kind offset refl)
 
 -- a file without a fault of form
 pub report_whole : (file name lines : List ℕ) (walker : Walking) (end : FileEnd) (answer : WalkEnd) → InformsWhole file name lines walker → Finishes walker end (length file) answer
-    → ((kind : FaultKind) (offset : ℕ) → answer ≡ ended.Broken kind offset → ⊥) → (lines ≡ (info_report name (mark_of end) file).report) × (false ≡ (info_report name (mark_of end) file).refused)
+    → ((kind : FaultKind) (offset : ℕ) → answer ≡ ended.Broken kind offset → ⊥) → (lines ≡ info_lines (name ∷ []) 0 (mark_of end) file) × (false ≡ has_fault (file_end (mark_of end) file))
 report_whole file name lines walker end answer f says never =
-    let so = report_so file name lines walker end answer f says ∙ ap (λ a. with_headings lines (fault_text name (tail_of a))) (none_broken answer never) in
-    (sym (ap (λ (t : Texts). t.report) so ∙ append-nil lines), sym (ap (λ (t : Texts). t.refused) so))
+    let so = report_so file name lines walker end answer f says in
+    let none = none_broken answer never in (
+      sym (so.0 ∙ ap (λ a. lines ++ fault_text (name ∷ []) 0 (tail_of a)) none ∙ append-nil lines),
+      sym (so.1 ∙ ap (λ a. has_fault (tail_of a)) none),
+    )
 
 -- a file with one
 pub report_fault : (file name lines line all : List ℕ) (walker : Walking) (end : FileEnd) (answer : WalkEnd) (kind : FaultKind) (offset : ℕ) → InformsWhole file name lines walker → Finishes walker end (length file) answer
-    → answer ≡ ended.Broken kind offset → line ≡ page_fault name kind offset → all ≡ lines ++ line → (all ≡ (info_report name (mark_of end) file).report) × (true ≡ (info_report name (mark_of end) file).refused)
+    → answer ≡ ended.Broken kind offset → line ≡ page_fault (name ∷ []) 0 kind offset → all ≡ lines ++ line → (all ≡ info_lines (name ∷ []) 0 (mark_of end) file) × (true ≡ has_fault (file_end (mark_of end) file))
 report_fault file name lines line all walker end answer kind offset f says is own more =
-    let so = report_so file name lines walker end answer f says ∙ ap (λ a. with_headings lines (fault_text name (tail_of a))) is in
-    (more ∙ ap (λ l. lines ++ l) own ∙ sym (ap (λ (t : Texts). t.report) so), sym (ap (λ (t : Texts). t.refused) so))
+    let so = report_so file name lines walker end answer f says in (
+      more ∙ ap (λ l. lines ++ l) own ∙ sym (so.0 ∙ ap (λ a. lines ++ fault_text (name ∷ []) 0 (tail_of a)) is),
+      sym (so.1 ∙ ap (λ a. has_fault (tail_of a)) is),
+    )

@@ -10,14 +10,15 @@ use Rattle.djvu_outside.specs.Reading.{bytes_in, HasFile}
 use Rattle.viewer_run.specs.declared.pages.Shown.{Shown}
 use Rattle.djvu_outside.specs.declared.stops.Stop.{Stop}
 use Rattle.djvu_outside.specs.Cut.{first_entry, cut_at}
-use Rattle.viewer_run.specs.Shown.{lists_first, texts_of_pages, file_of, NamesOnly, HasBroken, Shows, both, HasFiles, AreDistinct, BrokenCounts}
+use Rattle.viewer_run.specs.Ended.{Around}
+use Rattle.djvu_outside.specs.Puts.{Put, Sinks, GivesBoth}
+use Rattle.viewer_run.specs.Shown.{lists_first, texts_by, work_by, texts_named, work_named, file_of, NamesOnly, HasBroken, Shows, both, HasFiles, AreDistinct, BrokenCounts}
 use Rattle.viewer_run.specs.Texts.{Texts, no_texts, joined}
 use Rattle.viewer_run.specs.declared.front.Mode.{Mode}
 use Rattle.djvu_base.specs.Name.{is_listed}
-use Rattle.viewer_run.specs.Offline.{texts_by}
-use Rattle.djvu_outside.specs.Parts.{Gives, Ticks}
+use Rattle.djvu_outside.specs.Parts.{Ticks}
 use Rattle.djvu_base.proofs.Ticks.{ticks_none}
-use Rattle.djvu_outside.proofs.Lemmas.{delivers_after, gives_more, gives_same}
+use Rattle.djvu_outside.proofs.Lemmas.{got_none, puts_after, puts_more, puts_same}
 use Rattle.djvu_outside.proofs.Lemmas.{ticks_after, ticks_before, ticks_of}
 
 entry_after : (a b : List Failure) (name : List ℕ) → first_entry a name ≡ None → first_entry (a ++ b) name ≡ first_entry b name
@@ -57,38 +58,42 @@ or_both : (a b : Bool) → a ≡ false → b ≡ false → (a || b) ≡ false
 or_both a b e f = ap (λ x. x || b) e ∙ f
 
 -- failures of one more file change nothing of other files
-texts_same : (mode : Mode) (files : Files) (a b : List Failure) (name : List ℕ) (names : List (List ℕ)) → NamesOnly (name ∷ []) b → is_listed names name ≡ false → texts_of_pages mode files (a ++ b) names ≡ texts_of_pages mode files a names
-texts_same mode files a b name [] only other = refl
+texts_same : (mode : Mode) (files : Files) (a b : List Failure) (name : List ℕ) (names : List (List ℕ)) → NamesOnly (name ∷ []) b → is_listed names name ≡ false
+    → (texts_named mode files (a ++ b) names ≡ texts_named mode files a names) × (work_named mode files (a ++ b) names ≡ work_named mode files a names)
+texts_same mode files a b name [] only other = (refl, refl)
 texts_same mode files a b name (first ∷ names) only other =
     let apart : bytes_eq first name ≡ false = other_way name first (or_first (bytes_eq name first) (is_listed names name) other) in
     let none : first_entry b first ≡ None = only first (or_both (bytes_eq first name) false apart refl) in
-    ap (λ f. joined (texts_by mode f) (texts_of_pages mode files (a ++ b) names)) (file_same files (a ++ b) a first (entry_before a b first none))
-    ∙ ap (λ t. joined (texts_by mode (file_of files a first)) t) (texts_same mode files a b name names only (or_second (bytes_eq name first) (is_listed names name) other))
+    let same = file_same files (a ++ b) a first (entry_before a b first none) in
+    let rest = texts_same mode files a b name names only (or_second (bytes_eq name first) (is_listed names name) other) in (
+      ap (λ f. joined (texts_by mode f) (texts_named mode files (a ++ b) names)) same ∙ ap (λ t. joined (texts_by mode (file_of files a first)) t) rest.0,
+      ap (λ f. work_by mode f + work_named mode files (a ++ b) names) same ∙ ap (λ n. work_by mode (file_of files a first) + n) rest.1,
+    )
 
-page_same : (mode : Mode) (files : Files) (a b : List Failure) (name : List ℕ) → first_entry a name ≡ None → texts_of_pages mode files (a ++ b) (name ∷ []) ≡ texts_of_pages mode files b (name ∷ [])
-page_same mode files a b name e = ap (λ f. joined (texts_by mode f) no_texts) (file_same files (a ++ b) b name (entry_after a b name e))
+page_same : (mode : Mode) (files : Files) (a b : List Failure) (name : List ℕ) → first_entry a name ≡ None
+    → (texts_named mode files (a ++ b) (name ∷ []) ≡ texts_named mode files b (name ∷ [])) × (work_named mode files (a ++ b) (name ∷ []) ≡ work_named mode files b (name ∷ []))
+page_same mode files a b name e =
+    let same = file_same files (a ++ b) b name (entry_after a b name e) in
+    (ap (λ f. joined (texts_by mode f) no_texts) same, ap (λ f. work_by mode f + 0) same)
 
 or_assoc : (a b c : Bool) → ((a || b) || c) ≡ (a || (b || c))
 or_assoc true b c = refl
 or_assoc false b c = refl
 
--- texts with another work
-abbrev with_work : Texts → ℕ → Texts
-with_work texts work = record { out = texts.out; report = texts.report; refused = texts.refused; work = work }
-
 -- the texts of some pages and of others after them
-texts_append : (mode : Mode) (files : Files) (f : List Failure) (xs ys : List (List ℕ)) → texts_of_pages mode files f (xs ++ ys) ≡ joined (texts_of_pages mode files f xs) (texts_of_pages mode files f ys)
-texts_append mode files f [] ys = ap (with_work (texts_of_pages mode files f ys)) (sym (zero-add (texts_of_pages mode files f ys).work))
+texts_append : (mode : Mode) (files : Files) (f : List Failure) (xs ys : List (List ℕ)) → texts_named mode files f (xs ++ ys) ≡ joined (texts_named mode files f xs) (texts_named mode files f ys)
+texts_append mode files f [] ys = refl
 texts_append mode files f (x ∷ xs) ys =
     let head : Texts = texts_by mode (file_of files f x) in
-    let rest : Texts = texts_of_pages mode files f xs in
-    let last : Texts = texts_of_pages mode files f ys in
-    let apart : Texts = joined head (joined rest last) in
+    let rest : Texts = texts_named mode files f xs in
+    let last : Texts = texts_named mode files f ys in
     ap (joined head) (texts_append mode files f xs ys)
-    ∙ ap (λ o. let t : Texts = record { out = o; report = apart.report; refused = apart.refused; work = apart.work } in t) (sym (append_assoc head.out rest.out last.out))
-    ∙ ap (λ o. let t : Texts = record { out = (head.out ++ rest.out) ++ last.out; report = o; refused = apart.refused; work = apart.work } in t) (sym (append_assoc head.report rest.report last.report))
-    ∙ ap (λ o. let t : Texts = record { out = (head.out ++ rest.out) ++ last.out; report = (head.report ++ rest.report) ++ last.report; refused = o; work = apart.work } in t) (sym (or_assoc head.refused rest.refused last.refused))
-    ∙ ap (λ o. let t : Texts = record { out = (head.out ++ rest.out) ++ last.out; report = (head.report ++ rest.report) ++ last.report; refused = (head.refused || rest.refused) || last.refused; work = o } in t) (sum head.work rest.work last.work)
+    ∙ ap (λ o. let t : Texts = record { puts = o; refused = head.refused || (rest.refused || last.refused) } in t) (sym (append_assoc head.puts rest.puts last.puts))
+    ∙ ap (λ o. let t : Texts = record { puts = (head.puts ++ rest.puts) ++ last.puts; refused = o } in t) (sym (or_assoc head.refused rest.refused last.refused))
+
+work_append : (mode : Mode) (files : Files) (f : List Failure) (xs ys : List (List ℕ)) → work_named mode files f (xs ++ ys) ≡ work_named mode files f xs + work_named mode files f ys
+work_append mode files f [] ys = sym (zero-add (work_named mode files f ys))
+work_append mode files f (x ∷ xs) ys = ap (λ n. work_by mode (file_of files f x) + n) (work_append mode files f xs ys) ∙ sum (work_by mode (file_of files f x)) (work_named mode files f xs) (work_named mode files f ys)
   where
     sum : (a b c : ℕ) → a + (b + c) ≡ a + b + c
     sum a b c = omega arith
@@ -99,21 +104,14 @@ any_append name (x ∷ xs) ys e =
     let rest = any_append name xs ys (or_second (bytes_eq name x) (is_listed (xs ++ ys) name) e) in
     (or_both (bytes_eq name x) (is_listed xs name) (or_first (bytes_eq name x) (is_listed (xs ++ ys) name) e) rest.0, rest.1)
 
--- a text after one that was put
-gives_after : (result : Result Shown Stop) (all : Shown) (o0 o1 o2 : Option (List ℕ)) (first last : List ℕ) → Gives {T = Shown} (Ok all) o0 o1 first → Gives result o1 o2 last → Gives result o0 o2 (first ++ last)
-gives_after result all o0 o1 o2 first last g h before given =
-    let mid = g before given in
-    let end = h mid.0 mid.1 in
-    (end.0, end.1, delivers_after result before first mid.0 last end.0 mid.2 end.2)
-
 -- the results of both
 abbrev pub result_with : Shown → Result Shown Stop → Result Shown Stop
 result_with all (Ok drawn) = Ok (both all drawn)
 result_with all (Err stop) = Err stop
 
-gives_with : (all : Shown) (result : Result Shown Stop) (old new : Option (List ℕ)) (text : List ℕ) → Gives result old new text → Gives (result_with all result) old new text
-gives_with all (Ok drawn) old new text g = λ before given. let there = g before given in (there.0, there.1, there.2)
-gives_with all (Err stop) old new text g = g
+puts_with : (all : Shown) (result : Result Shown Stop) (puts : List Put) (before after : Sinks) → GivesBoth result puts before after → GivesBoth (result_with all result) puts before after
+puts_with all (Ok drawn) puts before after g = g
+puts_with all (Err stop) puts before after g = g
 
 ticks_with : (all : Shown) (result : Result Shown Stop) (work before after : ℕ) → Ticks result work before after → Ticks (result_with all result) work before after
 ticks_with all (Ok drawn) work before after t = t
@@ -131,54 +129,53 @@ both_after (Listing ∷ a) b e h = absurd (true≢false e)
 both_after (Reading name count ∷ a) b e h = refl
 
 -- one page after others
-pub shows_more : (mode : Mode) (files : Files) (names : List (List ℕ)) (name : List ℕ) (all : Shown) (result : Result Shown Stop) (f0 f1 f2 : List Failure) (o0 o1 o2 r0 r1 r2 : Option (List ℕ)) (m0 m1 m2 : ℕ)
-    → Shows mode files names (Ok all) f0 f1 o0 o1 r0 r1 m0 m1 → Shows mode files (name ∷ []) result f1 f2 o1 o2 r1 r2 m1 m2 → is_listed names name ≡ false → Shows mode files (names ++ name ∷ []) (result_with all result) f0 f2 o0 o2 r0 r2 m0 m2
-shows_more mode files names name all result f0 f1 f2 o0 o1 o2 r0 r1 r2 m0 m1 m2 d e other =
+pub shows_more : (mode : Mode) (files : Files) (names : List (List ℕ)) (name : List ℕ) (all : Shown) (result : Result Shown Stop) (first mid last : Around)
+    → Shows mode files names (Ok all) first mid → Shows mode files (name ∷ []) result mid last → is_listed names name ≡ false → Shows mode files (names ++ name ∷ []) (result_with all result) first last
+shows_more mode files names name all result first mid last d e other =
     let a = d.added in
     let b = e.added in
-    let first = texts_same mode files a b name names e.only other in
-    let last = page_same mode files a b name (d.only name other) in
-    let whole : texts_of_pages mode files (a ++ b) (names ++ name ∷ []) ≡ joined (texts_of_pages mode files a names) (texts_of_pages mode files b (name ∷ [])) =
-    texts_append mode files (a ++ b) names (name ∷ []) ∙ ap (λ t. joined t (texts_of_pages mode files (a ++ b) (name ∷ []))) first ∙ ap (joined (texts_of_pages mode files a names)) last in
+    let before = texts_same mode files a b name names e.only other in
+    let here = page_same mode files a b name (d.only name other) in
+    let whole : texts_named mode files (a ++ b) (names ++ name ∷ []) ≡ joined (texts_named mode files a names) (texts_named mode files b (name ∷ [])) =
+    texts_append mode files (a ++ b) names (name ∷ []) ∙ ap (λ t. joined t (texts_named mode files (a ++ b) (name ∷ []))) before.0 ∙ ap (joined (texts_named mode files a names)) here.0 in
+    let work : work_named mode files (a ++ b) (names ++ name ∷ []) ≡ work_named mode files a names + work_named mode files b (name ∷ []) =
+    work_append mode files (a ++ b) names (name ∷ []) ∙ ap (λ n. n + work_named mode files (a ++ b) (name ∷ [])) before.1 ∙ ap (λ n. work_named mode files a names + n) here.1 in
     record {
       added = a ++ b;
-      grown = e.grown ∙ ap (λ f. f ++ b) d.grown ∙ append_assoc f0 a b;
+      grown = e.grown ∙ ap (λ f. f ++ b) d.grown ∙ append_assoc first.failures a b;
       only = λ n h. let apart = any_append n names (name ∷ []) h in entry_before a b n (e.only n apart.1) ∙ d.only n apart.0;
-      after = both_after a b d.after e.after;
-      out = gives_with all result o0 o2 _ (gives_same result o0 o2 _ _ (sym (ap (λ (t : Texts). t.out) whole)) (gives_after result all o0 o1 o2 (texts_of_pages mode files a names).out (texts_of_pages mode files b (name ∷ [])).out d.out e.out));
-      report = gives_with all result r0 r2 _ (gives_same result r0 r2 _ _ (sym (ap (λ (t : Texts). t.report) whole)) (gives_after result all r0 r1 r2 (texts_of_pages mode files a names).report (texts_of_pages mode files b (name ∷ [])).report d.report e.report));
-      ticks = ticks_with all result _ m0 m2 (ticks_of result _ _ m0 m2 (sym (ap (λ (t : Texts). t.work) whole)) (ticks_after result (texts_of_pages mode files a names).work (texts_of_pages mode files b (name ∷ [])).work m0 m1 m2 d.ticks e.ticks));
+      reads = both_after a b d.reads e.reads;
+      puts = puts_with all result _ first.told last.told (puts_same result _ _ first.told last.told (sym (ap (λ (t : Texts). t.puts) whole)) (puts_after result (texts_named mode files a names).puts (texts_named mode files b (name ∷ [])).puts first.told mid.told last.told d.puts e.puts));
+      ticks = ticks_with all result _ first.count last.count (ticks_of result _ _ first.count last.count (sym work) (ticks_after result (work_named mode files a names) (work_named mode files b (name ∷ [])) first.count mid.count last.count d.ticks e.ticks));
       refused = by_refused result e.refused (ap (λ (t : Texts). t.refused) whole);
       broken = by_broken result e.broken;
     }
   where
-    by_refused : (result : Result Shown Stop) → IfOk result (λ drawn. drawn.refused ≡ (texts_of_pages mode files e.added (name ∷ [])).refused)
-        → (texts_of_pages mode files (d.added ++ e.added) (names ++ name ∷ [])).refused ≡ ((texts_of_pages mode files d.added names).refused || (texts_of_pages mode files e.added (name ∷ [])).refused)
-        → IfOk (result_with all result) (λ drawn. drawn.refused ≡ (texts_of_pages mode files (d.added ++ e.added) (names ++ name ∷ [])).refused)
-    by_refused (Ok drawn) h w = ap (λ x. x || drawn.refused) d.refused ∙ ap (λ y. (texts_of_pages mode files d.added names).refused || y) h ∙ sym w
+    by_refused : (result : Result Shown Stop) → IfOk result (λ drawn. drawn.refused ≡ (texts_named mode files e.added (name ∷ [])).refused)
+        → (texts_named mode files (d.added ++ e.added) (names ++ name ∷ [])).refused ≡ ((texts_named mode files d.added names).refused || (texts_named mode files e.added (name ∷ [])).refused)
+        → IfOk (result_with all result) (λ drawn. drawn.refused ≡ (texts_named mode files (d.added ++ e.added) (names ++ name ∷ [])).refused)
+    by_refused (Ok drawn) h w = ap (λ x. x || drawn.refused) d.refused ∙ ap (λ y. (texts_named mode files d.added names).refused || y) h ∙ sym w
     by_refused (Err stop) h w = tt
 
     by_broken : (result : Result Shown Stop) → IfOk result (λ drawn. HasBroken drawn.broken e.added) → IfOk (result_with all result) (λ drawn. HasBroken drawn.broken (d.added ++ e.added))
     by_broken (Ok drawn) h = broken_both all.broken drawn.broken d.added e.added d.broken h
     by_broken (Err stop) h = tt
 
--- pages at which the drawing stops, in front of others
-pub shows_stopped : (mode : Mode) (files : Files) (names more : List (List ℕ)) (result : Result Shown Stop) (f0 f1 : List Failure) (o0 o1 r0 r1 : Option (List ℕ)) (m0 m1 : ℕ) → IsErr result → Shows mode files names result f0 f1 o0 o1 r0 r1 m0 m1 → Shows mode files (names ++ more) result f0 f1 o0 o1 r0 r1 m0 m1
-shows_stopped mode files names more result f0 f1 o0 o1 r0 r1 m0 m1 is_err d =
-    let whole = texts_append mode files d.added names more in
+-- pages at which the drawing stops, before others
+pub shows_stopped : (mode : Mode) (files : Files) (names more : List (List ℕ)) (result : Result Shown Stop) (before after : Around) → IsErr result → Shows mode files names result before after → Shows mode files (names ++ more) result before after
+shows_stopped mode files names more result before after is_err d =
     record {
       added = d.added;
       grown = d.grown;
       only = λ n h. d.only n (any_append n names more h).0;
-      after = d.after;
-      out = gives_same result o0 o1 _ _ (sym (ap (λ (t : Texts). t.out) whole)) (gives_more result is_err o0 o1 (texts_of_pages mode files d.added names).out (texts_of_pages mode files d.added more).out d.out);
-      report = gives_same result r0 r1 _ _ (sym (ap (λ (t : Texts). t.report) whole)) (gives_more result is_err r0 r1 (texts_of_pages mode files d.added names).report (texts_of_pages mode files d.added more).report d.report);
-      ticks = ticks_of result _ _ m0 m1 (sym (ap (λ (t : Texts). t.work) whole)) (ticks_before result (texts_of_pages mode files d.added names).work (texts_of_pages mode files d.added more).work m0 m1 is_err d.ticks);
+      reads = d.reads;
+      puts = puts_same result _ _ before.told after.told (sym (ap (λ (t : Texts). t.puts) (texts_append mode files d.added names more))) (puts_more result (texts_named mode files d.added names).puts (texts_named mode files d.added more).puts before.told after.told is_err d.puts);
+      ticks = ticks_of result _ _ before.count after.count (sym (work_append mode files d.added names more)) (ticks_before result (work_named mode files d.added names) (work_named mode files d.added more) before.count after.count is_err d.ticks);
       refused = stopped result is_err;
       broken = stopped_broken result is_err;
     }
   where
-    stopped : (result : Result Shown Stop) → IsErr result → IfOk result (λ drawn. drawn.refused ≡ (texts_of_pages mode files d.added (names ++ more)).refused)
+    stopped : (result : Result Shown Stop) → IsErr result → IfOk result (λ drawn. drawn.refused ≡ (texts_named mode files d.added (names ++ more)).refused)
     stopped (Ok drawn) e = absurd (cc)
     stopped (Err stop) e = tt
 
@@ -187,14 +184,13 @@ shows_stopped mode files names more result f0 f1 o0 o1 r0 r1 m0 m1 is_err d =
     stopped_broken (Err stop) e = tt
 
 -- no page
-pub shows_none : (mode : Mode) (files : Files) (f : List Failure) (o r : Option (List ℕ)) (m : ℕ) → Shows mode files [] (Ok (record { refused = false; broken = false })) f f o o r r m m
-shows_none mode files f o r m = record {
+pub shows_none : (mode : Mode) (files : Files) (here : Around) → Shows mode files [] (Ok (record { refused = false; broken = false })) here here
+shows_none mode files here = record {
   added = [];
-  grown = sym (append-nil f);
+  grown = sym (append-nil here.failures);
   only = λ n h. refl;
-  after = refl;
-  out = λ before given. (before, given, sym (append-nil before));
-  report = λ before given. (before, given, sym (append-nil before));
+  reads = refl;
+  puts = got_none here.told;
   ticks = ticks_none _;
   refused = refl;
   broken = refl;
@@ -233,29 +229,29 @@ counts_both false false f0 f1 f2 a b = b ∙ a
 pub counts_more : (all shown now : Shown) (f0 f1 f2 : ℕ) → now ≡ both all shown → BrokenCounts all.broken f0 f1 → BrokenCounts shown.broken f1 f2 → BrokenCounts now.broken f0 f2
 counts_more all shown now f0 f1 f2 e a b = subst (λ (s : Shown). BrokenCounts s.broken f0 f2) (sym e) (counts_both all.broken shown.broken f0 f1 f2 a b)
 
-pub shows_named : (mode : Mode) (files : Files) (names more : List (List ℕ)) (result : Result Shown Stop) (f0 f1 : List Failure) (o0 o1 r0 r1 : Option (List ℕ)) (m0 m1 : ℕ) → names ≡ more → Shows mode files names result f0 f1 o0 o1 r0 r1 m0 m1 → Shows mode files more result f0 f1 o0 o1 r0 r1 m0 m1
-shows_named mode files names more result f0 f1 o0 o1 r0 r1 m0 m1 e d = subst (λ n. Shows mode files n result f0 f1 o0 o1 r0 r1 m0 m1) e d
+pub shows_named : (mode : Mode) (files : Files) (names more : List (List ℕ)) (result : Result Shown Stop) (before after : Around) → names ≡ more → Shows mode files names result before after → Shows mode files more result before after
+shows_named mode files names more result before after e d = subst (λ n. Shows mode files n result before after) e d
 
 -- one more page was drawn
-pub one_more : (mode : Mode) (files : Files) (names : List (List ℕ)) (at : ℕ) (name : List ℕ) (all drawn now : Shown) (page : Result Shown Stop) (f0 f1 f2 : List Failure) (o0 o1 o2 r0 r1 r2 : Option (List ℕ)) (m0 m1 m2 : ℕ)
-    → Shows mode files (take at names) (Ok all) f0 f1 o0 o1 r0 r1 m0 m1 → Shows mode files (name ∷ []) page f1 f2 o1 o2 r1 r2 m1 m2 → AreDistinct names → name ≡ get_or names at name → at < length names → page ≡ Ok drawn → now ≡ both all drawn
-    → Shows mode files (take (at + 1) names) (Ok now) f0 f2 o0 o2 r0 r2 m0 m2
-one_more mode files names at name all drawn now page f0 f1 f2 o0 o1 o2 r0 r1 r2 m0 m1 m2 d e distinct is inside ok sum =
+pub one_more : (mode : Mode) (files : Files) (names : List (List ℕ)) (at : ℕ) (name : List ℕ) (all drawn now : Shown) (page : Result Shown Stop) (first mid last : Around)
+    → Shows mode files (take at names) (Ok all) first mid → Shows mode files (name ∷ []) page mid last → AreDistinct names → name ≡ get_or names at name → at < length names → page ≡ Ok drawn → now ≡ both all drawn
+    → Shows mode files (take (at + 1) names) (Ok now) first last
+one_more mode files names at name all drawn now page first mid last d e distinct is inside ok sum =
     let here = here_at names at name is inside in
-    let both_drawn = shows_more mode files (take at names) name all page f0 f1 f2 o0 o1 o2 r0 r1 r2 m0 m1 m2 d e (new_at names at name (drop (suc at) names) distinct here) in
-    subst (λ (s : Shown). Shows mode files (take (at + 1) names) (Ok s) f0 f2 o0 o2 r0 r2 m0 m2) (sym sum)
-    (shows_named mode files (take at names ++ name ∷ []) (take (at + 1) names) (Ok (both all drawn)) f0 f2 o0 o2 r0 r2 m0 m2 (sym (take_here names at name is inside))
-    (subst (λ p. Shows mode files (take at names ++ name ∷ []) (result_with all p) f0 f2 o0 o2 r0 r2 m0 m2) ok both_drawn))
+    let both_drawn = shows_more mode files (take at names) name all page first mid last d e (new_at names at name (drop (suc at) names) distinct here) in
+    subst (λ (s : Shown). Shows mode files (take (at + 1) names) (Ok s) first last) (sym sum)
+    (shows_named mode files (take at names ++ name ∷ []) (take (at + 1) names) (Ok (both all drawn)) first last (sym (take_here names at name is inside))
+    (subst (λ p. Shows mode files (take at names ++ name ∷ []) (result_with all p) first last) ok both_drawn))
 
 -- the drawing stopped at a page
-pub stopped_at : (mode : Mode) (files : Files) (names : List (List ℕ)) (at : ℕ) (name : List ℕ) (all : Shown) (fault : Stop) (page result : Result Shown Stop) (f0 f1 f2 : List Failure) (o0 o1 o2 r0 r1 r2 : Option (List ℕ)) (m0 m1 m2 : ℕ)
-    → Shows mode files (take at names) (Ok all) f0 f1 o0 o1 r0 r1 m0 m1 → Shows mode files (name ∷ []) page f1 f2 o1 o2 r1 r2 m1 m2 → AreDistinct names → name ≡ get_or names at name → at < length names → page ≡ Err fault → result ≡ Err fault
-    → Shows mode files names result f0 f2 o0 o2 r0 r2 m0 m2
-stopped_at mode files names at name all fault page result f0 f1 f2 o0 o1 o2 r0 r1 r2 m0 m1 m2 d e distinct is inside err same =
+pub stopped_at : (mode : Mode) (files : Files) (names : List (List ℕ)) (at : ℕ) (name : List ℕ) (all : Shown) (fault : Stop) (page result : Result Shown Stop) (first mid last : Around)
+    → Shows mode files (take at names) (Ok all) first mid → Shows mode files (name ∷ []) page mid last → AreDistinct names → name ≡ get_or names at name → at < length names → page ≡ Err fault → result ≡ Err fault
+    → Shows mode files names result first last
+stopped_at mode files names at name all fault page result first mid last d e distinct is inside err same =
     let here = here_at names at name is inside in
     let rest = drop (suc at) names in
-    let both_drawn = shows_more mode files (take at names) name all page f0 f1 f2 o0 o1 o2 r0 r1 r2 m0 m1 m2 d e (new_at names at name rest distinct here) in
-    let stopped : Shows mode files (take at names ++ name ∷ []) (Err fault) f0 f2 o0 o2 r0 r2 m0 m2 = subst (λ p. Shows mode files (take at names ++ name ∷ []) (result_with all p) f0 f2 o0 o2 r0 r2 m0 m2) err both_drawn in
+    let both_drawn = shows_more mode files (take at names) name all page first mid last d e (new_at names at name rest distinct here) in
+    let stopped : Shows mode files (take at names ++ name ∷ []) (Err fault) first last = subst (λ p. Shows mode files (take at names ++ name ∷ []) (result_with all p) first last) err both_drawn in
     let whole : (take at names ++ name ∷ []) ++ rest ≡ names = append_assoc (take at names) (name ∷ []) rest ∙ ap (λ l. take at names ++ l) (sym here) ∙ take-append-drop at names in
-    subst (λ r. Shows mode files names r f0 f2 o0 o2 r0 r2 m0 m2) (sym same)
-    (shows_named mode files ((take at names ++ name ∷ []) ++ rest) names (Err fault) f0 f2 o0 o2 r0 r2 m0 m2 whole (shows_stopped mode files (take at names ++ name ∷ []) rest (Err fault) f0 f2 o0 o2 r0 r2 m0 m2 refl stopped))
+    subst (λ r. Shows mode files names r first last) (sym same)
+    (shows_named mode files ((take at names ++ name ∷ []) ++ rest) names (Err fault) first last whole (shows_stopped mode files (take at names ++ name ∷ []) rest (Err fault) first last refl stopped))

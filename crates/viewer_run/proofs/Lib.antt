@@ -8,11 +8,13 @@ mod Ticking
 mod Showing
 -- one page after others: `show_pages`
 mod Joining
+-- pages by number and by name: `run`
+mod Numbering
 -- what stands before the pages: `find_front`
 mod Starting
 -- a whole run: `run`, `laws::sound_folders`
 mod Running
--- `laws::work_is_decisions`
+-- `laws::others_have_no_work`
 mod Working
 -- `laws::unrefused_pages_are_drawn`
 mod Finishing

@@ -17,7 +17,7 @@ use Rattle.djvu_outside.specs.FileReads.{is_broken}
 use Rattle.viewer_words.specs.declared.commands.TableChoice.{TableChoice}
 use Rattle.viewer_words.specs.declared.commands.TableChoice.TheVariants as choice
 use Rattle.viewer_words.specs.Files.{NamedFile, first_unlisted, table_before, unlisted_line}
-use Rattle.viewer_run.specs.Front.{name_limit, line_by_names, names_in, bytes_of_found, table_in, table_of}
+use Rattle.viewer_run.specs.Plan.{name_limit, line_by_names, names_in, bytes_of_found, table_in, table_of}
 use Rattle.djvu_base.specs.Name.{is_listed}
 use Rattle.viewer_run.specs.Shown.{HasFiles, AreDistinct}
 use Rattle.viewer_run.specs.Start.{IsEarly, Starts, StartsFor, CanRead, CanStart}
@@ -125,3 +125,7 @@ starts_info (Err stop.Folder) words old new s = (s.0, s.1, by s.0 s.2)
     by (Reading name count) h = absurd (true≢false (sym h))
 starts_info (Err stop.Sink) words old new s = s
 starts_info (Err stop.Memory) words old new s = s
+
+pub none_there : (line : Option (List ℕ)) → ((some : List ℕ) → line ≡ Some some → ⊥) → line ≡ None
+none_there None never = refl
+none_there (Some line) never = absurd (never line refl)

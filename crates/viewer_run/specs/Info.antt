@@ -1,7 +1,8 @@
 -- The text of `info`, read off the chunks of a file alone. No decision is read.
-use Rattle.std.specs.Prelude.{ℕ, true, false, ◌≡◌, ◌++◌, List, [], Option, Some, None}
+use Rattle.std.specs.Prelude.{ℕ, Bool, true, false, ◌≡◌, ◌++◌, List, [], Option, Some, None, slice_get}
 use Rattle.std.specs.List.{flat_map}
-use Rattle.djvu_base.specs.Library.{File, Mark}
+use Rattle.djvu_base.specs.Library.{File, Library, Mark}
+use Rattle.djvu_outside.specs.Puts.{to_report}
 use Rattle.iff_chunks.specs.declared.walker.WalkStep.{WalkStep}
 use Rattle.iff_chunks.specs.declared.walker.WalkStep.TheVariants as step
 use Rattle.iff_chunks.specs.Chunks.{Form, Chunk, Chunks, Tail, InHead, InHeader, InData, InPad, FormEnd, Broken, chunks_of}
@@ -9,8 +10,9 @@ use Rattle.iff_chunks.specs.Events.{Event, Begun, Header, Data, ChunkEnd, events
 use Rattle.iff_chunks.specs.Ends.{file_end}
 use Rattle.iff_chunks.specs.Told.{Walking}
 use Rattle.iff_chunks.specs.Walk.{HasTold, HasToldAll}
-use Rattle.viewer_words.specs.Lines.{form_line, chunk_line}
-use Rattle.viewer_run.specs.Texts.{Texts, page_fault}
+use Rattle.viewer_words.specs.Lines.{name_at, form_line, chunk_line}
+use Rattle.viewer_run.specs.Plan.{names_in}
+use Rattle.viewer_run.specs.Texts.{Texts, no_texts, page_fault}
 
 abbrev pub form_lines : List ℕ → Option Form → List ℕ
 form_lines name None = []
@@ -31,24 +33,37 @@ tail_line name (Broken kind offset) = []
 abbrev pub heading_lines : List ℕ → Chunks → List ℕ
 heading_lines name chunks = form_lines name chunks.form ++ (flat_map (header_line name) chunks.whole ++ tail_line name chunks.tail)
 
--- the line of a fault of form
-abbrev pub fault_text : List ℕ → Tail → Texts
-fault_text name (Broken kind offset) = record { out = []; report = page_fault name kind offset; refused = true; work = 0 }
-fault_text name InHead = record { out = []; report = []; refused = false; work = 0 }
-fault_text name (InHeader offset bytes) = record { out = []; report = []; refused = false; work = 0 }
-fault_text name (InData chunk) = record { out = []; report = []; refused = false; work = 0 }
-fault_text name (InPad offset is_last) = record { out = []; report = []; refused = false; work = 0 }
-fault_text name FormEnd = record { out = []; report = []; refused = false; work = 0 }
+-- the line of a fault of form, or none
+abbrev pub fault_text : List (List ℕ) → ℕ → Tail → List ℕ
+fault_text names page InHead = []
+fault_text names page (InHeader offset bytes) = []
+fault_text names page (InData chunk) = []
+fault_text names page (InPad offset is_last) = []
+fault_text names page FormEnd = []
+fault_text names page (Broken kind offset) = page_fault names page kind offset
 
-abbrev pub with_headings : List ℕ → Texts → Texts
-with_headings lines texts = record { out = texts.out; report = lines ++ texts.report; refused = texts.refused; work = texts.work }
+abbrev pub has_fault : Tail → Bool
+has_fault InHead = false
+has_fault (InHeader offset bytes) = false
+has_fault (InData chunk) = false
+has_fault (InPad offset is_last) = false
+has_fault FormEnd = false
+has_fault (Broken kind offset) = true
 
--- the FORM, the chunks and the fault of form of a file, by what is known of its end
-abbrev pub info_report : List ℕ → Mark → List ℕ → Texts
-info_report name mark bytes = with_headings (heading_lines name (chunks_of bytes)) (fault_text name (file_end mark bytes))
+-- the FORM, the chunks and the fault of form of a page's file, by what is known of its end
+abbrev pub info_lines : List (List ℕ) → ℕ → Mark → List ℕ → List ℕ
+info_lines names page mark bytes = heading_lines (name_at names page) (chunks_of bytes) ++ fault_text names page (file_end mark bytes)
 
-abbrev pub info_of_file : File → Texts
-info_of_file file = info_report file.name file.mark file.bytes
+abbrev pub info_of_file : List (List ℕ) → ℕ → File → Texts
+info_of_file names page file = record { puts = to_report (info_lines names page file.mark file.bytes); refused = has_fault (file_end file.mark file.bytes) }
+
+abbrev pub info_of_found : List (List ℕ) → ℕ → Option File → Texts
+info_of_found names page None = no_texts
+info_of_found names page (Some file) = info_of_file names page file
+
+-- a page of a library, by its number there
+abbrev pub info_of_page : Library → ℕ → Texts
+info_of_page library page = info_of_found (names_in library) page (slice_get library page)
 
 -- the line of an event, or none
 abbrev pub event_line : List ℕ → Event → List ℕ

@@ -1,69 +1,75 @@
--- A whole run.
-use Rattle.std.specs.Prelude.{ℕ, false, ◌≡◌, ◌++◌, ◌<◌, ◌≤◌, ⊤, List, [], Option, Some, Result, Ok, Err}
+-- A whole run, by what is outside of it before and after.
+use Rattle.std.specs.Prelude.{ℕ, false, ◌≡◌, ◌+◌, ◌++◌, ◌<◌, ◌≤◌, ⊤, List, [], ◌∷◌, length, Option, Result, Ok, Err}
 use Rattle.djvu_base.specs.Library.{Files, library_of}
+use Rattle.djvu_base.specs.Meter.{ticked}
 use Rattle.djvu_outside.specs.declared.stops.Status.{Status}
-use Rattle.djvu_outside.specs.Faults.{Failure, Rises}
-use Rattle.djvu_outside.specs.Reading.{GrowsWithin}
-use Rattle.djvu_base.specs.Meter.{TicksExactly}
 use Rattle.djvu_outside.specs.declared.stops.Stop.{Stop}
 use Rattle.djvu_outside.specs.declared.stops.Stop.TheVariants as stop
+use Rattle.djvu_outside.specs.Faults.{Failure, Rises}
+use Rattle.djvu_outside.specs.Parts.{Ticks}
+use Rattle.djvu_outside.specs.Puts.{Put, Sinks, sinks, Got, GivesBoth}
 use Rattle.viewer_run.specs.EarlyFailures.{front_failed, NamesRead}
 use Rattle.viewer_run.specs.Offline.{Written, IsOutcome}
-use Rattle.djvu_outside.specs.Parts.{Gives, Ticks}
 
--- a sink that tells what it was given got all of a text where the status is below 4, and else a prefix of it
-abbrev pub Gets : ℕ → Option (List ℕ) → Option (List ℕ) → List ℕ → Type 0
-Gets status old new text =
-    (before : List ℕ) → old ≡ Some before → (after : List ℕ) × (new ≡ Some after) × (status < 4 → after ≡ before ++ text) × GrowsWithin before text after
+-- the failures of each folder, what both sinks tell that they were given, and the count of each meter
+pub record Outside : Type 0 where
+  pub failures : List (List Failure)
+  pub told : Sinks
+  pub counts : List ℕ
 
--- a meter counts the work where the status is below 4, and else no more than that
-abbrev pub Counts : ℕ → ℕ → ℕ → ℕ → Type 0
-Counts status work before after = (ticks : ℕ) × (ticks ≤ work) × (status < 4 → ticks ≡ work) × TicksExactly ticks before after
+-- one folder and one meter
+abbrev pub outside : List Failure → Option (List ℕ) → Option (List ℕ) → ℕ → Outside
+outside failures out report count = record { failures = failures ∷ []; told = sinks out report; counts = count ∷ [] }
 
--- a run with these words over a folder with these files: the failures that it added to the folder's, what they leave to be
--- written, that it was written, and that its work was counted
-pub record Run (files : Files) (words : List (List ℕ)) (status : ℕ) (old_failures new_failures : List Failure) (old_out new_out old_report new_report : Option (List ℕ)) (old_count new_count : ℕ) : Type 0 where
-  pub added : List Failure
-  pub grown : new_failures ≡ old_failures ++ added
-  pub only : NamesRead words added
+-- the failures of each folder with those that were added
+abbrev pub with_added : List (List Failure) → List (List Failure) → List (List Failure)
+with_added [] added = []
+with_added (before ∷ befores) [] = before ∷ befores
+with_added (before ∷ befores) (more ∷ added) = (before ++ more) ∷ with_added befores added
+
+abbrev pub all_of : List (List Failure) → List Failure
+all_of [] = []
+all_of (added ∷ others) = added ++ all_of others
+
+-- those of the folder that is listed
+abbrev pub first_of : List (List Failure) → List Failure
+first_of [] = []
+first_of (added ∷ others) = added
+
+-- each count after so many ticks of its meter
+abbrev pub all_ticked : List ℕ → List ℕ → List ℕ
+all_ticked [] counts = counts
+all_ticked (tick ∷ ticks) [] = []
+all_ticked (tick ∷ ticks) (count ∷ counts) = ticked tick count ∷ all_ticked ticks counts
+
+abbrev pub total : List ℕ → ℕ
+total [] = 0
+total (tick ∷ ticks) = tick + total ticks
+
+-- a run with these words over folders with these files: the failures that it added to each folder's, what they leave to be
+-- written, the prefix of that which both sinks got, and the ticks of each meter. Below the status 4 it is all, and with 4 and
+-- 5 any prefix, and at most as many ticks
+pub record Run (files : Files) (words : List (List ℕ)) (status : ℕ) (before after : Outside) : Type 0 where
+  pub added : List (List Failure)
+  pub each_folder : length added ≡ length before.failures
+  pub grown : after.failures ≡ with_added before.failures added
+  pub only : NamesRead (library_of files) words (all_of added)
   pub written : Written
-  pub outcome : IsOutcome added (library_of files) words written
-  pub out : Gets status old_out new_out written.out
-  pub report : Gets status old_report new_report written.report
+  pub outcome : IsOutcome (first_of added) (all_of added) (library_of files) words written
   pub same_status : status < 4 → status ≡ written.status
-  pub counts : Counts status written.work old_count new_count
-
--- a run that stops for the folder has the status 3
-abbrev pub EndsSo : Result Status Stop → ℕ → Type 0
-EndsSo (Ok status) wanted = status.0 ≡ wanted
-EndsSo (Err stop.Folder) wanted = wanted ≡ 3
-EndsSo (Err stop.Sink) wanted = ⊤
-EndsSo (Err stop.Memory) wanted = ⊤
-
--- a run doesn't go on to its end where the listing or the table failed
-abbrev pub GoesOnFrom : Result Status Stop → List (List ℕ) → List Failure → Type 0
-GoesOnFrom (Ok status) words added = front_failed words added ≡ false
-GoesOnFrom (Err stop.Folder) words added = ⊤
-GoesOnFrom (Err stop.Sink) words added = ⊤
-GoesOnFrom (Err stop.Memory) words added = ⊤
+  pub part : List Put
+  pub rest : List Put
+  pub puts_are : written.puts ≡ part ++ rest
+  pub got : Got part before.told after.told
+  pub all_put : status < 4 → rest ≡ []
+  pub ticks : List ℕ
+  pub each_meter : length ticks ≡ length before.counts
+  pub counted : after.counts ≡ all_ticked ticks before.counts
+  pub most : total ticks ≤ written.work
+  pub all_counted : status < 4 → total ticks ≡ written.work
 
 -- the folder's count rose where the status is 3, and stayed where it is below; it never falls
-abbrev pub RunCounts : Result Status Stop → ℕ → ℕ → Type 0
-RunCounts (Ok status) before after = (status.0 ≡ 3 → Rises before after) × (status.0 < 3 → after ≡ before) × (before ≤ after)
-RunCounts (Err stop.Folder) before after = Rises before after
-RunCounts (Err stop.Sink) before after = before ≤ after
-RunCounts (Err stop.Memory) before after = before ≤ after
-
--- the same of a run that may have stopped; where it stopped for the folder it put nothing and counted nothing
-pub record Runs (files : Files) (words : List (List ℕ)) (result : Result Status Stop) (old_failures new_failures : List Failure) (old_out new_out old_report new_report : Option (List ℕ)) (old_count new_count : ℕ) : Type 0 where
-  pub added : List Failure
-  pub grown : new_failures ≡ old_failures ++ added
-  pub only : NamesRead words added
-  pub goes_on : GoesOnFrom result words added
-  pub written : Written
-  pub outcome : IsOutcome added (library_of files) words written
-  pub out : Gives result old_out new_out written.out
-  pub report : Gives result old_report new_report written.report
-  pub status : EndsSo result written.status
-  pub ticks : Ticks result written.work old_count new_count
-  pub nothing : result ≡ Err stop.Folder → (written.out ≡ []) × (written.report ≡ []) × (written.work ≡ 0)
+pub record FolderEnds (status before after : ℕ) : Type 0 where
+  pub failed : status ≡ 3 → Rises before after
+  pub kept : status < 3 → after ≡ before
+  pub grows : before ≤ after

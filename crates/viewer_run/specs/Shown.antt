@@ -1,17 +1,26 @@
 -- What pages that are shown came to, and which failures were met.
-use Rattle.std.specs.Prelude.{ℕ, Bool, true, false, ◌≡◌, ◌++◌, ◌≢◌, ◌≤◌, ◌||◌, ⊤, List, [], ◌∷◌, Option, None, Result, Ok, Err, IfOk, take, if◌then◌else◌}
+use Rattle.std.specs.Prelude.{ℕ, Bool, true, false, ◌≡◌, ◌+◌, ◌++◌, ◌≢◌, ◌≤◌, ◌||◌, ⊤, List, [], ◌∷◌, Option, None, Result, Ok, Err, IfOk, take, if◌then◌else◌}
 use Rattle.djvu_base.specs.Library.{File, Files, Whole, file_limit, mark_of}
 use Rattle.djvu_outside.specs.Faults.{Failure, Listing, Reading, Rises}
 use Rattle.djvu_outside.specs.Reading.{HasFile, bytes_in}
 use Rattle.viewer_run.specs.declared.pages.Shown.{Shown}
 use Rattle.djvu_outside.specs.declared.stops.Stop.{Stop}
 use Rattle.viewer_run.specs.declared.front.Mode.{Mode}
+use Rattle.viewer_run.specs.declared.front.Mode.TheVariants as mode
 use Rattle.djvu_base.specs.declared.ends.FileEnd.{FileEnd}
 use Rattle.djvu_base.specs.Name.{is_listed}
 use Rattle.djvu_outside.specs.Cut.{first_entry, cut_file}
-use Rattle.viewer_run.specs.Texts.{Texts, no_texts, joined}
-use Rattle.viewer_run.specs.Offline.{texts_by}
-use Rattle.djvu_outside.specs.Parts.{Gives, Ticks}
+use Rattle.std.specs.List.{flat_map}
+use Rattle.page_decoder.specs.declared.reading.Drawn.{Drawn}
+use Rattle.page_decoder.specs.declared.reading.PageReading.{PageReading}
+use Rattle.page_decoder.specs.Ends.{ending}
+use Rattle.viewer_words.specs.Lines.{notice_line}
+use Rattle.viewer_run.specs.Texts.{Texts, no_texts, joined, raster_of, texts_at, texts_of_file}
+use Rattle.viewer_run.specs.Info.{info_of_file}
+use Rattle.viewer_run.specs.Ended.{Around}
+use Rattle.page_decoder.specs.Reading.{reading}
+use Rattle.djvu_outside.specs.Parts.{Ticks}
+use Rattle.djvu_outside.specs.Puts.{GivesBoth}
 
 -- the file of a folder up to the limit, as these failures cut it
 abbrev pub file_of : Files → List Failure → List ℕ → File
@@ -21,10 +30,24 @@ file_of files failures name = cut_file failures (record { name = name; bytes = t
 abbrev pub file_read : List ℕ → List ℕ → FileEnd → File
 file_read name bytes end = record { name = name; bytes = bytes; mark = mark_of end }
 
--- pages in order
-abbrev pub texts_of_pages : Mode → Files → List Failure → List (List ℕ) → Texts
-texts_of_pages mode files failures [] = no_texts
-texts_of_pages mode files failures (name ∷ names) = joined (texts_by mode (file_of files failures name)) (texts_of_pages mode files failures names)
+-- what is put for a page of its own folder, of which it is the one file
+abbrev pub texts_by : Mode → File → Texts
+texts_by (mode.Draw rows) file = texts_of_file rows (file.name ∷ []) 0 file
+texts_by mode.Info file = info_of_file (file.name ∷ []) 0 file
+
+-- how many decisions its reading takes
+abbrev pub work_by : Mode → File → ℕ
+work_by (mode.Draw rows) file = (reading rows file.mark file.bytes).decisions
+work_by mode.Info file = 0
+
+-- pages in order, by their names
+abbrev pub texts_named : Mode → Files → List Failure → List (List ℕ) → Texts
+texts_named mode files failures [] = no_texts
+texts_named mode files failures (name ∷ names) = joined (texts_by mode (file_of files failures name)) (texts_named mode files failures names)
+
+abbrev pub work_named : Mode → Files → List Failure → List (List ℕ) → ℕ
+work_named mode files failures [] = 0
+work_named mode files failures (name ∷ names) = work_by mode (file_of files failures name) + work_named mode files failures names
 
 -- these failures name no other files than these
 abbrev pub NamesOnly : List (List ℕ) → List Failure → Type 0
@@ -43,20 +66,15 @@ HasBroken false failures = failures ≡ []
 
 -- the pages of these names were shown: what was put is their texts, cut by the failures that were met, and the meter counts
 -- their work
-pub record Shows (mode : Mode) (files : Files) (names : List (List ℕ)) (result : Result Shown Stop) (old_failures new_failures : List Failure) (old_out new_out old_report new_report : Option (List ℕ)) (old_count new_count : ℕ) : Type 0 where
+pub record Shows (mode : Mode) (files : Files) (names : List (List ℕ)) (result : Result Shown Stop) (before after : Around) : Type 0 where
   pub added : List Failure
-  pub grown : new_failures ≡ old_failures ++ added
+  pub grown : after.failures ≡ before.failures ++ added
   pub only : NamesOnly names added
-  pub after : lists_first added ≡ false
-  pub out : Gives result old_out new_out (texts_of_pages mode files added names).out
-  pub report : Gives result old_report new_report (texts_of_pages mode files added names).report
-  pub ticks : Ticks result (texts_of_pages mode files added names).work old_count new_count
-  pub refused : IfOk result (λ drawn. drawn.refused ≡ (texts_of_pages mode files added names).refused)
-  pub broken : IfOk result (λ drawn. HasBroken drawn.broken added)
-
-abbrev pub ShowsPage : Mode → Files → List ℕ → Result Shown Stop → List Failure → List Failure → Option (List ℕ) → Option (List ℕ) → Option (List ℕ) → Option (List ℕ) → ℕ → ℕ → Type 0
-ShowsPage mode files name result old_failures new_failures old_out new_out old_report new_report old_count new_count =
-    Shows mode files (name ∷ []) result old_failures new_failures old_out new_out old_report new_report old_count new_count
+  pub reads : lists_first added ≡ false
+  pub puts : GivesBoth result (texts_named mode files added names).puts before.told after.told
+  pub ticks : Ticks result (work_named mode files added names) before.count after.count
+  pub refused : IfOk result (λ shown. shown.refused ≡ (texts_named mode files added names).refused)
+  pub broken : IfOk result (λ shown. HasBroken shown.broken added)
 
 -- the folder's count of faults rose where a reading failed
 abbrev pub BrokenCounts : Bool → ℕ → ℕ → Type 0
@@ -84,3 +102,11 @@ AreDistinct (name ∷ names) = (is_listed names name ≡ false) × AreDistinct n
 -- 3 where a reading failed, and else 1 where a page was refused
 abbrev pub status_shown : Shown → ℕ
 status_shown shown = if shown.broken then 3 else if shown.refused then 1 else 0
+
+-- the lines of drawings, by what the code found in a page
+abbrev pub lines_told : List ℕ → List Drawn → List ℕ
+lines_told name notices = flat_map (λ drawn. notice_line name drawn.chunks drawn.sum) notices
+
+-- what is put for a page by that
+abbrev pub texts_found : List ℕ → PageReading → Texts
+texts_found name found = texts_at (name ∷ []) 0 (lines_told name found.notices) (raster_of found.layers) (ending found.end)

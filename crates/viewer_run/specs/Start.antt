@@ -7,8 +7,11 @@ use Rattle.viewer_words.specs.declared.commands.TableChoice.{TableChoice}
 use Rattle.viewer_words.specs.declared.commands.TableChoice.TheVariants as choice
 use Rattle.viewer_run.specs.declared.front.Front.{Front}
 use Rattle.viewer_run.specs.declared.front.Front.TheVariants as front
+use Rattle.viewer_run.specs.declared.front.Mode.{Mode}
+use Rattle.viewer_run.specs.declared.front.Mode.TheVariants as mode
 use Rattle.djvu_outside.specs.declared.stops.Stop.{Stop}
 use Rattle.djvu_outside.specs.declared.stops.Stop.TheVariants as stop
+use Rattle.viewer_run.specs.Plan.{Plan, Refuses, Draws, Lists, numbers_of}
 use Rattle.viewer_run.specs.EarlyFailures.{is_table, front_may_fail}
 use Rattle.viewer_run.specs.Shown.{HasFiles, AreDistinct}
 
@@ -30,6 +33,22 @@ StartsFor (Ok value) words before after = after ≡ before
 StartsFor (Err stop.Folder) words before after = (entry : Failure) × (after ≡ before ++ entry ∷ []) × (front_may_fail words (entry ∷ []) ≡ true)
 StartsFor (Err stop.Sink) words before after = ⊥
 StartsFor (Err stop.Memory) words before after = after ≡ before
+
+-- the plan of what is done with pages of these names
+abbrev pub plan_for : Mode → List ℕ → Plan
+plan_for (mode.Draw rows) pages = Draws rows pages
+plan_for mode.Info pages = Lists pages
+
+-- the plan of a front over a folder with these names
+abbrev pub plan_by : List (List ℕ) → Front → Plan
+plan_by names (front.Refused line) = Refuses line
+plan_by names (front.Accepted mode pages) = plan_for mode (numbers_of names pages)
+
+-- what is done reads no decision
+abbrev pub ReadsNone : Front → Type 0
+ReadsNone (front.Refused line) = ⊤
+ReadsNone (front.Accepted (mode.Draw rows) pages) = ⊥
+ReadsNone (front.Accepted mode.Info pages) = ⊤
 
 -- the folder has the pages of a front
 abbrev pub CanShow : Files → Front → Type 0

@@ -1,31 +1,28 @@
--- What is written for a page that is drawn, and how many decisions its reading takes.
-use Rattle.std.specs.Prelude.{ℕ, Bool, true, false, ◌+◌, ◌++◌, ◌||◌, List, [], ◌∷◌, Option, Some, None}
+-- What is put for a page that is drawn.
+use Rattle.std.specs.Prelude.{ℕ, Bool, true, false, ◌++◌, ◌||◌, List, [], ◌∷◌, Option, Some, None, slice_get}
 use Rattle.std.specs.List.{flat_map}
-use Rattle.djvu_base.specs.Library.{File}
+use Rattle.djvu_base.specs.Library.{File, Library}
 use Rattle.djvu_base.specs.declared.faults.FaultKind.{FaultKind}
+use Rattle.djvu_outside.specs.Puts.{Put, to_out, to_report}
 use Rattle.zp_table.specs.declared.rows.Row.{Row}
 use Rattle.layer_compose.specs.declared.layers.Layers.{Layers}
 use Rattle.layer_compose.specs.Drawing.{sum_of}
-use Rattle.page_decoder.specs.declared.reading.Drawn.{Drawn}
-use Rattle.page_decoder.specs.declared.reading.PageReading.{PageReading}
 use Rattle.page_decoder.specs.Reading.{Notice, Ending, Finished, Fault, NeedBytes, Reading, reading}
-use Rattle.page_decoder.specs.Ends.{ending}
 use Rattle.page_decoder.specs.Found.{last_layers}
-use Rattle.viewer_words.specs.Lines.{notice_line, fault_line}
+use Rattle.viewer_words.specs.Lines.{name_at, notice_line, fault_line}
+use Rattle.viewer_run.specs.Plan.{names_in}
 use Rattle.viewer_run.specs.Rasters.{raster_text}
 
--- what goes to the two sinks, whether a page was refused, and the decisions of the readings
+-- what is put into the two sinks, and whether a page was refused
 pub record Texts : Type 0 where
-  pub out : List ℕ
-  pub report : List ℕ
+  pub puts : List Put
   pub refused : Bool
-  pub work : ℕ
 
 abbrev pub no_texts : Texts
-no_texts = record { out = []; report = []; refused = false; work = 0 }
+no_texts = record { puts = []; refused = false }
 
 abbrev pub joined : Texts → Texts → Texts
-joined before after = record { out = before.out ++ after.out; report = before.report ++ after.report; refused = before.refused || after.refused; work = before.work + after.work }
+joined before after = record { puts = before.puts ++ after.puts; refused = before.refused || after.refused }
 
 -- a page without a drawing has no raster
 abbrev pub raster_of : Option Layers → List ℕ
@@ -36,27 +33,42 @@ raster_of (Some layers) = raster_text layers
 abbrev pub lines_of : List ℕ → List Notice → List ℕ
 lines_of name notices = flat_map (λ notice. notice_line name notice.chunks (sum_of notice.layers)) notices
 
--- the line of a fault in a page's own file
-abbrev pub page_fault : List ℕ → FaultKind → ℕ → List ℕ
-page_fault name kind offset = fault_line name (record { kind = kind; place = record { file = 0; offset = offset } }) (name ∷ [])
+-- the line of a fault in the file of a page, which has this number among the names of the folder
+abbrev pub page_fault : List (List ℕ) → ℕ → FaultKind → ℕ → List ℕ
+page_fault names page kind offset = fault_line (name_at names page) (record { kind = kind; place = record { file = page; offset = offset } }) names
 
--- a page with these lines and this raster, which ends so: one that is finished has its raster; one that is refused has none,
--- and the line of its fault after the others
-abbrev pub texts_at : List ℕ → List ℕ → List ℕ → Ending → ℕ → Texts
-texts_at name lines raster Finished work = record { out = raster; report = lines; refused = false; work = work }
-texts_at name lines raster (Fault kind offset) work = record { out = []; report = lines ++ page_fault name kind offset; refused = true; work = work }
-texts_at name lines raster NeedBytes work = record { out = []; report = lines; refused = false; work = work }
+-- the lines of a page that ends so: those of its drawings, and that of its fault after them
+abbrev pub lines_at : List (List ℕ) → ℕ → List ℕ → Ending → List ℕ
+lines_at names page lines Finished = lines
+lines_at names page lines (Fault kind offset) = lines ++ page_fault names page kind offset
+lines_at names page lines NeedBytes = lines
+
+-- only a page that is finished has its raster
+abbrev pub raster_at : List ℕ → Ending → List ℕ
+raster_at raster Finished = raster
+raster_at raster (Fault kind offset) = []
+raster_at raster NeedBytes = []
+
+abbrev pub is_refused : Ending → Bool
+is_refused Finished = false
+is_refused (Fault kind offset) = true
+is_refused NeedBytes = false
+
+-- the lines of a page go out before its raster
+abbrev pub texts_at : List (List ℕ) → ℕ → List ℕ → List ℕ → Ending → Texts
+texts_at names page lines raster end = record { puts = to_report (lines_at names page lines end) ++ to_out (raster_at raster end); refused = is_refused end }
 
 -- the raster is that of the last drawing
-abbrev pub texts_of_reading : List ℕ → Reading → Texts
-texts_of_reading name read = texts_at name (lines_of name read.notices) (raster_of (last_layers read.notices)) read.end read.decisions
+abbrev pub texts_of_reading : List (List ℕ) → ℕ → Reading → Texts
+texts_of_reading names page read = texts_at names page (lines_of (name_at names page) read.notices) (raster_of (last_layers read.notices)) read.end
 
-abbrev pub texts_of_file : List Row → File → Texts
-texts_of_file rows file = texts_of_reading file.name (reading rows file.mark file.bytes)
+abbrev pub texts_of_file : List Row → List (List ℕ) → ℕ → File → Texts
+texts_of_file rows names page file = texts_of_reading names page (reading rows file.mark file.bytes)
 
--- the same by what the code found in a page, which doesn't tell its decisions
-abbrev pub lines_told : List ℕ → List Drawn → List ℕ
-lines_told name notices = flat_map (λ drawn. notice_line name drawn.chunks drawn.sum) notices
+abbrev pub texts_of_found : List Row → List (List ℕ) → ℕ → Option File → Texts
+texts_of_found rows names page None = no_texts
+texts_of_found rows names page (Some file) = texts_of_file rows names page file
 
-abbrev pub texts_found : List ℕ → PageReading → Texts
-texts_found name found = texts_at name (lines_told name found.notices) (raster_of found.layers) (ending found.end) 0
+-- a page of a library, by its number there, which is drawn with this state table
+abbrev pub texts_of_page : List Row → Library → ℕ → Texts
+texts_of_page rows library page = texts_of_found rows (names_in library) page (slice_get library page)

@@ -1,16 +1,15 @@
 //! What stands before the pages: the words, the listing, the number of names, the words that name files, and the table.
-ghost use Rattle.std.specs.Prelude.{◌≡◌, ◌≢◌, ℕ, false, Some, Err, IfOk, map};
+ghost use Rattle.std.specs.Prelude.{◌≡◌, ◌≢◌, true, false, [], Some, Err, IfOk, map};
 ghost use Rattle.djvu_base.specs.Library.{Files, library_of};
 ghost use Rattle.viewer_words.specs.Words.{words_of};
-ghost use Rattle.viewer_words.specs.Lines.{words_line};
 ghost use Rattle.djvu_outside.specs.Parts.{FolderStops};
 ghost use Rattle.viewer_words.specs.declared.commands.TableChoice.{TableChoice};
 ghost use Rattle.viewer_words.specs.Files.{named_files, table_before};
-ghost use Rattle.viewer_run.specs.Front.{line_by_names, names_in, front_of, front_of_draw, front_of_info, draws, ReadsNone};
+ghost use Rattle.viewer_run.specs.Plan.{line_by_names, names_in, plan_of, plan_of_draw, plan_of_info, draws, asks_no_folder};
 ghost use Rattle.viewer_run.specs.Shown.{AreDistinct};
-ghost use Rattle.viewer_run.specs.Start.{Starts, StartsFor, CanShow, CanStart, ShowsEachOnce};
+ghost use Rattle.viewer_run.specs.Start.{Starts, StartsFor, CanShow, CanStart, ShowsEachOnce, ReadsNone, plan_by};
 
-use crate::tables::{Chosen, SharedTable, choose_table};
+use crate::tables::{SharedTable, choose_table};
 use djvu_base::{Items, Name};
 use djvu_outside::{Folder, FolderFault, Stop};
 use std::alloc::{AllocError, Global};
@@ -47,16 +46,14 @@ pub fn find_front<F: Folder>(
     words: &[Items<u8>],
     folder: &mut F,
 ) -> Result<Front, Stop>
-    ensures told { (told : Files) → F.files folder.old ≡ Some told → IfOk result (λ front. front ≡ front_of (library_of told) words.now) }
+    ensures told { (told : Files) → F.files folder.old ≡ Some told → IfOk result (λ front. plan_by (names_in (library_of told)) front ≡ plan_of (library_of told) words.now) }
     ensures failure { (told : Files) → F.files folder.old ≡ Some told → StartsFor result words.now (F.failures folder.old) (F.failures folder.new) }
     ensures can_show { (told : Files) → F.files folder.old ≡ Some told → IfOk result (λ front. CanShow told front) }
     ensures each_once { IfOk result ShowsEachOnce }
     ensures reads_none { draws (words_of words.now) ≡ false → IfOk result ReadsNone }
     ensures stops { FolderStops result (F.faults folder.old) (F.faults folder.new) }
     ensures same_files { F.files folder.new ≡ F.files folder.old }
-    ensures words_first { (number : ℕ) → words_of words.now ≡ Err number → folder.new ≡ folder.old }
-    ensures refused { (number : ℕ) → words_of words.now ≡ Err number → IfOk result (λ front. front ≡ Front.Refused (words_line number)) }
-    ensures unlisted { (number : ℕ) → words_of words.now ≡ Err number → result ≢ Err Stop.Folder }
+    ensures alone { asks_no_folder (words_of words.now) ≡ true → (folder.new ≡ folder.old) × (result ≢ Err Stop.Folder) × IfOk result (λ front. plan_by [] front ≡ plan_of [] words.now) }
 {
     viewer_words::laws::named_files_are_words();
     match read_words(alloc, words) {
@@ -79,7 +76,7 @@ fn front_of_draw<F: Folder>(
 ) -> Result<Front, Stop>
     requires distinct { AreDistinct pages }
     requires named { map (λ file. file.1) (named_files words.now) ≡ table_before table.now pages }
-    ensures told { (told : Files) → F.files folder.old ≡ Some told → IfOk result (λ front. front ≡ front_of_draw (library_of told) (named_files words.now) table.now pages) }
+    ensures told { (told : Files) → F.files folder.old ≡ Some told → IfOk result (λ front. plan_by (names_in (library_of told)) front ≡ plan_of_draw (library_of told) (named_files words.now) table.now pages) }
     ensures failure { (told : Files) → F.files folder.old ≡ Some told → Starts result table.now (F.failures folder.old) (F.failures folder.new) }
     ensures can_show { (told : Files) → F.files folder.old ≡ Some told → IfOk result (λ front. CanShow told front) }
     ensures each_once { IfOk result ShowsEachOnce }
@@ -90,11 +87,11 @@ fn front_of_draw<F: Folder>(
         return Ok(Front::Refused(line));
     }
     match choose_table(alloc, table, folder)? {
-        Chosen::Table(table) => Ok(Front::Accepted {
+        Ok(table) => Ok(Front::Accepted {
             mode: Mode::Draw(table),
             pages,
         }),
-        Chosen::Refused(fault) => {
+        Err(fault) => {
             let line = table_line(alloc, fault.row, fault.why.word())?;
             Ok(Front::Refused(Items::of(line)))
         }
@@ -110,7 +107,7 @@ fn front_of_info<F: Folder>(
 ) -> Result<Front, Stop>
     requires distinct { AreDistinct pages }
     requires named { map (λ file. file.1) (named_files words.now) ≡ pages }
-    ensures told { (told : Files) → F.files folder.old ≡ Some told → IfOk result (λ front. front ≡ front_of_info (library_of told) (named_files words.now) pages) }
+    ensures told { (told : Files) → F.files folder.old ≡ Some told → IfOk result (λ front. plan_by (names_in (library_of told)) front ≡ plan_of_info (library_of told) (named_files words.now) pages) }
     ensures failure { (told : Files) → F.files folder.old ≡ Some told → Starts result TableChoice.Djvu (F.failures folder.old) (F.failures folder.new) }
     ensures can_show { (told : Files) → F.files folder.old ≡ Some told → IfOk result (λ front. CanShow told front) }
     ensures each_once { IfOk result ShowsEachOnce }

@@ -1,7 +1,8 @@
 //! The chunks of a file, in lines.
-ghost use Rattle.std.specs.Prelude.{◌≡◌, ◌<◌, ◌^◌, IfOk, [], length};
+ghost use Rattle.std.specs.Prelude.{◌≡◌, ◌<◌, ◌^◌, IfOk, [], ◌∷◌, length};
+ghost use Rattle.iff_chunks.specs.Ends.{file_end};
 ghost use Rattle.iff_chunks.specs.Told.{Told};
-ghost use Rattle.viewer_run.specs.Info.{info_report, step_line, InformsWhole};
+ghost use Rattle.viewer_run.specs.Info.{info_lines, has_fault, step_line, InformsWhole};
 ghost use Rattle.djvu_base.specs.Library.{mark_of};
 
 use crate::texts::own_fault;
@@ -27,8 +28,8 @@ pub fn info_of(
     end: FileEnd,
 ) -> Result<InfoText, AllocError>
     requires { length bytes.now < 2 ^ 32 }
-    ensures lines { IfOk result (λ text. text.lines.items ≡ (info_report name.now (mark_of end) bytes.now).report) }
-    ensures refused { IfOk result (λ text. text.refused ≡ (info_report name.now (mark_of end) bytes.now).refused) }
+    ensures lines { IfOk result (λ text. text.lines.items ≡ info_lines (name.now ∷ []) 0 (mark_of end) bytes.now) }
+    ensures refused { IfOk result (λ text. text.refused ≡ has_fault (file_end (mark_of end) bytes.now)) }
 {
     let mut walker = Walker::new();
     let mut lines = headings(alloc, name, &mut walker, bytes)?;

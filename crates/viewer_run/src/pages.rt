@@ -1,13 +1,14 @@
 //! Pages, one after the other.
-ghost use Rattle.std.specs.Prelude.{◌≡◌, ℕ, ◌<◌, ◌^◌, Some, IfOk, vec_len};
+ghost use Rattle.std.specs.Prelude.{◌≡◌, ℕ, ◌<◌, ◌^◌, [], ◌∷◌, Some, IfOk, vec_len};
 ghost use Rattle.djvu_base.specs.Library.{Files, mark_of};
 ghost use Rattle.djvu_base.specs.Meter.{TicksExactly};
 ghost use Rattle.djvu_outside.specs.Reading.{HasFile};
 ghost use Rattle.djvu_outside.specs.Parts.{Gives, SinksEnd, SinkStops, NeverFolder, Ticks};
-ghost use Rattle.viewer_run.specs.Info.{info_report};
-ghost use Rattle.viewer_run.specs.Offline.{texts_by};
-ghost use Rattle.viewer_run.specs.Texts.{texts_of_file};
-ghost use Rattle.viewer_run.specs.Shown.{file_read, Shows, ShowsPage, PagesCount, HasFiles, AreDistinct, both, status_shown};
+ghost use Rattle.djvu_outside.specs.Puts.{GivesBoth, sinks};
+ghost use Rattle.iff_chunks.specs.Ends.{file_end};
+ghost use Rattle.viewer_run.specs.Info.{info_lines, has_fault};
+ghost use Rattle.viewer_run.specs.Ended.{around};
+ghost use Rattle.viewer_run.specs.Shown.{file_read, texts_by, work_by, Shows, PagesCount, HasFiles, AreDistinct, both, status_shown};
 
 use crate::front::Mode;
 use crate::info::info_of;
@@ -64,7 +65,7 @@ fn show_page<F: Folder, S: Sink, E: Sink, M: Meter>(
 ) -> Result<Shown, Stop>
     requires { (told : Files) → F.files folder.old ≡ Some told → HasFile told page.now }
     ensures told { (told : Files) → F.files folder.old ≡ Some told →
-        ShowsPage mode.now told page.now result (F.failures folder.old) (F.failures folder.new) (S.given out.old) (S.given out.new) (E.given report.old) (E.given report.new) (M.count meter.old) (M.count meter.new) }
+        Shows mode.now told (page.now ∷ []) result (around (F.failures folder.old) (S.given out.old) (E.given report.old) (M.count meter.old)) (around (F.failures folder.new) (S.given out.new) (E.given report.new) (M.count meter.new)) }
     ensures counts { PagesCount result (F.faults folder.old) (F.faults folder.new) }
     ensures sinks_end { SinksEnd result (S.faults out.old) (S.faults out.new) (E.faults report.old) (E.faults report.new) }
     ensures no_folder { NeverFolder result }
@@ -91,10 +92,9 @@ fn put_file<S: Sink, E: Sink, M: Meter>(
     meter: &mut M,
 ) -> Result<bool, Stop>
     requires { vec_len file.now.bytes < 2 ^ 32 }
-    ensures out_text { Gives result (S.given out.old) (S.given out.new) (texts_by mode.now (file_read page.now file.now.bytes.items file.now.end)).out }
-    ensures report_text { Gives result (E.given report.old) (E.given report.new) (texts_by mode.now (file_read page.now file.now.bytes.items file.now.end)).report }
+    ensures puts { GivesBoth result (texts_by mode.now (file_read page.now file.now.bytes.items file.now.end)).puts (sinks (S.given out.old) (E.given report.old)) (sinks (S.given out.new) (E.given report.new)) }
     ensures refused { IfOk result (λ refused. refused ≡ (texts_by mode.now (file_read page.now file.now.bytes.items file.now.end)).refused) }
-    ensures ticks { Ticks result (texts_by mode.now (file_read page.now file.now.bytes.items file.now.end)).work (M.count meter.old) (M.count meter.new) }
+    ensures ticks { Ticks result (work_by mode.now (file_read page.now file.now.bytes.items file.now.end)) (M.count meter.old) (M.count meter.new) }
     ensures sinks_end { SinksEnd result (S.faults out.old) (S.faults out.new) (E.faults report.old) (E.faults report.new) }
     ensures no_folder { NeverFolder result }
     ensures still { mode.now ≡ Mode.Info → meter.new ≡ meter.old }
@@ -116,10 +116,9 @@ fn put_drawn<S: Sink, E: Sink, M: Meter>(
     meter: &mut M,
 ) -> Result<bool, Stop>
     requires { vec_len file.now.bytes < 2 ^ 32 }
-    ensures out_text { Gives result (S.given out.old) (S.given out.new) (texts_of_file table.now (file_read page.now file.now.bytes.items file.now.end)).out }
-    ensures report_text { Gives result (E.given report.old) (E.given report.new) (texts_of_file table.now (file_read page.now file.now.bytes.items file.now.end)).report }
-    ensures refused { IfOk result (λ refused. refused ≡ (texts_of_file table.now (file_read page.now file.now.bytes.items file.now.end)).refused) }
-    ensures ticks { Ticks result (texts_of_file table.now (file_read page.now file.now.bytes.items file.now.end)).work (M.count meter.old) (M.count meter.new) }
+    ensures puts { GivesBoth result (texts_by (Mode.Draw table.now) (file_read page.now file.now.bytes.items file.now.end)).puts (sinks (S.given out.old) (E.given report.old)) (sinks (S.given out.new) (E.given report.new)) }
+    ensures refused { IfOk result (λ refused. refused ≡ (texts_by (Mode.Draw table.now) (file_read page.now file.now.bytes.items file.now.end)).refused) }
+    ensures ticks { Ticks result (work_by (Mode.Draw table.now) (file_read page.now file.now.bytes.items file.now.end)) (M.count meter.old) (M.count meter.new) }
     ensures sinks_end { SinksEnd result (S.faults out.old) (S.faults out.new) (E.faults report.old) (E.faults report.new) }
     ensures no_folder { NeverFolder result }
 {
@@ -141,8 +140,8 @@ fn put_info<E: Sink>(
     report: &mut E,
 ) -> Result<bool, Stop>
     requires { vec_len file.now.bytes < 2 ^ 32 }
-    ensures report_text { Gives result (E.given report.old) (E.given report.new) (info_report page.now (mark_of file.now.end) file.now.bytes.items).report }
-    ensures refused { IfOk result (λ refused. refused ≡ (info_report page.now (mark_of file.now.end) file.now.bytes.items).refused) }
+    ensures report_text { Gives result (E.given report.old) (E.given report.new) (info_lines (page.now ∷ []) 0 (mark_of file.now.end) file.now.bytes.items) }
+    ensures refused { IfOk result (λ refused. refused ≡ has_fault (file_end (mark_of file.now.end) file.now.bytes.items)) }
     ensures stops { SinkStops result (E.faults report.old) (E.faults report.new) }
 {
     let text = info_of(alloc, page, file.bytes.as_slice(), file.end)?;
@@ -163,7 +162,7 @@ pub fn show_pages<F: Folder, S: Sink, E: Sink, M: Meter>(
     requires listed { (told : Files) → F.files folder.old ≡ Some told → HasFiles told pages.now }
     requires distinct { AreDistinct pages.now }
     ensures told { (told : Files) → F.files folder.old ≡ Some told →
-        Shows mode.now told pages.now result (F.failures folder.old) (F.failures folder.new) (S.given out.old) (S.given out.new) (E.given report.old) (E.given report.new) (M.count meter.old) (M.count meter.new) }
+        Shows mode.now told pages.now result (around (F.failures folder.old) (S.given out.old) (E.given report.old) (M.count meter.old)) (around (F.failures folder.new) (S.given out.new) (E.given report.new) (M.count meter.new)) }
     ensures counts { PagesCount result (F.faults folder.old) (F.faults folder.new) }
     ensures sinks_end { SinksEnd result (S.faults out.old) (S.faults out.new) (E.faults report.old) (E.faults report.new) }
     ensures no_folder { NeverFolder result }

@@ -4,7 +4,7 @@ ghost use Rattle.std.specs.Arc.{arc_value};
 ghost use Rattle.djvu_base.specs.Library.{Files, library_of, file_limit};
 ghost use Rattle.djvu_outside.specs.Reading.{HasFile, bytes_in};
 ghost use Rattle.djvu_outside.specs.Parts.{FolderStops};
-ghost use Rattle.viewer_run.specs.Front.{table_of, table_in};
+ghost use Rattle.viewer_run.specs.Plan.{table_of, table_in};
 ghost use Rattle.viewer_run.specs.Start.{Starts, CanRead};
 
 use djvu_base::Name;
@@ -48,38 +48,33 @@ impl SharedTable {
     }
 }
 
-/// What the choice of a table comes to.
-#[derive(Debug, Drop)]
-pub enum Chosen {
-    /// The table.
-    Table(SharedTable),
-    /// Its file is no table, and this is what is wrong with it.
-    Refused(TableFault),
-}
-
-/// The table of this choice. Where it is a file's, that is read.
+/// The table of this choice, or what is wrong with its file. Where it is a file's, that is read.
 pub fn choose_table<F: Folder>(
     alloc: Global,
     choice: &TableChoice,
     folder: &mut F,
-) -> Result<Chosen, Stop>
+) -> Result<Result<SharedTable, TableFault>, Stop>
     requires { (told : Files) → F.files folder.old ≡ Some told → CanRead told choice.now }
-    ensures told { (told : Files) → F.files folder.old ≡ Some told → IfOk result (λ chosen. chosen ≡ table_of (library_of told) choice.now) }
+    ensures told { (told : Files) → F.files folder.old ≡ Some told → IfOk result (λ table. table ≡ table_of (library_of told) choice.now) }
     ensures failure { (told : Files) → F.files folder.old ≡ Some told → Starts result choice.now (F.failures folder.old) (F.failures folder.new) }
     ensures stops { FolderStops result (F.faults folder.old) (F.faults folder.new) }
     ensures same_files { F.files folder.new ≡ F.files folder.old }
 {
     match choice {
-        TableChoice::Djvu => Ok(Chosen::Table(SharedTable::new(alloc, Table::djvu(alloc)?)?)),
-        TableChoice::Flat => Ok(Chosen::Table(SharedTable::new(alloc, Table::flat(alloc)?)?)),
+        TableChoice::Djvu => Ok(Ok(SharedTable::new(alloc, Table::djvu(alloc)?)?)),
+        TableChoice::Flat => Ok(Ok(SharedTable::new(alloc, Table::flat(alloc)?)?)),
         TableChoice::File(name) => read_table(alloc, name, folder),
     }
 }
 
-/// The table in the file of this name.
-fn read_table<F: Folder>(alloc: Global, name: &Name, folder: &mut F) -> Result<Chosen, Stop>
+/// The table in the file of this name, or what is wrong with it.
+fn read_table<F: Folder>(
+    alloc: Global,
+    name: &Name,
+    folder: &mut F,
+) -> Result<Result<SharedTable, TableFault>, Stop>
     requires { (told : Files) → F.files folder.old ≡ Some told → HasFile told name.now }
-    ensures told { (told : Files) → F.files folder.old ≡ Some told → IfOk result (λ chosen. chosen ≡ table_in (take file_limit (bytes_in told name.now))) }
+    ensures told { (told : Files) → F.files folder.old ≡ Some told → IfOk result (λ table. table ≡ table_in (take file_limit (bytes_in told name.now))) }
     ensures failure { (told : Files) → F.files folder.old ≡ Some told → Starts result (TableChoice.File name.now) (F.failures folder.old) (F.failures folder.new) }
     ensures stops { FolderStops result (F.faults folder.old) (F.faults folder.new) }
     ensures same_files { F.files folder.new ≡ F.files folder.old }
@@ -89,8 +84,8 @@ fn read_table<F: Folder>(alloc: Global, name: &Name, folder: &mut F) -> Result<C
         return Err(Stop::Folder);
     }
     match Table::read(alloc, file.bytes.as_slice()) {
-        Ok(table) => Ok(Chosen::Table(SharedTable::new(alloc, table)?)),
-        Err(TableError::Refused(fault)) => Ok(Chosen::Refused(fault)),
+        Ok(table) => Ok(Ok(SharedTable::new(alloc, table)?)),
+        Err(TableError::Refused(fault)) => Ok(Err(fault)),
         Err(TableError::OutOfMemory) => Err(Stop::Memory),
     }
 }

@@ -1,8 +1,11 @@
 //! What is written for one page.
-ghost use Rattle.std.specs.Prelude.{◌≡◌, IfOk};
+ghost use Rattle.std.specs.Prelude.{◌≡◌, IfOk, [], ◌∷◌};
 ghost use Rattle.page_decoder.specs.Found.{CanDrawLast};
-ghost use Rattle.djvu_outside.specs.Parts.{Gives, SinksEnd, NeverFolder};
-ghost use Rattle.viewer_run.specs.Texts.{lines_told, texts_found, page_fault};
+ghost use Rattle.djvu_outside.specs.Parts.{SinksEnd, NeverFolder};
+ghost use Rattle.djvu_outside.specs.Puts.{GivesBoth, sinks};
+ghost use Rattle.page_decoder.specs.Ends.{ending};
+ghost use Rattle.viewer_run.specs.Texts.{lines_at, page_fault};
+ghost use Rattle.viewer_run.specs.Shown.{lines_told, texts_found};
 
 use crate::put::put_raster;
 use djvu_base::{Fault, FaultKind, Name, Place};
@@ -21,8 +24,7 @@ pub fn put_page<S: Sink, E: Sink>(
     report: &mut E,
 ) -> Result<bool, Stop>
     requires { CanDrawLast read.now.layers }
-    ensures out_text { Gives result (S.given out.old) (S.given out.new) (texts_found page.now read.now).out }
-    ensures report_text { Gives result (E.given report.old) (E.given report.new) (texts_found page.now read.now).report }
+    ensures puts { GivesBoth result (texts_found page.now read.now).puts (sinks (S.given out.old) (E.given report.old)) (sinks (S.given out.new) (E.given report.new)) }
     ensures refused { IfOk result (λ refused. refused ≡ (texts_found page.now read.now).refused) }
     ensures sinks_end { SinksEnd result (S.faults out.old) (S.faults out.new) (E.faults report.old) (E.faults report.new) }
     ensures no_folder { NeverFolder result }
@@ -41,7 +43,7 @@ pub fn put_page<S: Sink, E: Sink>(
 
 /// The lines of a page: its drawings, and its fault.
 fn lines_of(alloc: Global, page: &Name, read: &PageReading) -> Result<Vec<u8>, AllocError>
-    ensures { IfOk result (λ lines. lines.items ≡ (texts_found page.now read.now).report) }
+    ensures { IfOk result (λ lines. lines.items ≡ lines_at (page.now ∷ []) 0 (lines_told page.now read.now.notices) (ending read.now.end)) }
 {
     let mut lines = drawn_lines(alloc, page, read.notices.slice())?;
     if let PageEnd::Refused { kind, offset } = read.end {
@@ -58,7 +60,7 @@ pub fn own_fault(
     kind: FaultKind,
     offset: u32,
 ) -> Result<Vec<u8>, AllocError>
-    ensures { IfOk result (λ line. line.items ≡ page_fault page.now kind offset) }
+    ensures { IfOk result (λ line. line.items ≡ page_fault (page.now ∷ []) 0 kind offset) }
 {
     let place = Place { file: 0, offset };
     fault_line(alloc, page, &Fault { kind, place }, from_ref(page))

@@ -1,14 +1,14 @@
 //! A whole run.
-ghost use Rattle.std.specs.Prelude.{◌≡◌, ◌≢◌, ℕ, ◌<◌, ◌≤◌, ◌++◌, List, Some, Err, IfOk, true, false};
-ghost use Rattle.djvu_base.specs.Library.{Files};
-ghost use Rattle.djvu_outside.specs.Faults.{Failure, Rises};
-ghost use Rattle.viewer_words.specs.Words.{words_of};
-ghost use Rattle.viewer_words.specs.Lines.{words_line};
+ghost use Rattle.std.specs.Prelude.{◌≡◌, ◌≢◌, ℕ, ◌<◌, ◌≤◌, ◌++◌, List, [], Some, Err, IfOk, true, false};
+ghost use Rattle.djvu_base.specs.Library.{Files, library_of};
 ghost use Rattle.djvu_base.specs.Meter.{TicksExactly};
+ghost use Rattle.djvu_outside.specs.Faults.{Failure};
 ghost use Rattle.djvu_outside.specs.Parts.{Gives, OneRises, SinkStops, SinksEnd};
+ghost use Rattle.viewer_words.specs.Words.{words_of};
+ghost use Rattle.viewer_run.specs.Plan.{draws, asks_no_folder};
 ghost use Rattle.viewer_run.specs.EarlyFailures.{front_failed};
-ghost use Rattle.viewer_run.specs.Front.{draws};
-ghost use Rattle.viewer_run.specs.Runs.{Gets, Run, Runs, RunCounts};
+ghost use Rattle.viewer_run.specs.Runs.{Run, FolderEnds, outside};
+ghost use Rattle.viewer_run.specs.Ended.{Runs, RunCounts, around};
 
 use crate::front::{Front, find_front};
 use crate::pages::show_pages;
@@ -32,34 +32,26 @@ pub fn run<F: Folder, S: Sink, E: Sink, M: Meter>(
     report: &mut E,
     meter: &mut M,
 ) -> Status
-    // What is written, the status below 4 and the work that the meter counts, by the failures that the folder met; with 4 and
-    // 5 a prefix of it, and at most as much work.
+    // What is put, the status below 4 and the work that the meter counts, by the failures that the folder met; with 4 and 5 a
+    // prefix of it, and at most as much work.
     ensures told { (told : Files) → F.files folder.old ≡ Some told →
-        Run told words.now result.0 (F.failures folder.old) (F.failures folder.new) (S.given out.old) (S.given out.new) (E.given report.old) (E.given report.new) (M.count meter.old) (M.count meter.new) }
-    ensures untouched { (told : Files) (added : List Failure) → F.files folder.old ≡ Some told → F.failures folder.new ≡ F.failures folder.old ++ added → front_failed words.now added ≡ true →
+        Run told words.now result.0 (outside (F.failures folder.old) (S.given out.old) (E.given report.old) (M.count meter.old)) (outside (F.failures folder.new) (S.given out.new) (E.given report.new) (M.count meter.new)) }
+    ensures untouched { (told : Files) (added : List Failure) → F.files folder.old ≡ Some told → F.failures folder.new ≡ F.failures folder.old ++ added → front_failed (library_of told) words.now added ≡ true →
         result.0 < 4 → (out.new ≡ out.old) × (report.new ≡ report.old) }
 
-    // 3 comes where the folder failed, and a lower status where it didn't. Its count never falls.
-    ensures folder_failed { result.0 ≡ 3 → Rises (F.faults folder.old) (F.faults folder.new) }
-    ensures folder_kept { result.0 < 3 → F.faults folder.new ≡ F.faults folder.old }
-    ensures folder_grows { F.faults folder.old ≤ F.faults folder.new }
+    // Words that ask for nothing of a folder: a run over no files, whatever the folder is.
+    ensures alone { asks_no_folder (words_of words.now) ≡ true →
+        (folder.new ≡ folder.old) × Run [] words.now result.0 (outside [] (S.given out.old) (E.given report.old) (M.count meter.old)) (outside [] (S.given out.new) (E.given report.new) (M.count meter.new)) }
 
-    // 4 comes where a sink failed, and 5 where none did.
+    // 3 comes where the folder failed, and a lower status where it didn't. 4 comes where a sink failed, and no other does.
+    ensures folder_ends { FolderEnds result.0 (F.faults folder.old) (F.faults folder.new) }
     ensures sink_failed { result.0 ≡ 4 → OneRises (S.faults out.old) (S.faults out.new) (E.faults report.old) (E.faults report.new) }
-    ensures sinks_kept { result.0 < 4 → (S.faults out.new ≡ S.faults out.old) × (E.faults report.new ≡ E.faults report.old) }
-    ensures memory_alone { result.0 ≡ 5 → (S.faults out.new ≡ S.faults out.old) × (E.faults report.new ≡ E.faults report.old) }
+    ensures sinks_kept { result.0 ≢ 4 → (S.faults out.new ≡ S.faults out.old) × (E.faults report.new ≡ E.faults report.old) }
 
-    // Words that don't fit are refused by their line, whatever the folder is, and it isn't asked for anything.
-    ensures words_first { (number : ℕ) → words_of words.now ≡ Err number → folder.new ≡ folder.old }
-    ensures refused { (number : ℕ) → words_of words.now ≡ Err number → result.0 < 4 → result.0 ≡ 2 }
-    ensures refused_line { (number : ℕ) → words_of words.now ≡ Err number → Gets result.0 (E.given report.old) (E.given report.new) (words_line number) }
-    ensures refused_output { (number : ℕ) → words_of words.now ≡ Err number → out.new ≡ out.old }
-
-    // The meter is only ticked; not at all where nothing is to be drawn, or the run is refused.
+    // The meter is only ticked; not at all where nothing is to be drawn, or the run is refused, which puts no raster either.
     ensures only_ticks { (ticks : ℕ) × TicksExactly ticks (M.count meter.old) (M.count meter.new) }
-    ensures never_falls { M.count meter.old ≤ M.count meter.new }
     ensures still { draws (words_of words.now) ≡ false → meter.new ≡ meter.old }
-    ensures refused_still { result.0 ≡ 2 → meter.new ≡ meter.old }
+    ensures refused { result.0 ≡ 2 → (out.new ≡ out.old) × (meter.new ≡ meter.old) }
 
     ensures statuses { result.0 ≤ 5 }
     ensures same_files { F.files folder.new ≡ F.files folder.old }
@@ -80,19 +72,16 @@ fn carry_out<F: Folder, S: Sink, E: Sink, M: Meter>(
     meter: &mut M,
 ) -> Result<Status, Stop>
     ensures told { (told : Files) → F.files folder.old ≡ Some told →
-        Runs told words.now result (F.failures folder.old) (F.failures folder.new) (S.given out.old) (S.given out.new) (E.given report.old) (E.given report.new) (M.count meter.old) (M.count meter.new) }
+        Runs told words.now result (around (F.failures folder.old) (S.given out.old) (E.given report.old) (M.count meter.old)) (around (F.failures folder.new) (S.given out.new) (E.given report.new) (M.count meter.new)) }
+    ensures alone { asks_no_folder (words_of words.now) ≡ true →
+        (folder.new ≡ folder.old) × Runs [] words.now result (around [] (S.given out.old) (E.given report.old) (M.count meter.old)) (around [] (S.given out.new) (E.given report.new) (M.count meter.new)) }
     ensures early { IfOk result (λ status. status.0 < 4) }
     ensures counts { RunCounts result (F.faults folder.old) (F.faults folder.new) }
     ensures sinks_end { SinksEnd result (S.faults out.old) (S.faults out.new) (E.faults report.old) (E.faults report.new) }
     ensures untouched { result ≡ Err Stop.Folder → (out.new ≡ out.old) × (report.new ≡ report.old) }
-    ensures words_first { (number : ℕ) → words_of words.now ≡ Err number → folder.new ≡ folder.old }
-    ensures refused { (number : ℕ) → words_of words.now ≡ Err number → IfOk result (λ status. status.0 ≡ 2) }
-    ensures refused_line { (number : ℕ) → words_of words.now ≡ Err number → Gives result (E.given report.old) (E.given report.new) (words_line number) }
-    ensures refused_output { (number : ℕ) → words_of words.now ≡ Err number → out.new ≡ out.old }
-    ensures unlisted { (number : ℕ) → words_of words.now ≡ Err number → result ≢ Err Stop.Folder }
     ensures only_ticks { (ticks : ℕ) × TicksExactly ticks (M.count meter.old) (M.count meter.new) }
     ensures still { draws (words_of words.now) ≡ false → meter.new ≡ meter.old }
-    ensures refused_still { IfOk result (λ status. status.0 ≡ 2 → meter.new ≡ meter.old) }
+    ensures refused { IfOk result (λ status. status.0 ≡ 2 → (out.new ≡ out.old) × (meter.new ≡ meter.old)) }
     ensures same_files { F.files folder.new ≡ F.files folder.old }
 {
     match find_front(alloc, words, folder)? {

@@ -1,7 +1,7 @@
 use Rattle.std.proofs.Common.{sym, ap, map, subst, ◌∙◌}
 use Rattle.djvu_base.specs.Library.{file_limit}
 use Rattle.viewer_words.specs.Files.{NamedFile, named_files}
-use Rattle.viewer_run.specs.Front.{line_by_names}
+use Rattle.viewer_run.specs.Plan.{line_by_names}
 use Rattle.viewer_run.specs.Start.{CanStart}
 use Rattle.viewer_run.proofs.Starting.{can_start, names_of_library}
 use Rattle.viewer_run.proofs.front.refusal.Goals as goal

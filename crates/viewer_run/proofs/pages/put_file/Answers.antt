@@ -1,18 +1,14 @@
-use Rattle.std.proofs.Common.{List, ℕ, sym, subst, ap, ◌∙◌}
-use Rattle.viewer_run.specs.Offline.{texts_by}
-use Rattle.djvu_outside.specs.Parts.{Delivers}
-use Rattle.viewer_run.specs.Shown.{file_read}
-use Rattle.djvu_outside.proofs.Lemmas.{nothing_put}
-use Rattle.viewer_run.proofs.Showing.{info_puts_nothing, info_reads_none}
-use Rattle.djvu_outside.proofs.Lemmas.{no_ticks}
+use Rattle.std.proofs.Common.{[], ◌∷◌, sym, subst}
+use Rattle.djvu_base.specs.Library.{mark_of}
+use Rattle.djvu_outside.specs.Puts.{GivesBoth, sinks}
+use Rattle.djvu_outside.proofs.Lemmas.{puts_report}
+use Rattle.viewer_run.specs.Info.{info_lines}
+use Rattle.viewer_run.specs.Shown.{file_read, texts_by}
 use Rattle.viewer_run.proofs.pages.put_file.Goals as goal
 
-pub returns-in-Info-clause-out_text : goal.returns-in-Info-clause-out_text
-returns-in-Info-clause-out_text g c before given =
-    let nothing = ap (λ m. (texts_by m (file_read c.args.page.now c.args.file.now.bytes.items c.args.file.now.end)).out) c.in-Info.is ∙ info_puts_nothing c.args.page.now c.args.file.now.bytes.items c.args.file.now.end in
-    (before, given, subst (λ (t : List ℕ). Delivers c.put_info.result before t before) (sym nothing) (nothing_put c.put_info.result before))
-
-pub returns-in-Info-clause-ticks : goal.returns-in-Info-clause-ticks
-returns-in-Info-clause-ticks g c =
-    let none = ap (λ m. (texts_by m (file_read c.args.page.now c.args.file.now.bytes.items c.args.file.now.end)).work) c.in-Info.is ∙ info_reads_none c.args.page.now c.args.file.now.bytes.items c.args.file.now.end in
-    no_ticks c.put_info.result _ _ none
+pub returns-in-Info-clause-puts : goal.returns-in-Info-clause-puts
+returns-in-Info-clause-puts g c =
+    let file = c.args.file.now in
+    let lines = info_lines (c.args.page.now ∷ []) 0 (mark_of file.end) file.bytes.items in
+    subst (λ m. GivesBoth c.put_info.result (texts_by m (file_read c.args.page.now file.bytes.items file.end)).puts (sinks (g.S.Sink.given c.args.out.now) (g.E.Sink.given c.args.report.now)) (sinks (g.S.Sink.given c.args.out.now) (g.E.Sink.given c.put_info.new.report))) (sym c.in-Info.is)
+    (puts_report c.put_info.result _ _ (g.S.Sink.given c.args.out.now) lines c.put_info.ensures.report_text)

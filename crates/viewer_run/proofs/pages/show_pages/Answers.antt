@@ -15,9 +15,7 @@ returns-in_err-shown-clause-told g c told files =
     let inv = c.loop-at.invariant in
     let p = err_from_is_err_and c.from_residual.result c.from_residual.ensures.1 in
     stopped_at c.args.mode.now told c.args.pages.now c.loop-at.at c.index-pages-at.result c.loop-at.all c.in_err-shown.field-0.0 c.show_page.result c.from_residual.result
-    (g.F.Folder.failures c.args.folder.now) (g.F.Folder.failures c.loop-at.folder) (g.F.Folder.failures c.show_page.new.folder)
-    (g.S.Sink.given c.args.out.now) (g.S.Sink.given c.loop-at.out) (g.S.Sink.given c.show_page.new.out) (g.E.Sink.given c.args.report.now) (g.E.Sink.given c.loop-at.report) (g.E.Sink.given c.show_page.new.report)
-    (g.M.Meter.count c.args.meter.now) (g.M.Meter.count c.loop-at.meter) (g.M.Meter.count c.show_page.new.meter)
+    _ _ _
     (inv.drawn told files) (c.show_page.ensures.told told (inv.files ∙ files)) c.requires.distinct c.index-pages-at.is c.loop-at-test.true c.in_err-shown.was (p.1 ∙ ap Err p.2)
 
 pub loop-at-preserved : goal.loop-at-preserved
@@ -27,9 +25,7 @@ loop-at-preserved g c =
     record {
       drawn = λ told files.
           one_more c.args.mode.now told c.args.pages.now c.loop-at.at c.index-pages-at.result c.loop-at.all c.in_ok-shown.shown c.with-all.result c.show_page.result
-          (g.F.Folder.failures c.args.folder.now) (g.F.Folder.failures c.loop-at.folder) (g.F.Folder.failures c.show_page.new.folder)
-          (g.S.Sink.given c.args.out.now) (g.S.Sink.given c.loop-at.out) (g.S.Sink.given c.show_page.new.out) (g.E.Sink.given c.args.report.now) (g.E.Sink.given c.loop-at.report) (g.E.Sink.given c.show_page.new.report)
-          (g.M.Meter.count c.args.meter.now) (g.M.Meter.count c.loop-at.meter) (g.M.Meter.count c.show_page.new.meter)
+          _ _ _
           (inv.drawn told files) (c.show_page.ensures.told told (inv.files ∙ files)) c.requires.distinct c.index-pages-at.is c.loop-at-test.true c.in_ok-shown.was with;
       files = c.in_ok-shown.ensures.same_files ∙ inv.files;
       counts = counts_more c.loop-at.all c.in_ok-shown.shown c.with-all.result _ _ _ with inv.counts c.in_ok-shown.ensures.counts;
@@ -42,7 +38,7 @@ loop-at-preserved g c =
 pub returns-clause-told : goal.returns-clause-told
 returns-clause-told g c told files =
     let names : List (List ℕ) = c.args.pages.now in
-    shows_named c.args.mode.now told (take c.loop-at.at names) names (Ok c.loop-at.all) _ _ _ _ _ _ _ _ (take_all c.loop-at.at names c.loop-at-test.false) (c.loop-at.invariant.drawn told files)
+    shows_named c.args.mode.now told (take c.loop-at.at names) names (Ok c.loop-at.all) _ _ (take_all c.loop-at.at names c.loop-at-test.false) (c.loop-at.invariant.drawn told files)
 
 pub returns-in_err-shown-clause-only_ticks : goal.returns-in_err-shown-clause-only_ticks
 returns-in_err-shown-clause-only_ticks g c = only_both (g.M.Meter.count c.args.meter.now) (g.M.Meter.count c.loop-at.meter) (g.M.Meter.count c.show_page.new.meter) c.loop-at.invariant.only_ticks c.show_page.ensures.only_ticks

@@ -1,5 +1,5 @@
 use Rattle.std.proofs.Common.{◌≡◌, take}
-use Rattle.viewer_run.specs.Texts.{lines_told}
+use Rattle.viewer_run.specs.Shown.{lines_told}
 use Rattle.viewer_run.proofs.texts.drawn_lines.Given as goal
 
 -- the lines so far are those of so many drawings

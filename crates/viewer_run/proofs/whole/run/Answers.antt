@@ -1,26 +1,45 @@
-use Rattle.std.proofs.Common.{Err, ap}
-use Rattle.viewer_words.specs.Lines.{words_line}
-use Rattle.viewer_run.proofs.Running.{run_ended, run_stopped, front_stops, gets_all, gets_front}
-use Rattle.viewer_run.proofs.Ticking.{never_fell}
+use Rattle.std.proofs.Common.{[]}
+use Rattle.viewer_run.specs.Ended.{around}
+use Rattle.viewer_run.proofs.Running.{run_ended, run_stopped, front_stops}
 use Rattle.viewer_run.proofs.whole.run.Goals as goal
 
 pub returns-in-Ok-clause-told : goal.returns-in-Ok-clause-told
-returns-in-Ok-clause-told g c told files = run_ended told c.args.words.now c.in-Ok.status _ _ _ _ _ _ _ _ (c.in-Ok.ensures.told told files)
+returns-in-Ok-clause-told g c told files =
+    run_ended told c.args.words.now c.in-Ok.status
+    (around (g.F.Folder.failures c.args.folder.now) (g.S.Sink.given c.args.out.now) (g.E.Sink.given c.args.report.now) (g.M.Meter.count c.args.meter.now))
+    (around (g.F.Folder.failures c.carry_out.new.folder) (g.S.Sink.given c.carry_out.new.out) (g.E.Sink.given c.carry_out.new.report) (g.M.Meter.count c.carry_out.new.meter))
+    (c.in-Ok.ensures.told told files)
 
 pub returns-in-Ok-clause-untouched : goal.returns-in-Ok-clause-untouched
-returns-in-Ok-clause-untouched g c told added files grown failed below = absurd (front_stops told c.args.words.now c.in-Ok.status _ _ _ _ _ _ _ _ added (c.in-Ok.ensures.told told files) grown failed)
+returns-in-Ok-clause-untouched g c told added files grown failed below =
+    absurd (front_stops told c.args.words.now c.in-Ok.status
+    (around (g.F.Folder.failures c.args.folder.now) (g.S.Sink.given c.args.out.now) (g.E.Sink.given c.args.report.now) (g.M.Meter.count c.args.meter.now))
+    (around (g.F.Folder.failures c.carry_out.new.folder) (g.S.Sink.given c.carry_out.new.out) (g.E.Sink.given c.carry_out.new.report) (g.M.Meter.count c.carry_out.new.meter))
+    added (c.in-Ok.ensures.told told files) grown failed)
+
+pub returns-in-Ok-clause-alone : goal.returns-in-Ok-clause-alone
+returns-in-Ok-clause-alone g c asks =
+    let alone = c.in-Ok.ensures.alone asks in (
+      alone.0,
+      run_ended [] c.args.words.now c.in-Ok.status
+          (around [] (g.S.Sink.given c.args.out.now) (g.E.Sink.given c.args.report.now) (g.M.Meter.count c.args.meter.now))
+          (around [] (g.S.Sink.given c.carry_out.new.out) (g.E.Sink.given c.carry_out.new.report) (g.M.Meter.count c.carry_out.new.meter))
+          alone.1,
+    )
 
 pub returns-in-Err-clause-told : goal.returns-in-Err-clause-told
-returns-in-Err-clause-told g c told files = run_stopped told c.args.words.now c.in-Err.stop c.status.result.0 _ _ _ _ _ _ _ _ c.status.ensures (c.in-Err.ensures.told told files)
+returns-in-Err-clause-told g c told files =
+    run_stopped told c.args.words.now c.in-Err.stop c.status.result.0
+    (around (g.F.Folder.failures c.args.folder.now) (g.S.Sink.given c.args.out.now) (g.E.Sink.given c.args.report.now) (g.M.Meter.count c.args.meter.now))
+    (around (g.F.Folder.failures c.carry_out.new.folder) (g.S.Sink.given c.carry_out.new.out) (g.E.Sink.given c.carry_out.new.report) (g.M.Meter.count c.carry_out.new.meter))
+    c.status.ensures (c.in-Err.ensures.told told files)
 
-pub returns-in-Ok-clause-never_falls : goal.returns-in-Ok-clause-never_falls
-returns-in-Ok-clause-never_falls g c = never_fell _ _ c.carry_out.ensures.only_ticks
-
-pub returns-in-Err-clause-never_falls : goal.returns-in-Err-clause-never_falls
-returns-in-Err-clause-never_falls g c = never_fell _ _ c.carry_out.ensures.only_ticks
-
-pub returns-in-Ok-clause-refused_line : goal.returns-in-Ok-clause-refused_line
-returns-in-Ok-clause-refused_line g c number e = gets_all c.in-Ok.status _ _ (words_line number) (c.in-Ok.ensures.refused_line number e)
-
-pub returns-in-Err-clause-refused_line : goal.returns-in-Err-clause-refused_line
-returns-in-Err-clause-refused_line g c number e = gets_front c.in-Err.stop c.status.result.0 _ _ (words_line number) c.status.ensures (λ f. c.in-Err.ensures.unlisted number e (ap Err f)) (c.in-Err.ensures.refused_line number e)
+pub returns-in-Err-clause-alone : goal.returns-in-Err-clause-alone
+returns-in-Err-clause-alone g c asks =
+    let alone = c.in-Err.ensures.alone asks in (
+      alone.0,
+      run_stopped [] c.args.words.now c.in-Err.stop c.status.result.0
+          (around [] (g.S.Sink.given c.args.out.now) (g.E.Sink.given c.args.report.now) (g.M.Meter.count c.args.meter.now))
+          (around [] (g.S.Sink.given c.carry_out.new.out) (g.E.Sink.given c.carry_out.new.report) (g.M.Meter.count c.carry_out.new.meter))
+          c.status.ensures alone.1,
+    )

@@ -14,6 +14,10 @@ pub returns-clause-drawn : goal.returns-clause-drawn
 unfolding digits is_utf8 chars encode file_limit page_limit most_bits most_decisions most_records samples_of
 returns-clause-drawn c = refl
 
+pub returns-clause-in_order : goal.returns-clause-in_order
+unfolding digits is_utf8 chars encode file_limit page_limit most_bits most_decisions most_records samples_of
+returns-clause-in_order c = refl
+
 pub returns-clause-second_info : goal.returns-clause-second_info
 unfolding digits is_utf8 chars encode file_limit page_limit most_bits most_decisions most_records samples_of
 returns-clause-second_info c = refl

@@ -8,31 +8,20 @@ use Rattle.page_decoder.specs.Reading.{Notice, Ending, Finished, Fault, NeedByte
 use Rattle.page_decoder.specs.Found.{last_layers}
 use Rattle.viewer_words.specs.Lines.{name_at}
 use Rattle.viewer_run.specs.Rasters.{raster_text}
-use Rattle.viewer_run.specs.Texts.{raster_of, lines_of, is_refused, lines_at, raster_at, texts_of_reading, texts_of_file}
+use Rattle.viewer_run.specs.Statuses.{IsDrawn}
+use Rattle.viewer_run.specs.Texts.{raster_of, lines_of, is_refused, lines_at, raster_at, texts_of_file}
 
 last_there : (notices : List Notice) → notices ≢ [] → (layers : Layers) × (last_layers notices ≡ Some layers)
 last_there [] some = absurd (some refl)
 last_there (notice ∷ []) some = (notice.layers, refl)
 last_there (notice ∷ next ∷ notices) some = last_there (next ∷ notices) (λ e. cc)
 
--- a page that isn't refused is finished, and what is put of it is its lines and the raster of its last drawing
-pub record IsDrawn (names : List (List ℕ)) (page : ℕ) (read : Reading) : Type 0 where
-  pub layers : Layers
-  pub last : last_layers read.notices ≡ Some layers
-  pub puts : (texts_of_reading names page read).puts ≡ to_report (lines_of (name_at names page) read.notices) ++ to_out (raster_text layers)
-
-pub is_drawn : (names : List (List ℕ)) (page : ℕ) (read : Reading) → (read.end ≡ Finished → read.notices ≢ []) → read.end ≢ NeedBytes → is_refused read.end ≡ false → IsDrawn names page read
-is_drawn names page read drawn known = ends_so read.end refl
+-- a page that isn't refused, and needs no bytes, is finished
+pub drawn_by : (read : Reading) → (read.end ≡ Finished → read.notices ≢ []) → read.end ≢ NeedBytes → is_refused read.end ≡ false → IsDrawn read
+drawn_by read drawn known = ends_so read.end refl
   where
-    ends_so : (end : Ending) → read.end ≡ end → is_refused end ≡ false → IsDrawn names page read
-    ends_so Finished e refused =
-        let there = last_there read.notices (drawn e) in
-        let lines = lines_of (name_at names page) read.notices in
-        record {
-          layers = there.0;
-          last = there.1;
-          puts = ap (λ x. to_report (lines_at names page lines x) ++ to_out (raster_at (raster_of (last_layers read.notices)) x)) e ∙ ap (λ l. to_report lines ++ to_out (raster_of l)) there.1;
-        }
+    ends_so : (end : Ending) → read.end ≡ end → is_refused end ≡ false → IsDrawn read
+    ends_so Finished e refused = let there = last_there read.notices (drawn e) in record { finished = e; layers = there.0; last = there.1 }
     ends_so (Fault kind offset) e refused = cc
     ends_so NeedBytes e refused = absurd (known e)
 
@@ -42,5 +31,10 @@ pub raster_there : ((rows : List Row) (mark : Mark) (bytes : List ℕ) → (read
     → (layers : Layers) × (last_layers (reading rows file.mark file.bytes).notices ≡ Some layers)
     × ((texts_of_file rows names page file).puts ≡ to_report (lines_of (name_at names page) (reading rows file.mark file.bytes).notices) ++ to_out (raster_text layers))
 raster_there drawn known rows names page file some refused =
-    let there = is_drawn names page (reading rows file.mark file.bytes) (drawn rows file.mark file.bytes) (known rows file.mark file.bytes some) refused in
-    (there.layers, there.last, there.puts)
+    let read : Reading = reading rows file.mark file.bytes in
+    let there = drawn_by read (drawn rows file.mark file.bytes) (known rows file.mark file.bytes some) refused in
+    let lines = lines_of (name_at names page) read.notices in (
+      there.layers,
+      there.last,
+      ap (λ x. to_report (lines_at names page lines x) ++ to_out (raster_at (raster_of (last_layers read.notices)) x)) there.finished ∙ ap (λ l. to_report lines ++ to_out (raster_of l)) there.last,
+    )

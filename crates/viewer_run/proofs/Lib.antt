@@ -18,3 +18,5 @@ mod Running
 mod Working
 -- `laws::unrefused_pages_are_drawn`
 mod Finishing
+-- `laws::statuses_tell`
+mod Stating

@@ -16,6 +16,7 @@ pub mod Info
 pub mod EarlyFailures
 pub mod Offline
 pub mod Runs
+pub mod Statuses
 pub mod Worked
 -- the inside of this crate
 pub mod Ended

@@ -1,7 +1,8 @@
 //! Laws of the definitions, apart from a run: each is a clause of a function that changes nothing. `worked` has values of
 //! them that are worked out.
-ghost use Rattle.std.specs.Prelude.{◌≡◌, ◌≢◌, ◌++◌, ℕ, false, List, [], Some};
-ghost use Rattle.djvu_base.specs.Library.{File, Library, Open};
+ghost use Rattle.std.specs.Prelude.{◌≡◌, ◌≢◌, ◌≤◌, ◌↔◌, ◌++◌, ℕ, false, List, [], Some};
+ghost use Rattle.djvu_base.specs.Library.{File, Files, Library, Open, library_of};
+ghost use Rattle.djvu_outside.specs.Faults.{Failure};
 ghost use Rattle.djvu_outside.specs.Puts.{to_out, to_report};
 ghost use Rattle.zp_table.specs.declared.rows.Row.{Row};
 ghost use Rattle.layer_compose.specs.declared.layers.Layers.{Layers};
@@ -9,7 +10,9 @@ ghost use Rattle.page_decoder.specs.Reading.{reading};
 ghost use Rattle.page_decoder.specs.Found.{last_layers};
 ghost use Rattle.viewer_words.specs.Lines.{name_at};
 ghost use Rattle.viewer_words.specs.Words.{words_of};
-ghost use Rattle.viewer_run.specs.Plan.{draws};
+ghost use Rattle.viewer_run.specs.Plan.{draws, plan_of};
+ghost use Rattle.viewer_run.specs.EarlyFailures.{front_may_fail, front_failed};
+ghost use Rattle.viewer_run.specs.Statuses.{AllShown, IsRefused};
 ghost use Rattle.viewer_run.specs.Rasters.{raster_text};
 ghost use Rattle.viewer_run.specs.Texts.{lines_of, texts_of_file};
 ghost use Rattle.viewer_run.specs.Offline.{Written, offline, IsOutcome};
@@ -20,6 +23,21 @@ pub mod worked;
 pub fn sound_folders()
     ensures { (library : Library) (words : List (List ℕ)) (texts : Written) → IsOutcome [] [] library words texts → texts ≡ offline library words }
 {}
+
+/// What the statuses say of an outcome, where the failures of the folder that is listed are `first`, and those of all folders
+/// are `all`. It is 3 exactly where something failed. It is 2 exactly where nothing failed and the run is refused. Where
+/// nothing failed, it is 0 exactly where the run is accepted and each page has a drawing, or each file that is listed ends
+/// with its FORM; else it is 1 or 2. Where it is known whether the listing or the table failed, there is one outcome.
+pub fn statuses_tell()
+    ensures failed { (first all : List Failure) (library : Library) (words : List (List ℕ)) (texts : Written) → IsOutcome first all library words texts → (texts.status ≡ 3) ↔ (all ≢ []) }
+    ensures refused { (first all : List Failure) (library : Library) (words : List (List ℕ)) (texts : Written) → IsOutcome first all library words texts → (texts.status ≡ 2) ↔ ((all ≡ []) × IsRefused (plan_of library words)) }
+    ensures done { (files : Files) (words : List (List ℕ)) (texts : Written) → IsOutcome [] [] (library_of files) words texts → (texts.status ≡ 0) ↔ AllShown (library_of files) (plan_of (library_of files) words) }
+    ensures below { (first all : List Failure) (library : Library) (words : List (List ℕ)) (texts : Written) → IsOutcome first all library words texts → texts.status ≤ 3 }
+    ensures one { (first all : List Failure) (library : Library) (words : List (List ℕ)) (texts others : Written) → front_may_fail words first ≡ front_failed library words first →
+        IsOutcome first all library words texts → IsOutcome first all library words others → texts ≡ others }
+{
+    page_decoder::laws::ends();
+}
 
 /// A run that draws no page, or is refused, has no work.
 pub fn others_have_no_work()

@@ -1,7 +1,8 @@
 //! Shapes, direct and refined, that come in pieces.
 ghost use Rattle.std.specs.Prelude.{◌≡◌, ◌<◌, ◌≤◌, length, false, IfSome};
-ghost use Rattle.jb2_shapes.specs.Contexts.{AreBelow};
+ghost use Rattle.zp_decoder.specs.States.{AreBelow};
 ghost use Rattle.jb2_shapes.specs.Numbers.{states_of};
+ghost use Rattle.jb2_shapes.specs.Shape.{IsWhole};
 
 use crate::shared::has_rows;
 use djvu_base::CountMeter;
@@ -55,7 +56,58 @@ fn begin(alloc: Global, table: Table) -> Option<(ZpDecoder, ShapeContexts)>
     prove!(some > 0);
     let table = Arc::new(alloc, table).ok()?;
     let contexts = ShapeContexts::new(alloc).ok()?;
-    Some((ZpDecoder::new(alloc, table), contexts))
+    Some((ZpDecoder::new(table), contexts))
+}
+
+/// Reads a direct shape on from bytes that are offered as the decoder takes them, and tells how many it took.
+fn read_direct(
+    reader: &mut DirectReader,
+    contexts: &mut ShapeContexts,
+    zp: &mut ZpDecoder,
+    meter: &mut CountMeter,
+    bytes: &[u8],
+) -> (ShapeStep, usize)
+    requires below { AreBelow (length zp.old.table) (states_of contexts.old) }
+    requires open_end { zp.old.ended ≡ false }
+    ensures below { AreBelow (length zp.new.table) (states_of contexts.new) }
+    ensures open_end { zp.new.ended ≡ false }
+    ensures taken { result.1 ≤ length bytes.now }
+    ensures done { result.0 ≡ ShapeStep.Done → IsWhole reader.new }
+{
+    let mut taken = 0;
+    for _ in 0..bytes.len() {
+        taken += zp.push(&bytes[taken..]);
+        match reader.advance(contexts, zp, meter) {
+            ShapeStep::Done => return (ShapeStep::Done, taken),
+            ShapeStep::NeedBytes => {}
+            ShapeStep::Exhausted => return (ShapeStep::Exhausted, taken),
+        }
+    }
+    (ShapeStep::NeedBytes, taken)
+}
+
+/// Reads a refined shape on in the same way.
+fn read_refined(
+    reader: &mut RefineReader,
+    contexts: &mut ShapeContexts,
+    zp: &mut ZpDecoder,
+    meter: &mut CountMeter,
+    bytes: &[u8],
+) -> ShapeStep
+    requires below { AreBelow (length zp.old.table) (states_of contexts.old) }
+    requires open_end { zp.old.ended ≡ false }
+    ensures { result ≡ ShapeStep.Done → IsWhole reader.new.sketch }
+{
+    let mut taken = 0;
+    for _ in 0..bytes.len() {
+        taken += zp.push(&bytes[taken..]);
+        match reader.advance(contexts, zp, meter) {
+            ShapeStep::Done => return ShapeStep::Done,
+            ShapeStep::NeedBytes => {}
+            ShapeStep::Exhausted => return ShapeStep::Exhausted,
+        }
+    }
+    ShapeStep::NeedBytes
 }
 
 /// Reads the direct shape from bytes that come in two pieces, and then the refined one.
@@ -67,25 +119,22 @@ fn read_both(rt: &impl Abort, alloc: Global, cut: usize) -> Result<(), Fail>
     };
     let mut meter = CountMeter::new();
     let mut direct = DirectReader::begin(alloc, 70, 9)?;
-    zp.push(&BYTES[..cut])?;
-    assert_eq!(rt;
-        direct.advance(&mut contexts, &mut zp, &mut meter),
-        ShapeStep::NeedBytes
-    );
-    zp.push(&BYTES[cut..])?;
-    assert_eq!(rt;
-        direct.advance(&mut contexts, &mut zp, &mut meter),
-        ShapeStep::Done
-    );
+    let (step, taken) = read_direct(&mut direct, &mut contexts, &mut zp, &mut meter, &BYTES[..cut]);
+    assert_eq!(rt; step, ShapeStep::NeedBytes);
+    assert_eq!(rt; taken, cut);
+    let (step, taken) = read_direct(&mut direct, &mut contexts, &mut zp, &mut meter, &BYTES[cut..]);
+    let ShapeStep::Done = step else {
+        panic!(rt; "the shape isn't whole");
+    };
     assert_eq!(rt; meter.count(), 630);
     let direct = direct.take();
     assert!(rt; has_rows(&direct, &DIRECT));
     let matched = Arc::new(alloc, direct)?;
     let mut refined = RefineReader::begin(alloc, 33, 5, matched)?;
-    assert_eq!(rt;
-        refined.advance(&mut contexts, &mut zp, &mut meter),
-        ShapeStep::Done
-    );
+    let rest = &BYTES[cut..][taken..];
+    let ShapeStep::Done = read_refined(&mut refined, &mut contexts, &mut zp, &mut meter, rest) else {
+        panic!(rt; "the refined shape isn't whole");
+    };
     assert_eq!(rt; meter.count(), 795);
     assert!(rt; has_rows(&refined.take(), &REFINED));
     Ok(())
@@ -121,7 +170,7 @@ fn read_refined_dot(rt: &impl Abort, alloc: Global) -> Result<(), Fail> {
         panic!(rt; "memory is ample");
     };
     let mut meter = CountMeter::new();
-    zp.push(&[0xB7, 0x4D, 0x88, 0xA1, 0xA1])?;
+    assert_eq!(rt; zp.push(&[0xB7, 0x4D, 0x88, 0xA1, 0xA1]), 5);
     zp.end();
     // A start of width 1 and height 1, and a library shape of width 1 and height 1.
     assert!(rt; are_decided(&mut zp, &mut meter, "01001000"));

@@ -23,7 +23,7 @@ fn may_be_shared<T: Sync>(_value: &T) {}
 fn hand_on(alloc: Global) -> Result<(), AllocError> {
     let table = Arc::new(alloc, Table::flat(alloc)?)?;
     may_be_shared(&*table);
-    may_go(ZpDecoder::new(alloc, Arc::try_clone(&table)?));
+    may_go(ZpDecoder::new(Arc::try_clone(&table)?));
     may_go(NumberContexts::new(alloc));
     may_go(ShapeContexts::new(alloc)?);
     may_go(MaskReader::new(alloc, table, None, 3, 2)?);

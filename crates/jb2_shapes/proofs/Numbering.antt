@@ -2,11 +2,11 @@
 use Rattle.std.proofs.Common.{◌≡◌, ◌≢◌, ℕ, ◌+◌, ◌*◌, ◌<◌, ◌≤◌, Bool, true, false, List, [], ◌∷◌, length, get_or, set, replicate, refl, ap, sym, ◌∙◌, arith, inl, inr}
 use Rattle.std.proofs.Math.Path.{fun_ext}
 use Rattle.std.proofs.lemmas.Bool.{cases_Bool, cases_lt}
-use Rattle.std.proofs.lemmas.List.{get_or-set_same, get_or-set_other, get_or-replicate, get_or_past, length-replicate}
+use Rattle.std.proofs.lemmas.List.{get_or-set_same, get_or-set_other, get_or-replicate, get_or_past, get_or_read_under, length-replicate}
 use Rattle.zp_decoder.specs.States.{States, fresh, are_same, with_state}
 use Rattle.zp_decoder.proofs.Lemmas.{are_same-true, are_same-refl, stored_here, stored_elsewhere}
 use Rattle.bit_plane.specs.Bits.{digit_of}
-use Rattle.jb2_shapes.specs.Numbers.{Cells, number_from, number_of, states_of}
+use Rattle.jb2_shapes.specs.Numbers.{Cells, number_from, number_of, number_limit, states_of}
 
 -- further digits leave a number at least as large
 grows : (colours : List Bool) (number : ℕ) → number ≤ number_from number colours
@@ -78,6 +78,13 @@ set_state old cells colours number state n p e = fun_ext (λ other.
           cc)
           ∙ sym (stored_elsewhere are_same (states_of old) colours other state differs)
     ])
+
+-- the cell of a context holds its state
+pub state_in : (old : Cells) (colours : List Bool) (number state : ℕ) → number_of colours ≡ number → number < number_limit → length old.cells ≡ number_limit →
+    state ≡ get_or old.cells number state → state ≡ states_of old colours
+unfolding states_of
+state_in old colours number state n within size read =
+    get_or_read_under old.cells number number_limit state 0 read within (sym size) ∙ ap (λ i. get_or old.cells i 0) (sym n)
 
 pub others_stay : (states : States) (colours other : List Bool) (state : ℕ) → colours ≢ other → with_state states colours state other ≡ states other
 others_stay states colours other state differs =

@@ -174,23 +174,28 @@ stands_on sketch bit column row unread at again =
 
 -- ---- what the shape that is read keeps
 
-put_of : (sketch : Sketch) (bit : Bool) (column row limit : ℕ) → IsUnread sketch → sketch.shape.width * sketch.shape.height ≤ limit → StandsAt sketch column row →
-    ((with_pixel sketch bit).number ≤ (with_pixel sketch bit).shape.width * (with_pixel sketch bit).shape.height)
-    × ((with_pixel sketch bit).shape.width * (with_pixel sketch bit).shape.height ≤ limit)
-    × StandsAt (with_pixel sketch bit) (column_behind sketch.shape.width column) (row_behind sketch.shape.width column row)
-put_of sketch true column row limit unread fits at = (omega arith, fits, stands_on sketch true column row unread (at unread))
-put_of sketch false column row limit unread fits at = (omega arith, fits, stands_on sketch false column row unread (at unread))
+-- what is kept of a shape of this area, of which so much was read
+abbrev Keeps : ℕ → ℕ → Sketch → ℕ → ℕ → Type 0
+Keeps limit area sketch column row =
+    (sketch.number ≤ sketch.shape.width * sketch.shape.height) × (sketch.shape.width * sketch.shape.height ≤ limit) × StandsAt sketch column row
+    × (area ≡ sketch.shape.width * sketch.shape.height)
 
-pub put_keeps : (sketch new : Sketch) (bit : Bool) (column row limit next_column next_row : ℕ) → IsUnread sketch →
-    sketch.shape.width * sketch.shape.height ≤ limit → StandsAt sketch column row → new ≡ with_pixel sketch bit →
+put_of : (sketch : Sketch) (bit : Bool) (column row limit area : ℕ) → IsUnread sketch → sketch.shape.width * sketch.shape.height ≤ limit →
+    StandsAt sketch column row → area ≡ sketch.shape.width * sketch.shape.height →
+    Keeps limit area (with_pixel sketch bit) (column_behind sketch.shape.width column) (row_behind sketch.shape.width column row)
+put_of sketch true column row limit area unread fits at whole = (omega arith, fits, stands_on sketch true column row unread (at unread), whole)
+put_of sketch false column row limit area unread fits at whole = (omega arith, fits, stands_on sketch false column row unread (at unread), whole)
+
+pub put_keeps : (sketch new : Sketch) (bit : Bool) (column row limit area next_column next_row : ℕ) → IsUnread sketch →
+    sketch.shape.width * sketch.shape.height ≤ limit → StandsAt sketch column row → area ≡ sketch.shape.width * sketch.shape.height → new ≡ with_pixel sketch bit →
     next_column ≡ column_behind sketch.shape.width column → next_row ≡ row_behind sketch.shape.width column row →
     (new.number ≤ new.shape.width * new.shape.height) × (new.shape.width * new.shape.height ≤ limit) × StandsAt new next_column next_row
-put_keeps sketch new bit column row limit next_column next_row unread fits at is c r =
-    let P : Sketch → ℕ → ℕ → Type 0 = λ s a b. (s.number ≤ s.shape.width * s.shape.height) × (s.shape.width * s.shape.height ≤ limit) × StandsAt s a b in
-    subst (λ s. P s next_column next_row) (sym is)
-    (subst (λ a. P (with_pixel sketch bit) a next_row) (sym c)
-    (subst (λ b. P (with_pixel sketch bit) (column_behind sketch.shape.width column) b) (sym r)
-    (put_of sketch bit column row limit unread fits at)))
+    × (area ≡ new.shape.width * new.shape.height)
+put_keeps sketch new bit column row limit area next_column next_row unread fits at whole is c r =
+    subst (λ s. Keeps limit area s next_column next_row) (sym is)
+    (subst (λ a. Keeps limit area (with_pixel sketch bit) a next_row) (sym c)
+    (subst (λ b. Keeps limit area (with_pixel sketch bit) (column_behind sketch.shape.width column) b) (sym r)
+    (put_of sketch bit column row limit area unread fits at whole)))
 
 pub blackened : (sketch : Sketch) (column row : ℕ) (shape : Pixels) → IsNext sketch column row → shape ≡ with_black sketch.shape column row →
     shape ≡ (with_pixel sketch true).shape

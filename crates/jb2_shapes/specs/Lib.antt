@@ -4,6 +4,7 @@ pub use Rattle.zp_decoder.specs.Decision
 pub use Rattle.zp_decoder.specs.Decoder
 pub use Rattle.zp_decoder.specs.Runs
 pub use Rattle.zp_decoder.specs.States
+pub use Rattle.zp_decoder.specs.Chunk
 pub mod Shape
 pub mod Refined
 pub mod Numbers

@@ -13,6 +13,8 @@ use std::marker::Model;
 #[derive(Debug, Drop)]
 pub(crate) struct Canvas {
     shape: Plane,
+    /// How many pixels it has.
+    area: u32,
     number: u32,
     /// The place of the pixel that is read next, as long as one is.
     column: u32,
@@ -20,7 +22,7 @@ pub(crate) struct Canvas {
 }
 
 impl Model for Canvas {
-    ghost use Rattle.std.specs.Prelude.{◌*◌, ◌≤◌};
+    ghost use Rattle.std.specs.Prelude.{◌≡◌, ◌*◌, ◌≤◌};
     ghost use Rattle.bit_plane.specs.Pixels.{area_limit};
     ghost use Rattle.jb2_shapes.specs.Shape.{Sketch};
     ghost use Rattle.jb2_shapes.specs.Rows.{StandsAt};
@@ -29,7 +31,7 @@ impl Model for Canvas {
 
     ghost view = { λ a. record { shape = a.shape; number = a.number } };
 
-    ghost invariant = { λ a. (a.number ≤ a.shape.width * a.shape.height) × (a.shape.width * a.shape.height ≤ area_limit) × StandsAt (record { shape = a.shape; number = a.number }) a.column a.row };
+    ghost invariant = { λ a. (a.number ≤ a.shape.width * a.shape.height) × (a.shape.width * a.shape.height ≤ area_limit) × StandsAt (record { shape = a.shape; number = a.number }) a.column a.row × (a.area ≡ a.shape.width * a.shape.height) };
 }
 
 impl Canvas {
@@ -40,6 +42,7 @@ impl Canvas {
     {
         Ok(Canvas {
             shape: Plane::new(alloc, width, height)?,
+            area: width * height,
             number: 0,
             column: 0,
             row: height.saturating_sub(1),
@@ -51,7 +54,7 @@ impl Canvas {
         ensures is { result ≡ (self.now.number == self.now.shape.width * self.now.shape.height) }
         ensures within { self.now.number ≤ self.now.shape.width * self.now.shape.height }
     {
-        u64::from(self.number) == u64::from(self.shape.width()) * u64::from(self.shape.height())
+        self.number == self.area
     }
 
     /// The column of the pixel that is read next.

@@ -1,10 +1,14 @@
 //! Contexts of pixels, under their numbers.
-ghost use Rattle.std.specs.Prelude.{◌≡◌, ℕ, ◌<◌, List, Bool, IfOk, replicate};
+ghost use Rattle.std.specs.Prelude.{◌≡◌, ℕ, ◌<◌, ◌≤◌, length, List, Bool, Option, IfOk, replicate};
+ghost use Rattle.zp_decoder.specs.Decision.{Interval, Adaptive, outcome_of, counted};
+ghost use Rattle.zp_decoder.specs.Decoder.{Fed, room_left};
 ghost use Rattle.zp_decoder.specs.States.{AreBelow, fresh, with_state};
-ghost use Rattle.jb2_shapes.specs.Numbers.{number_limit, number_of, states_of};
+ghost use Rattle.jb2_shapes.specs.Numbers.{number_limit, number_of, states_of, IsNumber};
 
+use djvu_base::Meter;
 use std::alloc::{AllocError, Global};
 use std::marker::Model;
+use zp_decoder::{Decision, ZpDecoder};
 
 /// The states of all contexts of pixels: 1,024 for direct shapes, which are named by ten colours, and 2,048 for refined
 /// ones, which are named by eleven. Contracts speak of them by `states_of contexts`, which gives the state of each name.
@@ -36,21 +40,30 @@ impl ShapeContexts {
         })
     }
 
-    #[tactic(auto, unfolding(crate::specs::Numbers::states_of))]
-    /// The state of the context with a number.
-    pub(crate) fn state(&self, number: usize) -> u8
-        requires { number < number_limit }
-        ensures { (colours : List Bool) → number_of colours ≡ number → result ≡ states_of self.now colours }
+    /// Decides a bit in the context with a number, whose state moves.
+    pub(crate) fn decode<M: Meter>(
+        &mut self,
+        number: usize,
+        zp: &mut ZpDecoder,
+        meter: &mut M,
+    ) -> Decision
+        requires number { IsNumber number }
+        requires below { AreBelow (length zp.old.table) (states_of self.old) }
+        ensures answer { (colours : List Bool) (payload : List ℕ) (place : Option Interval) → number_of colours ≡ number → Fed payload place zp.old →
+            result ≡ (outcome_of zp.old.table (Adaptive (states_of self.old colours)) payload zp.old.ended place).answer }
+        ensures fed { (colours : List Bool) (payload : List ℕ) (place : Option Interval) → number_of colours ≡ number → Fed payload place zp.old →
+            Fed payload (outcome_of zp.old.table (Adaptive (states_of self.old colours)) payload zp.old.ended place).place zp.new }
+        ensures states { (colours : List Bool) (payload : List ℕ) (place : Option Interval) → number_of colours ≡ number → Fed payload place zp.old →
+            states_of self.new ≡ with_state (states_of self.old) colours (outcome_of zp.old.table (Adaptive (states_of self.old colours)) payload zp.old.ended place).state }
+        ensures below { AreBelow (length zp.new.table) (states_of self.new) }
+        ensures table { zp.new.table ≡ zp.old.table }
+        ensures ended { zp.new.ended ≡ zp.old.ended }
+        ensures room { room_left zp.new ≤ room_left zp.old }
+        ensures ticks { M.count meter.new ≡ counted result (M.count meter.old) }
+        ensures needs { result ≡ Decision.NeedBytes → (self.new ≡ self.old) × (zp.new ≡ zp.old) × (meter.new ≡ meter.old) }
+        ensures exhausted { result ≡ Decision.Exhausted → (self.new ≡ self.old) × (zp.new ≡ zp.old) × (meter.new ≡ meter.old) }
     {
-        self.states[number]
-    }
-
-    /// Moves the context with a number to a state.
-    pub(crate) fn set(&mut self, number: usize, state: u8)
-        requires { number < number_limit }
-        ensures { (colours : List Bool) → number_of colours ≡ number → states_of self.new ≡ with_state (states_of self.old) colours state }
-    {
-        self.states[number] = state;
+        zp.decode(&mut self.states[number], meter)
     }
 }
 

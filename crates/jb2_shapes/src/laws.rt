@@ -2,8 +2,8 @@
 ghost use Rattle.std.specs.Prelude.{◌≡◌, ◌≢◌, ◌+◌, ◌≤◌, ℕ, ℤ, Bool, List, length, ◌++◌, true, false, [], ◌∷◌, replicate, Some, None, pos, negsuc};
 ghost use Rattle.zp_table.specs.Listing.{flat_rows};
 ghost use Rattle.zp_table.specs.declared.rows.Row.{Row};
-ghost use Rattle.zp_table.specs.Rows.{IsTable};
 ghost use Rattle.zp_decoder.specs.Decision.{interval};
+ghost use Rattle.zp_decoder.specs.Chunk.{IsReady, chunk};
 ghost use Rattle.zp_decoder.specs.Runs.{IsStanding, room};
 ghost use Rattle.bit_plane.specs.Pixels.{Pixels, blank};
 ghost use Rattle.bit_plane.specs.Ink.{ink_box_of, extent};
@@ -28,24 +28,24 @@ pub fn contexts_are_named()
 /// one that is read from all of them.
 pub fn cuts_change_nothing()
     ensures { (context : Pixels → ℤ → ℤ → List Bool) (rows : List Row) (payload more : List ℕ) (ended : Bool) (at : Progress) →
-        IsTable rows → AreBelow (length rows) at.states → IsStanding (length payload) at.place →
+        IsReady (chunk rows payload false) at.states at.place →
         reading_of context rows (payload ++ more) ended (reading_of context rows payload false at).at ≡ reading_of context rows (payload ++ more) ended at }
 {}
 
 /// While a shape is read, states stay rows of the table, and the decoder stands where decisions lead.
 pub fn readings_stay_within()
     ensures { (context : Pixels → ℤ → ℤ → List Bool) (rows : List Row) (payload : List ℕ) (ended : Bool) (at : Progress) →
-        IsTable rows → AreBelow (length rows) at.states → IsStanding (length payload) at.place →
+        IsReady (chunk rows payload ended) at.states at.place →
         AreBelow (length rows) (reading_of context rows payload ended at).at.states × IsStanding (length payload) (reading_of context rows payload ended at).at.place }
 {}
 
 /// Each pixel that is read leaves room for fewer decisions, and pixels that were read stay read.
 pub fn readings_leave_room()
     ensures room { (context : Pixels → ℤ → ℤ → List Bool) (rows : List Row) (payload : List ℕ) (ended : Bool) (at : Progress) →
-        IsTable rows → AreBelow (length rows) at.states → IsStanding (length payload) at.place →
+        IsReady (chunk rows payload ended) at.states at.place →
         room payload (reading_of context rows payload ended at).at.place + (reading_of context rows payload ended at).at.sketch.number ≤ room payload at.place + at.sketch.number }
     ensures number { (context : Pixels → ℤ → ℤ → List Bool) (rows : List Row) (payload : List ℕ) (ended : Bool) (at : Progress) →
-        IsTable rows → AreBelow (length rows) at.states → IsStanding (length payload) at.place →
+        IsReady (chunk rows payload ended) at.states at.place →
         at.sketch.number ≤ (reading_of context rows payload ended at).at.sketch.number }
 {}
 

@@ -39,10 +39,8 @@ pub(crate) fn read_pixel<M: Meter>(
     ensures needs { result ≡ Decision.NeedBytes → (canvas.new ≡ canvas.old) × (contexts.new ≡ contexts.old) × (zp.new ≡ zp.old) × (meter.new ≡ meter.old) }
     ensures exhausted { result ≡ Decision.Exhausted → (canvas.new ≡ canvas.old) × (contexts.new ≡ contexts.old) × (zp.new ≡ zp.old) × (meter.new ≡ meter.old) }
 {
-    let mut state = contexts.state(number);
-    match zp.decode(&mut state, meter) {
+    match contexts.decode(number, zp, meter) {
         Decision::Bit(black) => {
-            contexts.set(number, state);
             canvas.put(black);
             Decision::Bit(black)
         }

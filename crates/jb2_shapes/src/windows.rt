@@ -13,22 +13,22 @@ use crate::matching::Matching;
 use crate::rows::is_set;
 
 /// A binary number with one more digit, of which black is 1.
-pub(crate) fn joined(number: u16, black: bool) -> u16
+pub(crate) fn joined(number: u32, black: bool) -> u32
     requires { number < 0x4000 }
     ensures { result ≡ 2 * number + digit_of black }
 {
-    2 * number + u16::from(black)
+    2 * number + u32::from(black)
 }
 
 /// The first two pixels of a word as a binary number.
-fn two(word: u64) -> u16
+fn two(word: u64) -> u32
     ensures { IsFirstTwo word result }
 {
     joined(joined(0, is_set(word, 0)), is_set(word, 1))
 }
 
 /// The first three.
-fn three(word: u64) -> u16
+fn three(word: u64) -> u32
     ensures { IsFirstThree word result }
 {
     joined(
@@ -38,7 +38,7 @@ fn three(word: u64) -> u16
 }
 
 /// The first five.
-fn five(word: u64) -> u16
+fn five(word: u64) -> u32
     ensures { IsFirstFive word result }
 {
     let two = joined(joined(0, is_set(word, 0)), is_set(word, 1));
@@ -50,16 +50,17 @@ fn five(word: u64) -> u16
 /// it, and two at its left. Of the two rows above so many pixels more are at hand, which come next.
 #[derive(Clone, Copy, Debug)]
 pub(crate) struct DirectWindow {
-    far: u16,
-    near: u16,
-    own: u16,
     far_ahead: u64,
     near_ahead: u64,
+    far: u32,
+    near: u32,
+    own: u32,
     more: u32,
 }
 
 impl DirectWindow {
     /// The window of the pixel that is read next.
+    #[inline(always)]
     pub(crate) fn around(canvas: &Canvas) -> DirectWindow
         requires { IsUnread canvas.now }
         ensures { IsDirectWindow canvas.now.shape (pos (column_of canvas.now)) (pos (row_of canvas.now)) result }
@@ -110,7 +111,7 @@ impl DirectWindow {
     pub(crate) fn number(self) -> usize
         ensures { result ≡ 1024 + 128 * self.far + 4 * self.near + self.own }
     {
-        1024 + 128 * usize::from(self.far) + 4 * usize::from(self.near) + usize::from(self.own)
+        1024 + 128 * self.far as usize + 4 * self.near as usize + self.own as usize
     }
 }
 
@@ -119,20 +120,21 @@ impl DirectWindow {
 /// rows so many pixels more are at hand, which come next.
 #[derive(Clone, Copy, Debug)]
 pub(crate) struct RefinedWindow {
-    above: u16,
-    left: bool,
-    over: bool,
-    beside: u16,
-    under: u16,
     above_ahead: u64,
     over_ahead: u64,
     beside_ahead: u64,
     under_ahead: u64,
+    above: u32,
+    beside: u32,
+    under: u32,
     more: u32,
+    left: bool,
+    over: bool,
 }
 
 impl RefinedWindow {
     /// The window of the pixel that is read next.
+    #[inline(always)]
     pub(crate) fn around(canvas: &Canvas, matching: &Matching) -> RefinedWindow
         requires { IsUnread canvas.now }
         ensures { IsRefinedWindow matching.now canvas.now.shape (pos (column_of canvas.now)) (pos (row_of canvas.now)) result }
@@ -193,10 +195,8 @@ impl RefinedWindow {
     pub(crate) fn number(self) -> usize
         ensures { result ≡ 2048 + 256 * self.above + 128 * digit_of self.left + 64 * digit_of self.over + 8 * self.beside + self.under }
     {
-        let new = 2 * usize::from(self.above) + usize::from(self.left);
-        let matched = 64 * usize::from(self.over)
-            + 8 * usize::from(self.beside)
-            + usize::from(self.under);
+        let new = 2 * self.above as usize + usize::from(self.left);
+        let matched = 64 * usize::from(self.over) + 8 * self.beside as usize + self.under as usize;
         2048 + 128 * new + matched
     }
 }

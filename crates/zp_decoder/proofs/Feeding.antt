@@ -26,18 +26,28 @@ is_fed_at_start decoder stands = ([], None, (stands, λ _. inl refl))
 
 pub is_fed_at_end : (old new : Decoder) → old.kept ≡ new.kept → new.ended ≡ true → IsFed old → IsFed new
 unfolding IsFed Fed
-is_fed_at_end old new k e fed = (fed.0, fed.1, (subst (Stands fed.0 (interval_at fed.0 fed.1)) k fed.2.0, λ other. absurd (let both : true ≡ false = sym e ∙ other in cc)))
+is_fed_at_end old new k e fed = (
+  fed.0,
+  fed.1,
+  (
+    subst (Stands fed.0 (interval_at fed.0 fed.1)) k fed.2.0,
+    λ other. absurd
+        (let both : true ≡ false = sym e ∙ other in cc),
+  ),
+)
 
 -- what each decoder's invariant says of it
 pub some_fed : (decoder : Decoder) → IsFed decoder → (payload : List ℕ) × (place : Option Interval) × Fed payload place decoder
 unfolding IsFed
 some_fed decoder fed = fed
 
-pub few_is : (payload : List ℕ) (place : Option Interval) (decoder : Decoder) → Fed payload place decoder → 8 * length payload ≤ (interval_at payload place).n + 192
+pub few_is : (payload : List ℕ) (place : Option Interval) (decoder : Decoder) → Fed payload place decoder →
+    8 * length payload ≤ (interval_at payload place).n + 192
 unfolding Fed
 few_is payload place decoder fed = fed.0.few
 
-pub standing_is : (payload : List ℕ) (place : Option Interval) (decoder : Decoder) → is_sound decoder.ended decoder.kept ≡ true → Fed payload place decoder → IsStanding (length payload) place
+pub standing_is : (payload : List ℕ) (place : Option Interval) (decoder : Decoder) → is_sound decoder.ended decoder.kept ≡ true →
+    Fed payload place decoder → IsStanding (length payload) place
 unfolding Fed
 standing_is payload None decoder sound fed = refl
 standing_is payload (Some at) decoder sound fed =

@@ -1,11 +1,13 @@
 -- More bytes behind a payload.
-use Rattle.std.proofs.Common.{◌≡◌, ◌≤◌, ◌<◌, ◌+◌, ◌-◌, ◌*◌, ◌/◌, ◌%◌, ℕ, zero, suc, Bool, true, false, List, [], ◌∷◌, ◌++◌, length, refl, sym, ap, ◌∙◌, inl, inr, arith, length-append}
+use Rattle.std.proofs.Common.{◌≡◌, ◌≤◌, ◌<◌, ◌+◌, ◌-◌, ◌*◌, ◌/◌, ◌%◌, ℕ, zero, suc, Bool, true, false, List, [], ◌∷◌, ◌++◌, length, refl, sym, ap, ◌∙◌, inl}
+use Rattle.std.proofs.Common.{inr, arith, length-append}
 use Rattle.std.specs.Prelude.{Option, Some, None, nat_lt, nat_le, slice_get}
 use Rattle.std.proofs.lemmas.Grind.{common_steps}
 use Rattle.zp_table.specs.declared.rows.Row.{Row}
 use Rattle.zp_table.specs.Rows.{IsTable}
 use Rattle.zp_decoder.specs.Bits.{bit_in, bit_at, bits_from}
-use Rattle.zp_decoder.specs.Decision.{Form, Interval, interval, interval_at, split_of, cut, shift, shifted, most_bits, after, is_determined, is_exhausted, outcome_of, outcome_from}
+use Rattle.zp_decoder.specs.Decision.{Form, Interval, interval, interval_at, split_of, cut, shift, shifted, most_bits, after, is_determined, is_exhausted}
+use Rattle.zp_decoder.specs.Decision.{outcome_of, outcome_from}
 use Rattle.zp_decoder.specs.Runs.{IsStanding, IsFormOf}
 use Rattle.zp_decoder.proofs.Shifting.{shifted-step, shifted-stop}
 use Rattle.zp_decoder.proofs.Within.{high_or_low, BetweenFacts, facts_of_place, split_facts, after_facts, le_from_le_true}
@@ -19,7 +21,8 @@ pub bit_at-append : (payload more : List ℕ) (number : ℕ) → number < 8 * le
 bit_at-append payload more number below =
     ap (λ (byte : Option ℕ). bit_in byte (number % 8)) (slice_get-append payload more (number / 8) (omega arith))
 
-pub bits_from-append : (payload more : List ℕ) (number count : ℕ) → number + count ≤ 8 * length payload → bits_from (payload ++ more) number count ≡ bits_from payload number count
+pub bits_from-append : (payload more : List ℕ) (number count : ℕ) → number + count ≤ 8 * length payload →
+    bits_from (payload ++ more) number count ≡ bits_from payload number count
 bits_from-append payload more number zero below = refl
 bits_from-append payload more number (suc count) below =
     let bits = bits_from-append payload more number count (omega arith) in
@@ -59,7 +62,8 @@ after-append : (payload more : List ℕ) (z : ℕ) (at : Interval) → at.n + 32
 unfolding most_bits
 after-append payload more z at there = shifted-append payload more 16 (cut z at) (omega (arith, cut-n z at))
 
-interval_at-append : (payload more : List ℕ) (place : Option Interval) → (interval_at payload place).n + 32 ≤ 8 * length payload → interval_at (payload ++ more) place ≡ interval_at payload place
+interval_at-append : (payload more : List ℕ) (place : Option Interval) → (interval_at payload place).n + 32 ≤ 8 * length payload →
+    interval_at (payload ++ more) place ≡ interval_at payload place
 interval_at-append payload more None there = ap (λ (code : ℕ). interval 0 code 0) (bits_from-append payload more 0 16 (omega arith))
 interval_at-append payload more (Some at) there = refl
 
@@ -67,12 +71,15 @@ still_determined : (payload more : List ℕ) (ended : Bool) (at : Interval) → 
 still_determined payload more true at there = refl
 still_determined payload more false at there = true_from_le _ _ (omega (arith, length-append payload more))
 
-not_exhausted : (payload more : List ℕ) (ended : Bool) (n : ℕ) (next : Interval) → n + 32 ≤ 8 * length payload → next.n ≤ n + 16 → is_exhausted (payload ++ more) ended next ≡ false
+not_exhausted : (payload more : List ℕ) (ended : Bool) (n : ℕ) (next : Interval) → n + 32 ≤ 8 * length payload → next.n ≤ n + 16 →
+    is_exhausted (payload ++ more) ended next ≡ false
 not_exhausted payload more true n next there most = false_from_le _ _ (omega (arith, length-append payload more))
 not_exhausted payload more false n next there most = refl
 
-grown_from : (rows : List Row) (form : Form) (payload more : List ℕ) (ended : Bool) (place : Option Interval) (at : Interval) → IsTable rows → IsFormOf rows form →
-    BetweenFacts (length payload) at → at.n + 32 ≤ 8 * length payload → outcome_from rows form (payload ++ more) ended place at ≡ outcome_from rows form payload false place at
+grown_from : (rows : List Row) (form : Form) (payload more : List ℕ) (ended : Bool) (place : Option Interval) (at : Interval) → IsTable rows →
+    IsFormOf rows form →
+    BetweenFacts (length payload) at → at.n + 32 ≤ 8 * length payload →
+    outcome_from rows form (payload ++ more) ended place at ≡ outcome_from rows form payload false place at
 grown_from rows form payload more ended place at t below between there =
     let z : ℕ = split_of rows form at.a in
     let facts = after_facts payload z at between.within between.below between.low (split_facts rows form at.a t below between.low) in

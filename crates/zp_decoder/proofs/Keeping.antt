@@ -37,14 +37,24 @@ scaled x k small =
     let turned : x * 2 ^ k ≡ 2 ^ k * x = mul_comm x (2 ^ k) in
     mod-eq_of_lt (omega (arith, small, turned)) ∙ turned
 
-pub shift_stands : (payload : List ℕ) (k bits : ℕ) (at : Interval) (kept : Standing) (window : Window) → Stands payload at kept → k ≤ 16 → kept.a ≤ kept.code → kept.code < 0x10000 → k ≤ kept.spare →
+pub shift_stands : (payload : List ℕ) (k bits : ℕ) (at : Interval) (kept : Standing) (window : Window) → Stands payload at kept → k ≤ 16 →
+    kept.a ≤ kept.code → kept.code < 0x10000 → k ≤ kept.spare →
     2 ^ k * (0x10000 - kept.a) ≤ 0x10000 → bits ≡ kept.window.near / 2 ^ (64 - k) → Holds payload (16 + at.n + k) window →
-    Stands payload (moved_on payload k at) (record { a = 0x10000 - (0x10000 - kept.a) * 2 ^ k % 2 ^ 32; code = 0x10000 + bits - (0x10000 - kept.code) * 2 ^ k % 2 ^ 32; spare = kept.spare - k; window = window })
+    Stands payload (moved_on payload k at) (record {
+      a = 0x10000 - (0x10000 - kept.a) * 2 ^ k % 2 ^ 32;
+      code = 0x10000 + bits -
+          (0x10000 - kept.code) * 2 ^ k % 2 ^ 32;
+      spare = kept.spare - k;
+      window = window;
+    })
 shift_stands payload k bits at kept window s few within below room whole first holds =
-    let less : 2 ^ k * (0x10000 - kept.code) ≤ 2 ^ k * (0x10000 - kept.a) = mul-le (2 ^ k) (0x10000 - kept.code) (2 ^ k) (0x10000 - kept.a) (omega arith) (omega arith) in
+    let less : 2 ^ k * (0x10000 - kept.code) ≤ 2 ^ k * (0x10000 - kept.a) =
+    mul-le (2 ^ k) (0x10000 - kept.code) (2 ^ k) (0x10000 - kept.a) (omega arith) (omega arith) in
     let a : (0x10000 - kept.a) * 2 ^ k % 2 ^ 32 ≡ 2 ^ k * (0x10000 - at.a) = scaled (0x10000 - kept.a) k whole ∙ ap (λ (x : ℕ). 2 ^ k * (0x10000 - x)) s.a in
-    let code : (0x10000 - kept.code) * 2 ^ k % 2 ^ 32 ≡ 2 ^ k * (0x10000 - at.code) = scaled (0x10000 - kept.code) k (omega (arith, less, whole)) ∙ ap (λ (x : ℕ). 2 ^ k * (0x10000 - x)) s.code in
-    let next : bits ≡ bits_from payload (16 + at.n) k = first ∙ (ap (λ (x : ℕ). x / 2 ^ (64 - k)) s.words.near ∙ word_first payload (16 + at.n) k (omega arith)) in
+    let code : (0x10000 - kept.code) * 2 ^ k % 2 ^ 32 ≡ 2 ^ k * (0x10000 - at.code) = scaled (0x10000 - kept.code) k (omega (arith, less, whole))
+    ∙ ap (λ (x : ℕ). 2 ^ k * (0x10000 - x)) s.code in
+    let next : bits ≡ bits_from payload (16 + at.n) k = first ∙ (ap (λ (x : ℕ). x / 2 ^ (64 - k)) s.words.near
+    ∙ word_first payload (16 + at.n) k (omega arith)) in
     let place : 16 + at.n + k ≡ 16 + (at.n + k) = omega arith in
     record {
       a = ap (λ (x : ℕ). 0x10000 - x) a;
@@ -54,8 +64,10 @@ shift_stands payload k bits at kept window s few within below room whole first h
       words = subst (λ (x : ℕ). Holds payload x window) place holds;
     }
 
-pub with_later : (payload : List ℕ) (byte code : ℕ) (at : Interval) (kept : Standing) (window : Window) → Stands payload at kept → kept.spare ≤ 360 → code ≡ kept.code →
-    Holds (payload ++ byte ∷ []) (16 + at.n) window → Stands (payload ++ byte ∷ []) at (record { a = kept.a; code = code; spare = kept.spare + 8; window = window })
+pub with_later : (payload : List ℕ) (byte code : ℕ) (at : Interval) (kept : Standing) (window : Window) → Stands payload at kept → kept.spare ≤ 360 →
+    code ≡ kept.code →
+    Holds (payload ++ byte ∷ []) (16 + at.n) window → Stands (payload ++ byte ∷ []) at
+    (record { a = kept.a; code = code; spare = kept.spare + 8; window = window })
 with_later payload byte code at kept window s room same holds = record {
   a = s.a;
   code = same ∙ s.code;
@@ -64,8 +76,10 @@ with_later payload byte code at kept window s room same holds = record {
   words = holds;
 }
 
-pub with_first : (payload : List ℕ) (byte code : ℕ) (kept : Standing) (window : Window) → Stands payload (start payload) kept → kept.spare ≤ 360 → code ≡ bits_from (payload ++ byte ∷ []) 0 16 →
-    Holds (payload ++ byte ∷ []) (16 + 0) window → Stands (payload ++ byte ∷ []) (start (payload ++ byte ∷ [])) (record { a = kept.a; code = code; spare = kept.spare + 8; window = window })
+pub with_first : (payload : List ℕ) (byte code : ℕ) (kept : Standing) (window : Window) → Stands payload (start payload) kept → kept.spare ≤ 360 →
+    code ≡ bits_from (payload ++ byte ∷ []) 0 16 →
+    Holds (payload ++ byte ∷ []) (16 + 0) window → Stands (payload ++ byte ∷ []) (start (payload ++ byte ∷ []))
+    (record { a = kept.a; code = code; spare = kept.spare + 8; window = window })
 with_first payload byte code kept window s room same holds = record {
   a = s.a;
   code = same;

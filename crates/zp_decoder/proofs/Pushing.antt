@@ -1,5 +1,6 @@
 -- Bytes that are taken, one by one.
-use Rattle.std.proofs.Common.{◌≡◌, ◌≤◌, ◌<◌, ◌+◌, ℕ, suc, Bool, true, false, List, [], ◌∷◌, ◌++◌, take, get_or, length, refl, sym, ap, subst, ◌∙◌, inl, inr, arith, length-append, append_assoc, add-one}
+use Rattle.std.proofs.Common.{◌≡◌, ◌≤◌, ◌<◌, ◌+◌, ℕ, suc, Bool, true, false, List, [], ◌∷◌, ◌++◌, take, get_or, length, refl, sym, ap, subst, ◌∙◌, inl, inr}
+use Rattle.std.proofs.Common.{arith, length-append, append_assoc, add-one}
 use Rattle.std.specs.Prelude.{◌⊎◌, Option, Some, None}
 use Rattle.std.proofs.lemmas.Grind.{common_steps}
 use Rattle.std.proofs.Math.Seq.{take-suc}
@@ -9,7 +10,8 @@ use Rattle.zp_decoder.specs.Decision.{Interval, interval_at, start}
 use Rattle.zp_decoder.specs.Window.{Stands}
 use Rattle.zp_decoder.specs.Decoder.{Decoder, Fed, IsSettled, is_sound}
 
-pub push_step : (payload : List ℕ) (place : Option Interval) (rows : List Row) (byte : ℕ) (at next : Standing) → Fed payload place (record { table = rows; ended = false; kept = at }) →
+pub push_step : (payload : List ℕ) (place : Option Interval) (rows : List Row) (byte : ℕ) (at next : Standing) →
+    Fed payload place (record { table = rows; ended = false; kept = at }) →
     ((payload : List ℕ) → Stands payload (start payload) at → Stands (payload ++ byte ∷ []) (start (payload ++ byte ∷ [])) next) →
     ((payload : List ℕ) (from : Interval) → 192 ≤ at.spare → Stands payload from at → Stands (payload ++ byte ∷ []) from next) →
     Fed (payload ++ byte ∷ []) place (record { table = rows; ended = false; kept = next })
@@ -24,14 +26,18 @@ push_step payload (Some i) rows byte at next fed first later =
     ]
 
 push_to : (payload bytes : List ℕ) (place : Option Interval) (rows : List Row) (i byte : ℕ) (at next : Standing) → i < length bytes → byte ≡ get_or bytes i 0 →
-    Fed ((payload ++ take i bytes) ++ byte ∷ []) place (record { table = rows; ended = false; kept = next }) → Fed (payload ++ take (i + 1) bytes) place (record { table = rows; ended = false; kept = next })
+    Fed ((payload ++ take i bytes) ++ byte ∷ []) place (record { table = rows; ended = false; kept = next }) →
+    Fed (payload ++ take (i + 1) bytes) place (record { table = rows; ended = false; kept = next })
 push_to payload bytes place rows i byte at next within e fed =
     let last : take (suc i) bytes ≡ take i bytes ++ (get_or bytes i 0 ∷ []) = take-suc bytes i 0 within in
-    let same : take (i + 1) bytes ≡ take i bytes ++ (byte ∷ []) = ap (λ (n : ℕ). take n bytes) (add-one i) ∙ (last ∙ ap (λ (b : ℕ). take i bytes ++ (b ∷ [])) (sym e)) in
-    let joined : payload ++ take i bytes ++ (byte ∷ []) ≡ payload ++ take (i + 1) bytes = append_assoc payload (take i bytes) (byte ∷ []) ∙ ap (λ (l : List ℕ). payload ++ l) (sym same) in
+    let same : take (i + 1) bytes ≡ take i bytes ++ (byte ∷ []) = ap (λ (n : ℕ). take n bytes) (add-one i)
+    ∙ (last ∙ ap (λ (b : ℕ). take i bytes ++ (b ∷ [])) (sym e)) in
+    let joined : payload ++ take i bytes ++ (byte ∷ []) ≡ payload ++ take (i + 1) bytes = append_assoc payload (take i bytes) (byte ∷ [])
+    ∙ ap (λ (l : List ℕ). payload ++ l) (sym same) in
     subst (λ (l : List ℕ). Fed l place (record { table = rows; ended = false; kept = next })) joined fed
 
-pub push_on : (payload bytes : List ℕ) (place : Option Interval) (rows : List Row) (i byte : ℕ) (at next : Standing) → i < length bytes → byte ≡ get_or bytes i 0 →
+pub push_on : (payload bytes : List ℕ) (place : Option Interval) (rows : List Row) (i byte : ℕ) (at next : Standing) → i < length bytes →
+    byte ≡ get_or bytes i 0 →
     Fed (payload ++ take i bytes) place (record { table = rows; ended = false; kept = at }) →
     ((payload : List ℕ) → Stands payload (start payload) at → Stands (payload ++ byte ∷ []) (start (payload ++ byte ∷ [])) next) →
     ((payload : List ℕ) (from : Interval) → 192 ≤ at.spare → Stands payload from at → Stands (payload ++ byte ∷ []) from next) →
@@ -40,7 +46,8 @@ push_on payload bytes place rows i byte at next within e fed first later =
     push_to payload bytes place rows i byte at next within e (push_step (payload ++ take i bytes) place rows byte at next fed first later)
 
 -- only what is kept and the end matter
-pub fed_same : (payload : List ℕ) (place : Option Interval) (old new : Decoder) → old.kept ≡ new.kept → old.ended ≡ new.ended → Fed payload place old → Fed payload place new
+pub fed_same : (payload : List ℕ) (place : Option Interval) (old new : Decoder) → old.kept ≡ new.kept → old.ended ≡ new.ended → Fed payload place old →
+    Fed payload place new
 unfolding Fed
 fed_same payload place old new k e fed = (subst (Stands payload (interval_at payload place)) k fed.0, subst (IsSettled payload place) e fed.1)
 
@@ -80,7 +87,8 @@ sound_from at s =
       | inr more ↦ sound_more at s more
     ]
 
-pub sound_on : (at next : Standing) → is_sound false at ≡ true → at.spare ≤ 360 → next.a ≡ at.a → next.code < 0x10000 → (192 ≤ at.spare → next.code ≡ at.code) → next.spare ≡ at.spare + 8 → is_sound false next ≡ true
+pub sound_on : (at next : Standing) → is_sound false at ≡ true → at.spare ≤ 360 → next.a ≡ at.a → next.code < 0x10000 →
+    (192 ≤ at.spare → next.code ≡ at.code) → next.spare ≡ at.spare + 8 → is_sound false next ≡ true
 sound_on at next e room a below same spare =
     let s : Sound at = sound_facts at e in
     sound_from next (record {

@@ -19,7 +19,8 @@ are_same-refl [] = refl
 are_same-refl (true ∷ bits) = are_same-refl bits
 are_same-refl (false ∷ bits) = are_same-refl bits
 
-pub stored_here : {Name : Type 0} (is_same : Name → Name → Bool) (states : Name → ℕ) (name other : Name) (state : ℕ) → is_same name other ≡ true → stored is_same states name state other ≡ state
+pub stored_here : {Name : Type 0} (is_same : Name → Name → Bool) (states : Name → ℕ) (name other : Name) (state : ℕ) → is_same name other ≡ true →
+    stored is_same states name state other ≡ state
 stored_here is_same states name other state e = ap (λ (is : Bool). if is then state else states other) e
 
 pub stored_elsewhere : {Name : Type 0} (is_same : Name → Name → Bool) (states : Name → ℕ) (name other : Name) (state : ℕ) → is_same name other ≡ false →

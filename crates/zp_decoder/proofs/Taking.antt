@@ -23,7 +23,8 @@ few_where_open : (taken : List ℕ) (ended : Bool) (at : Interval) → is_determ
 few_where_open taken true at d = absurd (cc)
 few_where_open taken false at d = grind (arith, common_steps, d)
 
-wanted_by : (rows : List Row) (form : Form) (taken : List ℕ) (ended : Bool) (place : Option Interval) (z : ℕ) (at : Interval) → Comes rows form taken ended place z at →
+wanted_by : (rows : List Row) (form : Form) (taken : List ℕ) (ended : Bool) (place : Option Interval) (z : ℕ) (at : Interval) →
+    Comes rows form taken ended place z at →
     (outcome_at rows form taken ended place z at).answer ≡ decision.NeedBytes → 0 < (at.n + 192 - 8 * length taken) / 8
 wanted_by rows form taken ended place z at (needs d e) answered = omega (arith, few_where_open taken ended at d)
 wanted_by rows form taken ended place z at (exhausts d x e) answered =

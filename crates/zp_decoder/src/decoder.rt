@@ -1,7 +1,9 @@
 //! The decoder. Of the bytes of its chunk it keeps those that aren't shifted in yet.
-ghost use Rattle.std.specs.Prelude.{◌≡◌, ◌<◌, ◌≤◌, ℕ, List, [], ◌++◌, take, min, length, nat_lt, nat_le, not, ◌&&◌, ◌⊎◌, Bool, true, false, Option, None, if◌then◌else◌};
+ghost use Rattle.std.specs.Prelude.{◌≡◌, ◌<◌, ◌≤◌, ℕ, List, [], ◌++◌, take, min, length, nat_lt, nat_le, not, ◌&&◌, ◌⊎◌, Bool, true, false, Option, None};
+ghost use Rattle.std.specs.Prelude.{if◌then◌else◌};
 ghost use Rattle.std.specs.Arc.{arc_value};
-ghost use Rattle.zp_decoder.specs.Decision.{Form, Interval, Adaptive, Pass, Iw, outcome_of, outcome_at, probable_of, interval_at, interval, counted, next_state};
+ghost use Rattle.zp_decoder.specs.Decision.{Form, Interval, Adaptive, Pass, Iw, outcome_of, outcome_at, probable_of, interval_at, interval, counted};
+ghost use Rattle.zp_decoder.specs.Decision.{next_state};
 ghost use Rattle.zp_decoder.specs.Decoder.{Fed, bytes_wanted, room_left};
 ghost use Rattle.zp_decoder.specs.Runs.{IsStanding};
 
@@ -68,7 +70,8 @@ impl ZpDecoder {
     #[tactic(auto, unfolding(crate::specs::Decoder::Fed))]
     pub fn push(&mut self, piece: &[u8]) -> usize
         requires { self.old.ended ≡ false }
-        ensures taken { (payload : List ℕ) (place : Option Interval) → Fed payload place self.old → result ≡ min (length piece.now) (bytes_wanted payload place) }
+        ensures taken { (payload : List ℕ) (place : Option Interval) → Fed payload place self.old →
+            result ≡ min (length piece.now) (bytes_wanted payload place) }
         ensures fed { (payload : List ℕ) (place : Option Interval) → Fed payload place self.old → Fed (payload ++ take result piece.now) place self.new }
         ensures within { result ≤ length piece.now }
         ensures table { self.new.table ≡ self.old.table }
@@ -136,15 +139,15 @@ impl ZpDecoder {
         ensures needs { result ≡ Decision.NeedBytes → (self.new ≡ self.old) × (ctx.new ≡ ctx.old) × (meter.new ≡ meter.old) }
         ensures exhausted { result ≡ Decision.Exhausted → (self.new ≡ self.old) × (ctx.new ≡ ctx.old) × (meter.new ≡ meter.old) }
     {
-        let row = self.table.row(*ctx);
         let a = self.kept.a;
         let code = self.kept.code;
-        let z = adaptive_split(row.p, a);
+        let z = adaptive_split(self.table.row(*ctx).p, a);
         if is_quiet(z, code, self.kept.spare, self.ended) {
             self.kept.a = z;
             meter.tick();
             return Decision::Bit(*ctx % 2 == 1);
         }
+        let row = self.table.row(*ctx);
         let answer = self.decide(z, *ctx % 2 == 1, meter);
         *ctx = state_after(answer, row, *ctx, z, a, code);
         answer

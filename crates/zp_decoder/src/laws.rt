@@ -1,5 +1,6 @@
 //! Laws and worked values of the definitions, as clauses of functions that do nothing.
-ghost use Rattle.std.specs.Prelude.{◌≡◌, ◌+◌, ◌*◌, ◌<◌, ◌≤◌, ℕ, Bool, true, false, List, [], ◌∷◌, ◌++◌, ◌==◌, length, replicate, Option, Some, None, IsTrue, ◌⊎◌, ◌↔◌};
+ghost use Rattle.std.specs.Prelude.{◌≡◌, ◌+◌, ◌*◌, ◌<◌, ◌≤◌, ℕ, Bool, true, false, List, [], ◌∷◌, ◌++◌, ◌==◌, length, replicate, Option, Some, None};
+ghost use Rattle.std.specs.Prelude.{IsTrue, ◌⊎◌, ◌↔◌};
 ghost use Rattle.zp_table.specs.declared.rows.Row.{Row};
 ghost use Rattle.zp_table.specs.Rows.{IsTable};
 ghost use Rattle.zp_table.specs.Listing.{djvu_rows, flat_rows};
@@ -48,8 +49,10 @@ pub fn decisions_stay_within()
     ensures start { (payload : List ℕ) → IsTrue (is_between (length payload) (start payload)) }
     ensures standing { (rows : List Row) (form : Form) (payload : List ℕ) (ended : Bool) (place : Option Interval) → IsTable rows → IsFormOf rows form →
         IsStanding (length payload) place → IsStanding (length payload) (outcome_of rows form payload ended place).place }
-    ensures split { (rows : List Row) (form : Form) (a : ℕ) → IsTable rows → IsFormOf rows form → a < 0x8000 → (a < split_of rows form a) × (split_of rows form a < 0x10000) }
-    ensures bits { (rows : List Row) (form : Form) (payload : List ℕ) (ended : Bool) (place : Option Interval) (next : Interval) → IsTable rows → IsFormOf rows form →
+    ensures split { (rows : List Row) (form : Form) (a : ℕ) → IsTable rows → IsFormOf rows form → a < 0x8000 →
+        (a < split_of rows form a) × (split_of rows form a < 0x10000) }
+    ensures bits { (rows : List Row) (form : Form) (payload : List ℕ) (ended : Bool) (place : Option Interval) (next : Interval) → IsTable rows →
+        IsFormOf rows form →
         IsStanding (length payload) place → (outcome_of rows form payload ended place).place ≡ Some next → next.n ≤ (interval_at payload place).n + 16 }
     ensures state { (rows : List Row) (state : ℕ) (payload : List ℕ) (ended : Bool) (place : Option Interval) → IsTable rows → state < length rows →
         (outcome_of rows (Adaptive state) payload ended place).state < length rows }
@@ -77,7 +80,8 @@ pub fn flat_inverts_bits()
 /// A chunk has at most 32,768 decisions for each bit of its payload and 177 bits more, and each decision leaves room for
 /// fewer.
 pub fn decisions_end()
-    ensures fewer { (rows : List Row) (form : Form) (payload : List ℕ) (ended : Bool) (place : Option Interval) (bit : Bool) → IsTable rows → IsFormOf rows form →
+    ensures fewer { (rows : List Row) (form : Form) (payload : List ℕ) (ended : Bool) (place : Option Interval) (bit : Bool) → IsTable rows →
+        IsFormOf rows form →
         IsStanding (length payload) place → (outcome_of rows form payload ended place).answer ≡ decision.Bit bit →
         room payload (outcome_of rows form payload ended place).place < room payload place }
     ensures at_most { (rows : List Row) (payload : List ℕ) (ended : Bool) (place : Option Interval) (forms : List Form) → IsTable rows → AreFormsOf rows forms →
@@ -88,7 +92,8 @@ pub fn decisions_end()
 /// For each payload that a decoder took, and each place that its decisions led to, the room that is left for decisions is
 /// what they leave. No more bytes are taken than make 192 bits behind those that were shifted in.
 pub fn decoders_are_fed()
-    ensures few { (payload : List ℕ) (place : Option Interval) (decoder : Decoder) → Fed payload place decoder → 8 * length payload ≤ (interval_at payload place).n + 192 }
+    ensures few { (payload : List ℕ) (place : Option Interval) (decoder : Decoder) → Fed payload place decoder →
+        8 * length payload ≤ (interval_at payload place).n + 192 }
     ensures room { (payload : List ℕ) (place : Option Interval) (decoder : Decoder) → Fed payload place decoder → room_left decoder ≡ room payload place }
 {}
 

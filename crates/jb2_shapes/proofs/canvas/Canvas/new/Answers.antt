@@ -10,4 +10,4 @@ invariant_of-result c =
     let area : c.in_ok-new.field-0.width * c.in_ok-new.field-0.height ≡ c.args.width * c.args.height =
     ap (λ w. w * c.in_ok-new.field-0.height) width ∙ ap (λ h. c.args.width * h) height in
     let room = c.requires in
-    (omega arith, omega (arith, area, room), stands_first c.in_ok-new.field-0 c.saturating_sub.result c.in_ok-new.ensures.white (c.saturating_sub.ensures ∙ ap (λ h. h - 1) (sym height)))
+    (omega arith, omega (arith, area, room), stands_first c.in_ok-new.field-0 c.saturating_sub.result c.in_ok-new.ensures.white (c.saturating_sub.ensures ∙ ap (λ h. h - 1) (sym height)), sym area)

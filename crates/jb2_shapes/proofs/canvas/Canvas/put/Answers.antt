@@ -14,18 +14,21 @@ invariant_of-self c =
     let more : Inside → Sketch = λ i. record { shape = i.shape; number = i.number + 1 } in
     let column_next : Inside → ℕ = λ i. column_behind c.self.inside.shape.width i.column in
     let row_next : Inside → ℕ = λ i. row_behind c.self.inside.shape.width i.column i.row in
+    let area_of : Inside → ℕ = λ i. i.area in
     let with_shape : Pixels → Sketch = λ s. record { shape = s; number = c.self.inside.number + 1 } in
     let unread : IsUnread sketch = subst IsUnread (sym c.self.view_is) c.requires in
     let column = c.behind-column.ensures.column ∙ ap (λ w. column_behind w c.if-black.self-inside.column) c.width-width.ensures in
     let row = c.behind-column.ensures.row ∙ ap (λ w. row_behind w c.if-black.self-inside.column c.if-black.self-inside.row) c.width-width.ensures in
     elim c.if-black.branch [
       | then-black w ↦
-          put_keeps sketch new true c.self.inside.column c.self.inside.row area_limit _ _ unread c.self.invariant.1 c.self.invariant.2
+          put_keeps sketch new true c.self.inside.column c.self.inside.row area_limit c.if-black.self-inside.area _ _ unread c.self.invariant.1 c.self.invariant.2
+          (ap area_of w.self-inside-is ∙ c.self.invariant.3)
           (ap more w.self-inside-is
           ∙ ap with_shape (blackened sketch c.self.inside.column c.self.inside.row w.set.new.self (c.self.invariant.2 unread) w.set.ensures.value))
           (column ∙ ap column_next w.self-inside-is) (row ∙ ap row_next w.self-inside-is)
       | else-black w ↦
-          put_keeps sketch new false c.self.inside.column c.self.inside.row area_limit _ _ unread c.self.invariant.1 c.self.invariant.2
+          put_keeps sketch new false c.self.inside.column c.self.inside.row area_limit c.if-black.self-inside.area _ _ unread c.self.invariant.1 c.self.invariant.2
+          (ap area_of w.self-inside-is ∙ c.self.invariant.3)
           (ap more w.self-inside-is) (column ∙ ap column_next w.self-inside-is) (row ∙ ap row_next w.self-inside-is)
     ]
 

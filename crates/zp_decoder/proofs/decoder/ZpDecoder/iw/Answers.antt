@@ -12,6 +12,7 @@ returns-clause-answer g c payload place fed =
 
 pub returns-clause-fed : goal.returns-clause-fed
 returns-clause-fed g c payload place fed =
-    subst (λ (z : ℕ). Fed payload (outcome_at c.args.self.now.table Iw payload c.args.self.now.ended place z (interval_at payload place)).place c.decide-2.new.self)
+    subst (λ (z : ℕ). Fed payload (outcome_at c.args.self.now.table Iw payload c.args.self.now.ended place z
+    (interval_at payload place)).place c.decide-2.new.self)
     (split_is c.args.self.now payload place c.decide.inside.kept Iw c.iw_split.result (ap (λ (d : Decoder). d.kept) c.decide.view_is) fed c.iw_split.ensures)
     (c.decide-2.ensures.fed Iw payload place fed)

@@ -19,7 +19,8 @@ loop-byte-init c =
       sound = sound;
       fed = λ payload place fed.
           subst (λ (l : List ℕ). Fed l place (record { table = c.args.self.now.table; ended = false; kept = c.self.inside.kept })) (sym (append-nil payload))
-          (fed_same payload place c.args.self.now (record { table = c.args.self.now.table; ended = false; kept = c.self.inside.kept }) (sym (ap (λ (d : Decoder). d.kept) c.self.view_is)) c.requires fed);
+          (fed_same payload place c.args.self.now (record { table = c.args.self.now.table; ended = false; kept = c.self.inside.kept })
+          (sym (ap (λ (d : Decoder). d.kept) c.self.view_is)) c.requires fed);
     }
 
 pub loop-byte-preserved : goal.loop-byte-preserved
@@ -35,10 +36,13 @@ loop-byte-preserved c =
       room = kept.room;
       open_end = kept.open_end;
       table = kept.table;
-      sound = sound_on c.loop-byte.self-inside.kept c.with-self-inside.result kept.sound room c.with-self-inside.ensures.a c.with-self-inside.ensures.below c.with-self-inside.ensures.same c.with-self-inside.ensures.spare;
+      sound = sound_on c.loop-byte.self-inside.kept c.with-self-inside.result kept.sound room c.with-self-inside.ensures.a c.with-self-inside.ensures.below
+          c.with-self-inside.ensures.same c.with-self-inside.ensures.spare;
       fed = λ payload place fed.
-          push_on payload c.args.piece.now place c.args.self.now.table c.loop-byte.byte-index (get_or (take c.min-count.result c.args.piece.now) c.loop-byte.byte-index 0) c.loop-byte.self-inside.kept c.with-self-inside.result
-          inside (get_or-take c.min-count.result c.args.piece.now c.loop-byte.byte-index 0 within) (kept.fed payload place fed) c.with-self-inside.ensures.first c.with-self-inside.ensures.later;
+          push_on payload c.args.piece.now place c.args.self.now.table c.loop-byte.byte-index
+          (get_or (take c.min-count.result c.args.piece.now) c.loop-byte.byte-index 0) c.loop-byte.self-inside.kept c.with-self-inside.result
+          inside (get_or-take c.min-count.result c.args.piece.now c.loop-byte.byte-index 0 within)
+          (kept.fed payload place fed) c.with-self-inside.ensures.first c.with-self-inside.ensures.later;
     }
 
 pub returns-clause-fed : goal.returns-clause-fed
@@ -47,9 +51,11 @@ returns-clause-fed c payload place fed =
     let short : c.min-count.result ≤ length c.args.piece.now = omega (arith, c.min-count.ensures) in
     let size : length (take c.min-count.result c.args.piece.now) ≡ c.min-count.result = length-take-le c.min-count.result c.args.piece.now short in
     let end : c.loop-byte.byte-index ≡ c.min-count.result = omega (arith, size, c.loop-byte-test.false, c.loop-byte.auto.byte-index-end) in
-    fed_same (payload ++ take c.min-count.result c.args.piece.now) place (record { table = c.args.self.now.table; ended = false; kept = c.loop-byte.self-inside.kept })
+    fed_same (payload ++ take c.min-count.result c.args.piece.now) place
+    (record { table = c.args.self.now.table; ended = false; kept = c.loop-byte.self-inside.kept })
     (the_view c.loop-byte.self-inside) refl (sym kept.open_end)
-    (subst (λ (n : ℕ). Fed (payload ++ take n c.args.piece.now) place (record { table = c.args.self.now.table; ended = false; kept = c.loop-byte.self-inside.kept })) end (kept.fed payload place fed))
+    (subst (λ (n : ℕ). Fed (payload ++ take n c.args.piece.now) place
+    (record { table = c.args.self.now.table; ended = false; kept = c.loop-byte.self-inside.kept })) end (kept.fed payload place fed))
 
 pub invariant_of-self : goal.invariant_of-self
 invariant_of-self c =
@@ -59,6 +65,7 @@ invariant_of-self c =
       sound_closed c.loop-byte.self-inside.kept c.loop-byte.self-inside.ended kept.open_end kept.sound,
       is_fed_by old new c.self.invariant.1 (λ payload place fed.
           is_fed (payload ++ take c.loop-byte.byte-index c.args.piece.now) place new
-          (fed_same (payload ++ take c.loop-byte.byte-index c.args.piece.now) place (record { table = c.args.self.now.table; ended = false; kept = c.loop-byte.self-inside.kept }) new refl (sym kept.open_end)
+          (fed_same (payload ++ take c.loop-byte.byte-index c.args.piece.now) place
+          (record { table = c.args.self.now.table; ended = false; kept = c.loop-byte.self-inside.kept }) new refl (sym kept.open_end)
           (kept.fed payload place (subst (Fed payload place) c.self.view_is fed)))),
     )

@@ -11,5 +11,6 @@ invariant-loop-byte l = record {
   open_end : l.self-inside.ended ≡ false;
   table : l.self-inside.table ≡ l.initial.self-inside.table;
   sound : IsTrue (is_sound false l.self-inside.kept);
-  fed : (payload : List ℕ) (place : Option Interval) → Fed payload place l.fn.self → Fed (payload ++ take l.byte-index l.piece) place (record { table = l.fn.self.table; ended = false; kept = l.self-inside.kept });
+  fed : (payload : List ℕ) (place : Option Interval) → Fed payload place l.fn.self →
+      Fed (payload ++ take l.byte-index l.piece) place (record { table = l.fn.self.table; ended = false; kept = l.self-inside.kept });
 }

@@ -10,12 +10,13 @@ use Rattle.zp_decoder.specs.Decision.{Interval, Form, Outcome, Adaptive, interva
 use Rattle.zp_decoder.specs.Runs.{IsFormOf, IsStanding, room}
 use Rattle.zp_decoder.proofs.Lemmas.{grown, Comes, comes, needs, exhausts, moves, standing, state_below, fewer, le_from_le_true, between_facts, between-from_facts, stored_below}
 use Rattle.zp_decoder.specs.Chunk.{Chunk, chunk, IsReady}
+use Rattle.jb2_numbers.specs.Answer as answer
 use Rattle.jb2_numbers.specs.Contexts.{Name, is_same}
 use Rattle.jb2_numbers.specs.Phases.{implied, Phase, Sign, Doubling, Halving, Known, is_known}
-use Rattle.jb2_numbers.specs.Number.{Wanted, Reading, phase_after, begun, name_at, next_coded, with_coded, step_in, step, steps, most_decisions, read_on, ArePossible}
+use Rattle.jb2_numbers.specs.Number.{Wanted, Reading, phase_after, begun, name_at, next_coded, with_coded, step_in, step, steps, most_decisions, read_on, answer_at, ArePossible}
 use Rattle.jb2_numbers.specs.Reader.{AreBounds}
 use Rattle.jb2_numbers.proofs.Stepping.{step_in_implied, step_in_coded, steps_ended, steps_add}
-use Rattle.jb2_numbers.proofs.Ending.{read_on-ends_from}
+use Rattle.jb2_numbers.proofs.Ending.{read_on-ends_from, known_answer}
 
 -- ---- decisions of a chunk that goes on
 
@@ -234,3 +235,15 @@ pub cut_anywhere : (wanted : Wanted) (rows : List Row) (payload more : List ℕ)
     (chunk rows (payload ++ more) ended) (begun states place)
 cut_anywhere wanted rows payload more ended states place bounds ready =
     stopped_anywhere wanted rows payload more ended (begun states place) most_decisions bounds tt ready
+
+-- a number that some bytes determine is the same with more of them
+pub number_stays : (wanted : Wanted) (rows : List Row) (payload more : List ℕ) (ended : Bool) (at : Reading) (value : ℤ) → AreBounds wanted.low wanted.high →
+    ArePossible wanted at.decisions → IsReady (chunk rows payload false) at.states at.place →
+    answer_at wanted (chunk rows payload false) (read_on wanted (chunk rows payload false) at) ≡ answer.Number value →
+    read_on wanted (chunk rows (payload ++ more) ended) at ≡ read_on wanted (chunk rows payload false) at
+number_stays wanted rows payload more ended at value bounds possible ready answered =
+    let from : Chunk = chunk rows payload false in
+    let reading : Reading = read_on wanted from at in
+    let known = known_answer wanted from reading (phase_after wanted reading.decisions) (next_coded wanted from reading).answer value refl answered in
+    sym (stopped_anywhere wanted rows payload more ended at most_decisions bounds possible ready)
+    ∙ steps_ended wanted (chunk rows (payload ++ more) ended) reading most_decisions 0 (omega arith) (ap (step_in wanted (chunk rows (payload ++ more) ended) reading) known)

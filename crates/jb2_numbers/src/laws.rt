@@ -85,8 +85,7 @@ pub fn numbers_are_reached()
 /// where the bound is at least the cutoff.
 pub fn one_value_codes_nothing()
     ensures answer { (number : Wanted) (from : Chunk) (states : Name → ℕ) (place : Option Interval) → AreBounds number.low number.high →
-        number.low ≡ number.high →
-        answer_at number from (read_on number from (begun states place)) ≡ answer.Number number.low }
+        number.low ≡ number.high → answer_at number from (read_on number from (begun states place)) ≡ answer.Number number.low }
     ensures nothing { (number : Wanted) (from : Chunk) (states : Name → ℕ) (place : Option Interval) → number.low ≡ number.high →
         (read_on number from (begun states place)).coded ≡ 0 }
     ensures states_stay { (number : Wanted) (from : Chunk) (states : Name → ℕ) (place : Option Interval) → number.low ≡ number.high →
@@ -125,19 +124,23 @@ pub fn readings_leave_room()
 /// one that is read from all of them.
 pub fn cuts_change_nothing()
     ensures { (number : Wanted) (rows : List Row) (payload more : List ℕ) (ended : Bool) (states : Name → ℕ) (place : Option Interval) →
-        AreBounds number.low number.high →
-        IsReady (chunk rows payload false) states place →
-        read_on number (chunk rows (payload ++ more) ended) (read_on number (chunk rows payload false) (begun states place)) ≡ read_on number
-        (chunk rows (payload ++ more) ended) (begun states place) }
+        AreBounds number.low number.high → IsReady (chunk rows payload false) states place →
+        read_on number (chunk rows (payload ++ more) ended) (read_on number (chunk rows payload false) (begun states place)) ≡
+        read_on number (chunk rows (payload ++ more) ended) (begun states place) }
 {}
 
 /// Where a reading stops after any number of steps, and goes on from there with more bytes, it comes to what it would have
 /// come to with these bytes alone. A reading that stopped more than once is covered too: it goes on from any reading.
 pub fn stops_change_nothing()
-    ensures { (number : Wanted) (rows : List Row) (payload more : List ℕ) (ended : Bool) (at : Reading) (count : ℕ) → AreBounds number.low number.high →
-        ArePossible number at.decisions → IsReady (chunk rows payload false) at.states at.place →
-        read_on number (chunk rows (payload ++ more) ended) (steps count number (chunk rows payload false) at) ≡ read_on number
-        (chunk rows (payload ++ more) ended) at }
+    ensures reading { (number : Wanted) (rows : List Row) (payload more : List ℕ) (ended : Bool) (at : Reading) (count : ℕ) →
+        AreBounds number.low number.high → ArePossible number at.decisions → IsReady (chunk rows payload false) at.states at.place →
+        read_on number (chunk rows (payload ++ more) ended) (steps count number (chunk rows payload false) at) ≡
+        read_on number (chunk rows (payload ++ more) ended) at }
+    // So a number that some bytes determine stays.
+    ensures known { (number : Wanted) (rows : List Row) (payload more : List ℕ) (ended : Bool) (at : Reading) (value : ℤ) →
+        AreBounds number.low number.high → ArePossible number at.decisions → IsReady (chunk rows payload false) at.states at.place →
+        answer_at number (chunk rows payload false) (read_on number (chunk rows payload false) at) ≡ answer.Number value →
+        read_on number (chunk rows (payload ++ more) ended) at ≡ read_on number (chunk rows payload false) at }
 {}
 
 /// Decisions that the bounds allow stay so while a number is read.

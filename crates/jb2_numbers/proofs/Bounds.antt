@@ -52,8 +52,20 @@ negative_most (pos m) size missed = refl
 negative_most (negsuc m) size missed = grind (arith, common_steps)
 
 side_holds_by : (wanted : Wanted) (decision : Bool) → Holds wanted (side_of wanted.low wanted.high decision)
-side_holds_by wanted true = record { within = λ size reached missed. record { least = positive_least wanted.low size missed; most = positive_most wanted.high size reached } }
-side_holds_by wanted false = record { within = λ size reached missed. record { least = negative_least wanted.low size reached; most = negative_most wanted.high size missed } }
+side_holds_by wanted true = record {
+  within = λ size reached missed. record {
+    least = positive_least wanted.low size missed;
+    most =
+        positive_most wanted.high size reached;
+  };
+}
+side_holds_by wanted false = record {
+  within = λ size reached missed. record {
+    least = negative_least wanted.low size reached;
+    most =
+        negative_most wanted.high size missed;
+  };
+}
 
 opposite_reached : (low : ℤ) → IsTrue (not (at_least low 0)) → IsTrue (at_least (opposite low) 0)
 opposite_reached (pos m) missed = grind (arith, common_steps)
@@ -70,9 +82,11 @@ reached_at high a b e h = subst (λ (c : ℕ). IsTrue (at_least high c)) e h
 missed_at : (low : ℤ) (a b : ℕ) → a ≡ b → IsTrue (not (at_least low a)) → IsTrue (not (at_least low b))
 missed_at low a b e h = subst (λ (c : ℕ). IsTrue (not (at_least low c))) e h
 
-first_keeps : (wanted : Wanted) (low high : ℤ) (decision : Bool) → (low ≡ wanted.low) × (high ≡ wanted.high) → IsTrue (allows_by low high 0 decision) → Doubles wanted (side_of low high decision) 1
+first_keeps : (wanted : Wanted) (low high : ℤ) (decision : Bool) → (low ≡ wanted.low) × (high ≡ wanted.high) → IsTrue (allows_by low high 0 decision) →
+    Doubles wanted (side_of low high decision) 1
 first_keeps wanted low high decision same allowed = record {
-  side_holds = subst (λ (l : ℤ). Holds wanted (side_of l high decision)) (sym same.0) (subst (λ (h : ℤ). Holds wanted (side_of wanted.low h decision)) (sym same.1) (side_holds_by wanted decision));
+  side_holds = subst (λ (l : ℤ). Holds wanted (side_of l high decision)) (sym same.0)
+      (subst (λ (h : ℤ). Holds wanted (side_of wanted.low h decision)) (sym same.1) (side_holds_by wanted decision));
   exponent = zero;
   power = refl;
   reached = first_reached low high decision allowed;
@@ -82,7 +96,8 @@ pub not_one : (range half : ℕ) → range ≡ half * 2 → 0 < half → (range 
 not_one range half double some = grind (arith, common_steps)
 
 -- the settled range is half of what the cutoff counts
-settled_by : (wanted : Wanted) (side : Side) (cutoff range exponent : ℕ) → range ≡ 2 ^ exponent → cutoff + 1 ≡ 2 * range → Holds wanted side → IsTrue (at_least side.high (cutoff / 2)) →
+settled_by : (wanted : Wanted) (side : Side) (cutoff range exponent : ℕ) → range ≡ 2 ^ exponent → cutoff + 1 ≡ 2 * range → Holds wanted side →
+    IsTrue (at_least side.high (cutoff / 2)) →
     IsTrue (not (at_least side.low cutoff)) → Keeps wanted (settled side cutoff range)
 settled_by wanted side cutoff range zero power twice holds reached missed =
     let one : range ≡ 1 = power in
@@ -103,12 +118,14 @@ settled_by wanted side cutoff range (suc exponent) power twice holds reached mis
       missed = missed_at side.low cutoff (cutoff - range / 2 + range / 2) (omega (arith, double, twice)) missed;
     })
 
-settled_keeps : (wanted : Wanted) (side : Side) (cutoff : ℕ) → Doubles wanted side cutoff → IsTrue (not (at_least side.low cutoff)) → Keeps wanted (settled side cutoff ((cutoff + 1) / 2))
+settled_keeps : (wanted : Wanted) (side : Side) (cutoff : ℕ) → Doubles wanted side cutoff → IsTrue (not (at_least side.low cutoff)) →
+    Keeps wanted (settled side cutoff ((cutoff + 1) / 2))
 settled_keeps wanted side cutoff doubles missed =
     let power : cutoff + 1 ≡ 2 ^ doubles.exponent * 2 = doubles.power ∙ pow-suc 2 doubles.exponent in
     settled_by wanted side cutoff ((cutoff + 1) / 2) doubles.exponent (omega (arith, power)) (omega (arith, power)) doubles.side_holds doubles.reached missed
 
-doubled_keeps : (wanted : Wanted) (side : Side) (cutoff : ℕ) → Doubles wanted side cutoff → IsTrue (at_least side.high cutoff) → Doubles wanted side (2 * cutoff + 1)
+doubled_keeps : (wanted : Wanted) (side : Side) (cutoff : ℕ) → Doubles wanted side cutoff → IsTrue (at_least side.high cutoff) →
+    Doubles wanted side (2 * cutoff + 1)
 doubled_keeps wanted side cutoff doubles reached =
     let power : cutoff + 1 ≡ 2 ^ suc doubles.exponent = doubles.power in
     record {
@@ -118,7 +135,8 @@ doubled_keeps wanted side cutoff doubles reached =
       reached = reached_at side.high cutoff ((2 * cutoff + 1) / 2) (omega arith) reached;
     }
 
-halved_true : (wanted : Wanted) (side : Side) (cutoff range half exponent : ℕ) → half ≡ 2 ^ exponent → range ≡ 2 * half → range / 2 ≡ half → Holds wanted side → range ≤ cutoff →
+halved_true : (wanted : Wanted) (side : Side) (cutoff range half exponent : ℕ) → half ≡ 2 ^ exponent → range ≡ 2 * half → range / 2 ≡ half →
+    Holds wanted side → range ≤ cutoff →
     IsTrue (at_least side.high cutoff) → IsTrue (not (at_least side.low (cutoff + range / 2))) → Keeps wanted (halved side cutoff half true)
 halved_true wanted side cutoff range half zero power twice is holds room reached missed =
     let one : half ≡ 1 = power in
@@ -137,12 +155,14 @@ halved_true wanted side cutoff range half (suc exponent) power twice is holds ro
       missed = missed_at side.low (cutoff + range / 2) (cutoff + half / 2 + half / 2) (omega (arith, double, is)) missed;
     })
 
-halved_false : (wanted : Wanted) (side : Side) (cutoff range half exponent : ℕ) → half ≡ 2 ^ exponent → range ≡ 2 * half → range / 2 ≡ half → Holds wanted side → range ≤ cutoff →
+halved_false : (wanted : Wanted) (side : Side) (cutoff range half exponent : ℕ) → half ≡ 2 ^ exponent → range ≡ 2 * half → range / 2 ≡ half →
+    Holds wanted side → range ≤ cutoff →
     IsTrue (at_least side.high (cutoff - range / 2)) → IsTrue (not (at_least side.low cutoff)) → Keeps wanted (halved side cutoff half false)
 halved_false wanted side cutoff range half zero power twice is holds room reached missed =
     let one : half ≡ 1 = power in
     subst (λ (r : ℕ). Keeps wanted (halved side cutoff r false)) (sym one)
-    (holds.within (cutoff - 1) (reached_at side.high (cutoff - range / 2) (cutoff - 1) (omega (arith, one, is)) reached) (missed_at side.low cutoff (cutoff - 1 + 1) (omega (arith, one, twice, room)) missed))
+    (holds.within (cutoff - 1) (reached_at side.high (cutoff - range / 2) (cutoff - 1) (omega (arith, one, is)) reached)
+    (missed_at side.low cutoff (cutoff - 1 + 1) (omega (arith, one, twice, room)) missed))
 halved_false wanted side cutoff range half (suc exponent) power twice is holds room reached missed =
     let double : half ≡ 2 ^ exponent * 2 = power ∙ pow-suc 2 exponent in
     let some : 0 < 2 ^ exponent = pow_pos exponent in
@@ -156,16 +176,20 @@ halved_false wanted side cutoff range half (suc exponent) power twice is holds r
       missed = missed_at side.low cutoff (cutoff - half / 2 + half / 2) (omega (arith, twice, room)) missed;
     })
 
-halved_keeps : (wanted : Wanted) (side : Side) (cutoff range : ℕ) (decision : Bool) → Halves wanted side cutoff range → IsTrue (allows_by side.low side.high cutoff decision) →
+halved_keeps : (wanted : Wanted) (side : Side) (cutoff range : ℕ) (decision : Bool) → Halves wanted side cutoff range →
+    IsTrue (allows_by side.low side.high cutoff decision) →
     Keeps wanted (halved side cutoff (range / 2) decision)
 halved_keeps wanted side cutoff range true halves allowed =
     let power : range ≡ 2 ^ halves.exponent * 2 = halves.power ∙ pow-suc 2 halves.exponent in
-    halved_true wanted side cutoff range (range / 2) halves.exponent (omega (arith, power)) (omega (arith, power)) refl halves.side_holds halves.room allowed halves.missed
+    halved_true wanted side cutoff range (range / 2) halves.exponent (omega (arith, power))
+    (omega (arith, power)) refl halves.side_holds halves.room allowed halves.missed
 halved_keeps wanted side cutoff range false halves allowed =
     let power : range ≡ 2 ^ halves.exponent * 2 = halves.power ∙ pow-suc 2 halves.exponent in
-    halved_false wanted side cutoff range (range / 2) halves.exponent (omega (arith, power)) (omega (arith, power)) refl halves.side_holds halves.room halves.reached allowed
+    halved_false wanted side cutoff range (range / 2) halves.exponent (omega (arith, power))
+    (omega (arith, power)) refl halves.side_holds halves.room halves.reached allowed
 
-next_keeps : (wanted : Wanted) (phase : Phase) (decision : Bool) → Keeps wanted phase → IsTrue (allows phase decision) → Keeps wanted (next_phase phase decision)
+next_keeps : (wanted : Wanted) (phase : Phase) (decision : Bool) → Keeps wanted phase → IsTrue (allows phase decision) →
+    Keeps wanted (next_phase phase decision)
 next_keeps wanted (Sign low high) decision keeps allowed = first_keeps wanted low high decision keeps allowed
 next_keeps wanted (Doubling side cutoff) true keeps allowed = doubled_keeps wanted side cutoff keeps allowed
 next_keeps wanted (Doubling side cutoff) false keeps allowed = settled_keeps wanted side cutoff keeps allowed
@@ -174,7 +198,8 @@ next_keeps wanted (Known value) decision keeps allowed = absurd (cc)
 
 pub phase_keeps : (wanted : Wanted) (decisions : List Bool) → ArePossible wanted decisions → Keeps wanted (phase_after wanted decisions)
 phase_keeps wanted [] possible = (refl, refl)
-phase_keeps wanted (decision ∷ decisions) possible = next_keeps wanted (phase_after wanted decisions) decision (phase_keeps wanted decisions possible.0) possible.1
+phase_keeps wanted (decision ∷ decisions) possible = next_keeps wanted (phase_after wanted decisions) decision
+    (phase_keeps wanted decisions possible.0) possible.1
 
 pub within_bounds : (wanted : Wanted) (decisions : List Bool) (value : ℤ) → ArePossible wanted decisions → phase_after wanted decisions ≡ Known value →
     IsTrue (int_le wanted.low value) × IsTrue (int_le value wanted.high)

@@ -1,8 +1,8 @@
 -- The tree of cells: no two names have the same cell, and what a new or a moved cell means.
-use Rattle.std.proofs.Common.{◌≡◌, ◌≤◌, ◌<◌, ◌+◌, ◌==◌, ℕ, zero, suc, Bool, true, false, List, [], ◌∷◌, ◌++◌, length, get_or, set, replicate, refl, sym, ap, subst, ◌∙◌, inl, inr, arith}
+use Rattle.std.proofs.Common.{◌≡◌, ◌≤◌, ◌<◌, ℕ, zero, suc, Bool, true, false, List, [], ◌∷◌, ◌++◌, length, get_or, set, replicate, refl, sym, ap, subst, ◌∙◌, inl, inr, arith}
 use Rattle.std.specs.Prelude.{◌⊎◌, Option, Some, None, if◌then◌else◌}
 use Rattle.std.proofs.Math.Path.{fun_ext}
-use Rattle.std.proofs.lemmas.Bool.{cases_Bool, cases_lt, cases_eq}
+use Rattle.std.proofs.lemmas.Bool.{cases_lt, cases_eq}
 use Rattle.std.proofs.lemmas.List.{get_or-set_same, get_or-set_other, get_or-replicate, get_or_past, get_or_read, length-set, length-replicate}
 use Rattle.zp_decoder.specs.States.{AreBelow, fresh}
 use Rattle.zp_decoder.proofs.Lemmas.{stored_below}
@@ -10,9 +10,9 @@ use Rattle.jb2_numbers.specs.declared.roots.Root.{Root}
 use Rattle.jb2_numbers.specs.declared.contexts.Cell.{Cell}
 use Rattle.jb2_numbers.specs.Roots.{root_index}
 use Rattle.jb2_numbers.specs.Contexts.{Name, name, further, is_same, store}
-use Rattle.jb2_numbers.specs.Kept.{Numbers, start, link, with_link, linked, next_cell, cell_after, state_in, states_of, IsCell, AreNamed, HaveNames}
+use Rattle.jb2_numbers.specs.Kept.{Numbers, start, link, linked, next_cell, cell_after, state_in, states_of, IsCell, AreNamed, HaveNames}
 use Rattle.jb2_numbers.specs.Steps.{KeepsCells}
-use Rattle.jb2_numbers.proofs.Names.{root_at, root_found, root_below, same_names}
+use Rattle.jb2_numbers.proofs.Names.{root_at, root_found, same_names}
 
 linked_some : (n : ℕ) → (n ≡ 0 → ⊥) → linked n ≡ Some n
 linked_some zero some = absurd (some refl)
@@ -23,18 +23,22 @@ some_same a b e = cc
 
 -- ---- names of cells
 
-named_by : (names : ℕ → Name) (cells : List Cell) → AreNamed names cells → (root : Root) (decision : Bool) (decisions : List Bool) (at : ℕ) (before : Option ℕ) →
+named_by : (names : ℕ → Name) (cells : List Cell) → AreNamed names cells →
+    (root : Root) (decision : Bool) (decisions : List Bool) (at : ℕ) (before : Option ℕ) →
     ((j : ℕ) → before ≡ Some j → names j ≡ name root decisions) → next_cell cells decision before ≡ Some at → names at ≡ name root (decision ∷ decisions)
 named_by names cells are root decision decisions at None earlier leads = absurd (cc)
-named_by names cells are root decision decisions at (Some j) earlier leads = are.named j decision at leads ∙ ap (λ (n : Name). further n decision) (earlier j refl)
+named_by names cells are root decision decisions at (Some j) earlier leads = are.named j decision at leads
+    ∙ ap (λ (n : Name). further n decision) (earlier j refl)
 
-named_at : (names : ℕ → Name) (cells : List Cell) → AreNamed names cells → (root : Root) (decisions : List Bool) (at : ℕ) → cell_after cells root decisions ≡ Some at → names at ≡ name root decisions
+named_at : (names : ℕ → Name) (cells : List Cell) → AreNamed names cells → (root : Root) (decisions : List Bool) (at : ℕ) →
+    cell_after cells root decisions ≡ Some at → names at ≡ name root decisions
 named_at names cells are root [] at leads = ap names (sym (some_same (root_index root) at leads)) ∙ are.roots root
 named_at names cells are root (decision ∷ decisions) at leads =
     named_by names cells are root decision decisions at (cell_after cells root decisions) (named_at names cells are root decisions) leads
 
 -- a cell has one name
-pub one_name : (cells : List Cell) → HaveNames cells → (a b : Name) (at : ℕ) → cell_after cells a.root a.decisions ≡ Some at → cell_after cells b.root b.decisions ≡ Some at → a ≡ b
+pub one_name : (cells : List Cell) → HaveNames cells → (a b : Name) (at : ℕ) → cell_after cells a.root a.decisions ≡ Some at →
+    cell_after cells b.root b.decisions ≡ Some at → a ≡ b
 one_name cells have a b at of_a of_b = sym (named_at have.0 cells have.1 a.root a.decisions at of_a) ∙ named_at have.0 cells have.1 b.root b.decisions at of_b
 
 -- ---- cells that are all at their start
@@ -134,7 +138,8 @@ module _ (cells : List Cell) (at state : ℕ) (within : at < length cells) where
     within = subst (λ (n : ℕ). i < n) (sym (length-set cells at (moved (get_or cells at start) state))) is.within;
   }
 
-  state_moved : HaveNames cells → (of other : Name) → cell_after cells of.root of.decisions ≡ Some at → (o : Option ℕ) → cell_after cells other.root other.decisions ≡ o → (same : Bool) → is_same of other ≡ same →
+  state_moved : HaveNames cells → (of other : Name) → cell_after cells of.root of.decisions ≡ Some at → (o : Option ℕ) →
+      cell_after cells other.root other.decisions ≡ o → (same : Bool) → is_same of other ≡ same →
       state_in moved_cells o ≡ (if same then state else state_in cells o)
   state_moved have of other leads o is true e =
       let one : of ≡ other = (same_names of other).0 e in
@@ -150,22 +155,26 @@ module _ (cells : List Cell) (at state : ℕ) (within : at < length cells) where
         | inr apart ↦ ap (λ (c : Cell). c.state) (elsewhere i apart)
       ]
 
-  pub moved_states : HaveNames cells → (of : Name) → cell_after cells of.root of.decisions ≡ Some at → states_of (record { cells = moved_cells }) ≡ store (states_of (record { cells = cells })) of state
+  pub moved_states : HaveNames cells → (of : Name) → cell_after cells of.root of.decisions ≡ Some at →
+      states_of (record { cells = moved_cells }) ≡ store (states_of (record { cells = cells })) of state
   unfolding states_of
   moved_states have of leads =
       fun_ext (λ (other : Name). ap (state_in moved_cells) (cells_same cells moved_cells moved_links other.root other.decisions)
       ∙ state_moved have of other leads (cell_after cells other.root other.decisions) refl (is_same of other) refl)
 
-  pub moved_below : HaveNames cells → (of : Name) (count : ℕ) → cell_after cells of.root of.decisions ≡ Some at → state < count → AreBelow count (states_of (record { cells = cells })) →
+  pub moved_below : HaveNames cells → (of : Name) (count : ℕ) → cell_after cells of.root of.decisions ≡ Some at → state < count →
+      AreBelow count (states_of (record { cells = cells })) →
       AreBelow count (states_of (record { cells = moved_cells }))
-  moved_below have of count leads low below = subst (AreBelow count) (sym (moved_states have of leads)) (stored_below is_same (states_of (record { cells = cells })) of state count below low)
+  moved_below have of count leads low below = subst (AreBelow count) (sym (moved_states have of leads))
+      (stored_below is_same (states_of (record { cells = cells })) of state count below low)
 
 -- a cell that was read, as the code has it
 pub cell_read : (cells : List Cell) (at : ℕ) (cell : Cell) → at < length cells → cell ≡ get_or cells at cell → cell ≡ get_or cells at start
 cell_read cells at cell within is = get_or_read cells at cell within is start
 
 -- a link that is there leads to the cell of a name with a decision more
-pub linked_cell : (cells : List Cell) → HaveNames cells → (before : Name) (at : ℕ) (decision : Bool) (cell : Cell) (next : ℕ) → IsCell (record { cells = cells }) before at → cell ≡ get_or cells at cell → next ≡ link cell decision →
+pub linked_cell : (cells : List Cell) → HaveNames cells → (before : Name) (at : ℕ) (decision : Bool) (cell : Cell) (next : ℕ) →
+    IsCell (record { cells = cells }) before at → cell ≡ get_or cells at cell → next ≡ link cell decision →
     (next ≡ 0 → ⊥) → IsCell (record { cells = cells }) (further before decision) next
 linked_cell cells have before at decision cell next of is links some =
     let there : linked (link (get_or cells at start) decision) ≡ Some next =
@@ -176,7 +185,8 @@ linked_cell cells have before at decision cell next of is links some =
     }
 
 -- the cells of the roots, where there were none
-pub rooted : (old new : List Cell) (cell : Cell) → length old ≡ 0 → cell ≡ start → new ≡ old ++ replicate 16 cell → AreStarts old × (AreStarts new × (length new ≡ 16))
+pub rooted : (old new : List Cell) (cell : Cell) → length old ≡ 0 → cell ≡ start → new ≡ old ++ replicate 16 cell →
+    AreStarts old × (AreStarts new × (length new ≡ 16))
 rooted [] new cell none is news =
     let all : new ≡ replicate 16 start = news ∙ ap (replicate 16) is in (
       none_start [] refl,

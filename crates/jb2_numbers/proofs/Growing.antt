@@ -33,7 +33,8 @@ grown_by cells at decision within room none =
     record {
       size = length-set (cells ++ start ∷ []) at cell ∙ longer;
       here = get_or-set_same (cells ++ start ∷ []) at cell start (omega (arith, within, longer));
-      last = get_or-set_other (cells ++ start ∷ []) at (length cells) cell start (λ same. omega (arith, within, same)) ∙ get_or_push cells start start (length cells) refl;
+      last = get_or-set_other (cells ++ start ∷ []) at (length cells) cell start (λ same. omega (arith, within, same))
+          ∙ get_or_push cells start start (length cells) refl;
       others = λ i apart before. get_or-set_other (cells ++ start ∷ []) at i cell start apart ∙
           elim (cases_lt i (length cells)) [
             | inl less ↦ get_or_append_left cells (start ∷ []) start i less
@@ -47,8 +48,10 @@ grown_by cells at decision within room none =
     }
 
 -- the same, as the code has it
-pub grown_from : (cells pushed : List Cell) (at link_now : ℕ) (decision : Bool) (cell new : Cell) → HaveNames cells → at < length cells → link (get_or cells at start) decision ≡ 0 →
-    pushed ≡ cells ++ start ∷ [] → cell ≡ get_or pushed at cell → new ≡ with_link cell decision link_now → link_now ≡ length cells → Grows cells (set pushed at new) at decision
+pub grown_from : (cells pushed : List Cell) (at link_now : ℕ) (decision : Bool) (cell new : Cell) → HaveNames cells → at < length cells →
+    link (get_or cells at start) decision ≡ 0 →
+    pushed ≡ cells ++ start ∷ [] → cell ≡ get_or pushed at cell → new ≡ with_link cell decision link_now → link_now ≡ length cells →
+    Grows cells (set pushed at new) at decision
 grown_from cells pushed at link_now decision cell new have within none pushes is links size =
     let longer : length pushed ≡ length cells + 1 = ap length pushes ∙ length-append cells (start ∷ []) in
     let read : cell ≡ get_or cells at start =
@@ -56,7 +59,8 @@ grown_from cells pushed at link_now decision cell new have within none pushes is
     ∙ (ap (λ (list : List Cell). get_or list at start) pushes ∙ get_or_append_left cells (start ∷ []) start at within) in
     let news : new ≡ with_link (get_or cells at start) decision (length cells) =
     links ∙ (ap (λ (c : Cell). with_link c decision link_now) read ∙ ap (with_link (get_or cells at start) decision) size) in
-    subst (λ (list : List Cell). Grows cells list at decision) (sym (ap (λ (list : List Cell). set list at new) pushes ∙ ap (set (cells ++ start ∷ []) at) news))
+    subst (λ (list : List Cell). Grows cells list at decision) (sym
+    (ap (λ (list : List Cell). set list at new) pushes ∙ ap (set (cells ++ start ∷ []) at) news))
     (grown_by cells at decision within (some_roots cells at within have.1.room) none)
 
 no_link_at : (n next : ℕ) → n ≡ 0 → linked n ≡ Some next → ⊥
@@ -125,7 +129,8 @@ module _ (cells more : List Cell) (at : ℕ) (decision : Bool) (grows : Grows ce
   here_stays other next leads =
       elim (bits_equal other decision) [
         | inl same ↦ absurd (no_link_at (link (get_or cells at start) other) next (ap (link (get_or cells at start)) same ∙ grows.none) leads)
-        | inr apart ↦ ap (λ (c : Cell). linked (link c other)) grows.here ∙ (ap linked (other_link (get_or cells at start) decision other (length cells) apart) ∙ leads)
+        | inr apart ↦ ap (λ (c : Cell). linked (link c other)) grows.here
+            ∙ (ap linked (other_link (get_or cells at start) decision other (length cells) apart) ∙ leads)
       ]
 
   stays : (i : ℕ) (other : Bool) (next : ℕ) → Linked cells i other next → Linked more i other next
@@ -141,10 +146,12 @@ module _ (cells more : List Cell) (at : ℕ) (decision : Bool) (grows : Grows ce
   -- and there is one more
   here_was : (other : Bool) (next : ℕ) → Linked more at other next → Links cells at decision at other next
   here_was other next leads =
-      let there : linked (link (with_link (get_or cells at start) decision (length cells)) other) ≡ Some next = ap (λ (c : Cell). linked (link c other)) (sym grows.here) ∙ leads in
+      let there : linked (link (with_link (get_or cells at start) decision (length cells)) other) ≡ Some next = ap (λ (c : Cell). linked (link c other))
+      (sym grows.here) ∙ leads in
       elim (bits_equal other decision) [
         | inl same ↦
-            let new : linked (length cells) ≡ Some next = ap linked (sym (ap (link (with_link (get_or cells at start) decision (length cells))) same ∙ this_link (get_or cells at start) decision (length cells))) ∙ there in
+            let new : linked (length cells) ≡ Some next = ap linked (sym (ap (link (with_link (get_or cells at start) decision (length cells))) same
+            ∙ this_link (get_or cells at start) decision (length cells))) ∙ there in
             is_new refl same (sym (some_link (length cells) next new))
         | inr apart ↦ was grows.within (ap linked (sym (other_link (get_or cells at start) decision other (length cells) apart)) ∙ there)
       ]
@@ -159,7 +166,8 @@ module _ (cells more : List Cell) (at : ℕ) (decision : Bool) (grows : Grows ce
   links : (i : ℕ) (other : Bool) (next : ℕ) → Linked more i other next → Links cells at decision i other next
   links i other next leads =
       elim (cases_eq i at) [
-        | inl same ↦ subst (λ (k : ℕ). Links cells at decision k other next) (sym same) (here_was other next (subst (λ (k : ℕ). Linked more k other next) same leads))
+        | inl same ↦ subst (λ (k : ℕ). Links cells at decision k other next) (sym same)
+            (here_was other next (subst (λ (k : ℕ). Linked more k other next) same leads))
         | inr apart ↦ elim (cases_eq i (length cells)) [
           | inl end ↦ absurd (last_unlinked more i other next (ap (λ (k : ℕ). get_or more k start) end ∙ grows.last) leads)
           | inr before ↦
@@ -170,13 +178,15 @@ module _ (cells more : List Cell) (at : ℕ) (decision : Bool) (grows : Grows ce
 
   -- ---- cells of names
 
-  next_stays : (other : Bool) (o o' : Option ℕ) (next : ℕ) → ((j : ℕ) → o ≡ Some j → o' ≡ Some j) → next_cell cells other o ≡ Some next → next_cell more other o' ≡ Some next
+  next_stays : (other : Bool) (o o' : Option ℕ) (next : ℕ) → ((j : ℕ) → o ≡ Some j → o' ≡ Some j) → next_cell cells other o ≡ Some next →
+      next_cell more other o' ≡ Some next
   next_stays other None o' next earlier leads = absurd (cc)
   next_stays other (Some j) o' next earlier leads = ap (next_cell more other) (earlier j refl) ∙ stays j other next leads
 
   cell_stays : (root : Root) (decisions : List Bool) (j : ℕ) → cell_after cells root decisions ≡ Some j → cell_after more root decisions ≡ Some j
   cell_stays root [] j leads = leads
-  cell_stays root (other ∷ decisions) j leads = next_stays other (cell_after cells root decisions) (cell_after more root decisions) j (cell_stays root decisions) leads
+  cell_stays root (other ∷ decisions) j leads = next_stays other (cell_after cells root decisions) (cell_after more root decisions) j
+      (cell_stays root decisions) leads
 
   abbrev WasOrNew : Option ℕ → ℕ → Type 0
   WasOrNew o j = (o ≡ Some j) ⊎ (j ≡ length cells)
@@ -185,7 +195,8 @@ module _ (cells more : List Cell) (at : ℕ) (decision : Bool) (grows : Grows ce
   from_link other o i next e (was less leads) = inl (ap (next_cell cells other) e ∙ leads)
   from_link other o i next e (is_new here same end) = inr end
 
-  next_was : (other : Bool) (o o' : Option ℕ) (next : ℕ) → ((j : ℕ) → o' ≡ Some j → WasOrNew o j) → next_cell more other o' ≡ Some next → WasOrNew (next_cell cells other o) next
+  next_was : (other : Bool) (o o' : Option ℕ) (next : ℕ) → ((j : ℕ) → o' ≡ Some j → WasOrNew o j) → next_cell more other o' ≡ Some next →
+      WasOrNew (next_cell cells other o) next
   next_was other o None next earlier leads = absurd (cc)
   next_was other o (Some i) next earlier leads =
       elim (earlier i refl) [
@@ -195,7 +206,8 @@ module _ (cells more : List Cell) (at : ℕ) (decision : Bool) (grows : Grows ce
 
   cell_was : (root : Root) (decisions : List Bool) (j : ℕ) → cell_after more root decisions ≡ Some j → WasOrNew (cell_after cells root decisions) j
   cell_was root [] j leads = inl leads
-  cell_was root (other ∷ decisions) j leads = next_was other (cell_after cells root decisions) (cell_after more root decisions) j (cell_was root decisions) leads
+  cell_was root (other ∷ decisions) j leads = next_was other (cell_after cells root decisions) (cell_after more root decisions) j
+      (cell_was root decisions) leads
 
   -- ---- states
 
@@ -222,14 +234,16 @@ module _ (cells more : List Cell) (at : ℕ) (decision : Bool) (grows : Grows ce
 
   pub grown_states : states_of (record { cells = more }) ≡ states_of (record { cells = cells })
   unfolding states_of
-  grown_states = fun_ext (λ (of : Name). state_by (cell_after cells of.root of.decisions) (cell_after more of.root of.decisions) (cell_stays of.root of.decisions) (cell_was of.root of.decisions))
+  grown_states = fun_ext (λ (of : Name). state_by (cell_after cells of.root of.decisions) (cell_after more of.root of.decisions)
+      (cell_stays of.root of.decisions) (cell_was of.root of.decisions))
 
   -- ---- the new cell
 
   pub grown_cell : (before : Name) → IsCell (record { cells = cells }) before at → IsCell (record { cells = more }) (further before decision) (length cells)
   grown_cell before is =
       let there : linked (link (get_or more at start) decision) ≡ Some (length cells) =
-      ap (λ (c : Cell). linked (link c decision)) grows.here ∙ (ap linked (this_link (get_or cells at start) decision (length cells)) ∙ linked_size (length cells) grows.room) in
+      ap (λ (c : Cell). linked (link c decision)) grows.here ∙ (ap linked (this_link (get_or cells at start) decision (length cells))
+      ∙ linked_size (length cells) grows.room) in
       let size : length more ≡ length cells + 1 = grows.size in
       record {
         leads = ap (next_cell more decision) (cell_stays before.root before.decisions at is.leads) ∙ there;
@@ -256,7 +270,8 @@ module _ (cells more : List Cell) (at : ℕ) (decision : Bool) (grows : Grows ce
 
     named_more : AreNamed after more
     named_more = record {
-      roots = λ root. old_name (root_index root) (let low : root_index root < 16 = root_below root in let room : 16 ≤ length cells = grows.room in omega (arith, low, room)) ∙ are.roots root;
+      roots = λ root. old_name (root_index root) (let low : root_index root < 16 = root_below root in let room : 16 ≤ length cells = grows.room in omega
+          (arith, low, room)) ∙ are.roots root;
       within = λ i other next leads. subst (λ (n : ℕ). next < n) (sym grows.size) (link_within i other next (links i other next leads));
       named = λ i other next leads. named_link i other next (links i other next leads);
       room = inr (let size : length more ≡ length cells + 1 = grows.size in let room : 16 ≤ length cells = grows.room in omega (arith, size, room));
@@ -266,7 +281,10 @@ module _ (cells more : List Cell) (at : ℕ) (decision : Bool) (grows : Grows ce
   grown_names have = (renamed (further (have.0 at) decision) (length cells) have.0, named_more have.0 have.1)
 
 -- where the cell after a decision was found, it is that of the name with one decision more
-pub cell_on : {E : Type 0} (result : Result ℕ E) (old new : Numbers) (root : Root) (decisions later : List Bool) (decision : Bool) (at : ℕ) → later ≡ decision ∷ decisions → IsCell old (name root decisions) at →
-    IfOk result (λ (next : ℕ). (before : Name) → IsCell old before at → IsCell new (further before decision) next) → IfOk result (λ (next : ℕ). IsCell new (name root later) next)
-cell_on (Ok next) old new root decisions later decision at is cell leads = subst (λ (ds : List Bool). IsCell new (name root ds) next) (sym is) (leads (name root decisions) cell)
+pub cell_on : {E : Type 0} (result : Result ℕ E) (old new : Numbers) (root : Root) (decisions later : List Bool) (decision : Bool) (at : ℕ) →
+    later ≡ decision ∷ decisions → IsCell old (name root decisions) at →
+    IfOk result (λ (next : ℕ). (before : Name) → IsCell old before at → IsCell new (further before decision) next) →
+    IfOk result (λ (next : ℕ). IsCell new (name root later) next)
+cell_on (Ok next) old new root decisions later decision at is cell leads = subst (λ (ds : List Bool). IsCell new (name root ds) next) (sym is)
+    (leads (name root decisions) cell)
 cell_on (Err error) old new root decisions later decision at is cell leads = tt

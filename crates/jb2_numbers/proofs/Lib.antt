@@ -15,6 +15,8 @@ mod Sound
 mod Stepping
 -- laws numbers_end, numbers_lie_within, one_value_codes_nothing, readings_stay_possible
 mod Ending
+-- Reaching
+mod Covering
 -- laws numbers_are_reached
 mod Reaching
 -- laws cuts_change_nothing, readings_leave_room, readings_stay_within, stops_change_nothing

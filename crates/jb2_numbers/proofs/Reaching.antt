@@ -1,240 +1,14 @@
 -- Each number is reached by its own decisions, and by these alone.
-use Rattle.std.proofs.Common.{◌≡◌, ◌≤◌, ◌<◌, ◌+◌, ◌-◌, ◌*◌, ◌/◌, ◌^◌, ◌==◌, ℕ, zero, suc, ℤ, pos, negsuc, Bool, true, false, not, List, [], ◌∷◌, length, refl, sym, ap, subst, ◌∙◌, inl, inr, ◌≤ℤ◌, arith}
-use Rattle.std.specs.Prelude.{◌⊎◌, Option, Some, None, nat_le, int_le, IsTrue, if◌then◌else◌}
+use Rattle.std.proofs.Common.{◌≡◌, ◌≤◌, ◌<◌, ◌+◌, ◌/◌, ◌==◌, ℕ, zero, suc, ℤ, pos, negsuc, Bool, true, false, not, List, [], ◌∷◌, length, refl, sym, ap, subst, ◌∙◌, inl, inr, ◌≤ℤ◌, arith}
+use Rattle.std.specs.Prelude.{◌⊎◌, Some, None, nat_le, int_le, IsTrue}
 use Rattle.std.proofs.lemmas.Grind.{common_steps}
-use Rattle.std.proofs.lemmas.Bool.{cases_Bool}
-use Rattle.std.proofs.lemmas.Nat.{pow_pos}
-use Rattle.std.proofs.Math.Nat.{pow-suc}
-use Rattle.jb2_numbers.specs.Phases.{Side, Phase, Sign, Doubling, Halving, Known, at_least, opposite, side_of, number_of, halved, settled, next_phase, implied_by, implied, is_known, allows, allows_by, size_of, decided}
+use Rattle.jb2_numbers.specs.Phases.{Side, Phase, Sign, Doubling, Halving, Known, at_least, opposite, side_of, halved, settled, next_phase, implied_by, implied, is_known, allows, allows_by, size_of, decided}
 use Rattle.jb2_numbers.specs.Number.{Wanted, phase_after, most_decisions, ArePossible, with_decided, first_decisions, decisions_of}
 use Rattle.jb2_numbers.specs.Reader.{AreBounds}
-use Rattle.jb2_numbers.proofs.Bounds.{Keeps, Doubles, Halves, phase_keeps, not_one}
+use Rattle.jb2_numbers.proofs.Bounds.{phase_keeps}
+use Rattle.jb2_numbers.proofs.Covering.{Covers, Earlier, covers_on, covers_back, reached, missed}
 use Rattle.jb2_numbers.proofs.Sound.{few_before, few_sound}
 use Rattle.jb2_numbers.proofs.Ending.{sound_of}
-
--- ---- the values that a phase leaves
-
-record Between (value : ℤ) (side : Side) (least beyond : ℕ) : Type 0 where
-  is : number_of side (size_of value) ≡ value
-  from : least ≤ size_of value
-  below : size_of value < beyond
-
-record AtLeast (value : ℤ) (side : Side) (least : ℕ) : Type 0 where
-  is : number_of side (size_of value) ≡ value
-  from : least ≤ size_of value
-
-abbrev Covers : ℤ → Phase → Type 0
-Covers value (Sign low high) = Unit {0}
-Covers value (Doubling side cutoff) = AtLeast value side (cutoff / 2)
-Covers value (Halving side cutoff range) = Between value side (cutoff - range / 2) (cutoff + range / 2)
-Covers value (Known known) = known ≡ value
-
-reached : (a b : ℕ) → nat_le a b ≡ true → a ≤ b
-reached a b e = grind (arith, common_steps)
-
-missed : (a b : ℕ) → nat_le a b ≡ false → b < a
-missed a b e = grind (arith, common_steps)
-
-is_reached : (a b : ℕ) → a ≤ b → nat_le a b ≡ true
-is_reached a b h = grind (arith, common_steps)
-
-is_missed : (a b : ℕ) → b < a → nat_le a b ≡ false
-is_missed a b h = grind (arith, common_steps)
-
-size_by : (negative : Bool) (n : ℕ) → size_of (if negative then negsuc n else pos n) ≡ n
-size_by true n = refl
-size_by false n = refl
-
-size_is : (side : Side) (n : ℕ) → size_of (number_of side n) ≡ n
-size_is side n = size_by side.negative n
-
--- a known number of a side, by its size
-number_at : (value : ℤ) (side : Side) (n : ℕ) → size_of value ≡ n → number_of side (size_of value) ≡ value → number_of side n ≡ value
-number_at value side n e is = ap (number_of side) (sym e) ∙ is
-
-size_at : (value : ℤ) (side : Side) (n : ℕ) → number_of side n ≡ value → size_of value ≡ n
-size_at value side n known = ap size_of (sym known) ∙ size_is side n
-
-side_at : (value : ℤ) (side : Side) (n : ℕ) → number_of side n ≡ value → number_of side (size_of value) ≡ value
-side_at value side n known = ap (number_of side) (size_at value side n known) ∙ known
-
--- ---- a decision further
-
-sign_on : (low high value : ℤ) (decision : Bool) → at_least value 0 ≡ decision → AtLeast value (side_of low high decision) (1 / 2)
-sign_on low high (pos n) true e = record { is = refl; from = omega arith }
-sign_on low high (pos n) false e = let low : n < 0 = missed 0 n e in absurd (omega (arith, low))
-sign_on low high (negsuc n) true e = absurd (cc)
-sign_on low high (negsuc n) false e = record { is = refl; from = omega arith }
-
-settled_on : (value : ℤ) (side : Side) (cutoff range exponent : ℕ) → range ≡ 2 ^ exponent → cutoff + 1 ≡ 2 * range → AtLeast value side (cutoff / 2) → size_of value < cutoff →
-    Covers value (settled side cutoff range)
-settled_on value side cutoff range zero power twice covers low =
-    let one : range ≡ 1 = power in
-    let least : size_of value ≡ 0 = omega (arith, one, twice, low) in
-    subst (λ (r : ℕ). Covers value (settled side cutoff r)) (sym one) (number_at value side 0 least covers.is)
-settled_on value side cutoff range (suc exponent) power twice covers low =
-    let double : range ≡ 2 ^ exponent * 2 = power ∙ pow-suc 2 exponent in
-    let some : 0 < 2 ^ exponent = pow_pos exponent in
-    let more : (range == 1) ≡ false = not_one range (2 ^ exponent) double some in
-    let from : cutoff / 2 ≤ size_of value = covers.from in
-    rw more (record {
-      is = covers.is;
-      from = omega (arith, double, twice, from);
-      below = omega (arith, double, twice, low);
-    })
-
-half_on : (value : ℤ) (side : Side) (cutoff half exponent : ℕ) (decision : Bool) → half ≡ 2 ^ exponent → half ≤ cutoff → Between value side (cutoff - half) (cutoff + half) → nat_le cutoff (size_of value) ≡ decision →
-    Covers value (halved side cutoff half decision)
-half_on value side cutoff half zero true power room covers e =
-    let one : half ≡ 1 = power in
-    let from : cutoff ≤ size_of value = reached cutoff (size_of value) e in
-    let below : size_of value < cutoff + half = covers.below in
-    subst (λ (r : ℕ). Covers value (halved side cutoff r true)) (sym one) (number_at value side cutoff (omega (arith, one, from, below)) covers.is)
-half_on value side cutoff half zero false power room covers e =
-    let one : half ≡ 1 = power in
-    let low : size_of value < cutoff = missed cutoff (size_of value) e in
-    let from : cutoff - half ≤ size_of value = covers.from in
-    subst (λ (r : ℕ). Covers value (halved side cutoff r false)) (sym one) (number_at value side (cutoff - 1) (omega (arith, one, from, low)) covers.is)
-half_on value side cutoff half (suc exponent) true power room covers e =
-    let double : half ≡ 2 ^ exponent * 2 = power ∙ pow-suc 2 exponent in
-    let more : (half == 1) ≡ false = not_one half (2 ^ exponent) double (pow_pos exponent) in
-    let from : cutoff ≤ size_of value = reached cutoff (size_of value) e in
-    let below : size_of value < cutoff + half = covers.below in
-    rw more (record { is = covers.is; from = omega (arith, from); below = omega (arith, double, below) })
-half_on value side cutoff half (suc exponent) false power room covers e =
-    let double : half ≡ 2 ^ exponent * 2 = power ∙ pow-suc 2 exponent in
-    let more : (half == 1) ≡ false = not_one half (2 ^ exponent) double (pow_pos exponent) in
-    let low : size_of value < cutoff = missed cutoff (size_of value) e in
-    let from : cutoff - half ≤ size_of value = covers.from in
-    rw more (record { is = covers.is; from = omega (arith, double, room, from); below = omega (arith, double, room, low) })
-
-doubling_on : (wanted : Wanted) (value : ℤ) (side : Side) (cutoff : ℕ) (decision : Bool) → Doubles wanted side cutoff → AtLeast value side (cutoff / 2) → nat_le cutoff (size_of value) ≡ decision →
-    Covers value (next_phase (Doubling side cutoff) decision)
-doubling_on wanted value side cutoff true doubles covers e =
-    let from : cutoff ≤ size_of value = reached cutoff (size_of value) e in
-    record { is = covers.is; from = omega (arith, from) }
-doubling_on wanted value side cutoff false doubles covers e =
-    let power : cutoff + 1 ≡ 2 ^ doubles.exponent * 2 = doubles.power ∙ pow-suc 2 doubles.exponent in
-    settled_on value side cutoff ((cutoff + 1) / 2) doubles.exponent (omega (arith, power)) (omega (arith, power)) covers (missed cutoff (size_of value) e)
-
-halving_on : (wanted : Wanted) (value : ℤ) (side : Side) (cutoff range : ℕ) (decision : Bool) → Halves wanted side cutoff range → Between value side (cutoff - range / 2) (cutoff + range / 2) →
-    nat_le cutoff (size_of value) ≡ decision → Covers value (halved side cutoff (range / 2) decision)
-halving_on wanted value side cutoff range decision halves covers e =
-    let power : range ≡ 2 ^ halves.exponent * 2 = halves.power ∙ pow-suc 2 halves.exponent in
-    let room : range ≤ cutoff = halves.room in
-    half_on value side cutoff (range / 2) halves.exponent decision (omega (arith, power)) (omega (arith, room)) covers e
-
-covers_on : (wanted : Wanted) (value : ℤ) (phase : Phase) (decision : Bool) → Keeps wanted phase → is_known phase ≡ false → Covers value phase → decided value phase ≡ decision →
-    Covers value (next_phase phase decision)
-covers_on wanted value (Sign low high) decision keeps unknown covers e = sign_on low high value decision e
-covers_on wanted value (Doubling side cutoff) decision keeps unknown covers e = doubling_on wanted value side cutoff decision keeps covers e
-covers_on wanted value (Halving side cutoff range) decision keeps unknown covers e = halving_on wanted value side cutoff range decision keeps covers e
-covers_on wanted value (Known known) decision keeps unknown covers e = absurd (cc)
-
--- ---- and back
-
--- a value was left before, and the decision is its own
-record Earlier (value : ℤ) (phase : Phase) (decision : Bool) : Type 0 where
-  covers : Covers value phase
-  own : decided value phase ≡ decision
-
-sign_back : (low high value : ℤ) (decision : Bool) → number_of (side_of low high decision) (size_of value) ≡ value → at_least value 0 ≡ decision
-sign_back low high (pos n) true e = is_reached 0 n (omega arith)
-sign_back low high (pos n) false e = absurd (cc)
-sign_back low high (negsuc n) true e = absurd (cc)
-sign_back low high (negsuc n) false e = refl
-
-settled_back : (value : ℤ) (side : Side) (cutoff range exponent : ℕ) → range ≡ 2 ^ exponent → cutoff + 1 ≡ 2 * range → Covers value (settled side cutoff range) → Earlier value (Doubling side cutoff) false
-settled_back value side cutoff range zero power twice covers =
-    let one : range ≡ 1 = power in
-    let known : number_of side 0 ≡ value = subst (λ (r : ℕ). Covers value (settled side cutoff r)) one covers in
-    let size : size_of value ≡ 0 = size_at value side 0 known in
-    record {
-      covers = record { is = side_at value side 0 known; from = omega (arith, one, twice) };
-      own = is_missed cutoff (size_of value) (omega (arith, one, twice, size));
-    }
-settled_back value side cutoff range (suc exponent) power twice covers =
-    let double : range ≡ 2 ^ exponent * 2 = power ∙ pow-suc 2 exponent in
-    let more : (range == 1) ≡ false = not_one range (2 ^ exponent) double (pow_pos exponent) in
-    let there : Between value side (cutoff - range / 2 - range / 2) (cutoff - range / 2 + range / 2) =
-    subst (λ (b : Bool). Covers value (if b then Known (number_of side 0) else Halving side (cutoff - range / 2) range)) more covers in
-    let from : cutoff - range / 2 - range / 2 ≤ size_of value = there.from in
-    let below : size_of value < cutoff - range / 2 + range / 2 = there.below in
-    record {
-      covers = record { is = there.is; from = omega (arith, double, twice, from) };
-      own = is_missed cutoff (size_of value) (omega (arith, double, twice, below));
-    }
-
--- the same in the third phase, with the half of the range
-record Halfway (value : ℤ) (side : Side) (cutoff half : ℕ) (decision : Bool) : Type 0 where
-  covers : Between value side (cutoff - half) (cutoff + half)
-  own : nat_le cutoff (size_of value) ≡ decision
-
-half_back : (value : ℤ) (side : Side) (cutoff half exponent : ℕ) (decision : Bool) → half ≡ 2 ^ exponent → half ≤ cutoff → Covers value (halved side cutoff half decision) → Halfway value side cutoff half decision
-half_back value side cutoff half zero true power room covers =
-    let one : half ≡ 1 = power in
-    let known : number_of side cutoff ≡ value = subst (λ (r : ℕ). Covers value (halved side cutoff r true)) one covers in
-    let size : size_of value ≡ cutoff = size_at value side cutoff known in
-    record {
-      covers = record { is = side_at value side cutoff known; from = omega (arith, size); below = omega (arith, size, one) };
-      own = is_reached cutoff (size_of value) (omega (arith, size));
-    }
-half_back value side cutoff half zero false power room covers =
-    let one : half ≡ 1 = power in
-    let known : number_of side (cutoff - 1) ≡ value = subst (λ (r : ℕ). Covers value (halved side cutoff r false)) one covers in
-    let size : size_of value ≡ cutoff - 1 = size_at value side (cutoff - 1) known in
-    record {
-      covers = record { is = side_at value side (cutoff - 1) known; from = omega (arith, size, one); below = omega (arith, size, one, room) };
-      own = is_missed cutoff (size_of value) (omega (arith, size, one, room));
-    }
-half_back value side cutoff half (suc exponent) true power room covers =
-    let double : half ≡ 2 ^ exponent * 2 = power ∙ pow-suc 2 exponent in
-    let more : (half == 1) ≡ false = not_one half (2 ^ exponent) double (pow_pos exponent) in
-    let there : Between value side (cutoff + half / 2 - half / 2) (cutoff + half / 2 + half / 2) =
-    subst (λ (b : Bool). Covers value (if b then Known (number_of side cutoff) else Halving side (cutoff + half / 2) half)) more covers in
-    let from : cutoff + half / 2 - half / 2 ≤ size_of value = there.from in
-    let below : size_of value < cutoff + half / 2 + half / 2 = there.below in
-    record {
-      covers = record { is = there.is; from = omega (arith, from); below = omega (arith, double, below) };
-      own = is_reached cutoff (size_of value) (omega (arith, from));
-    }
-half_back value side cutoff half (suc exponent) false power room covers =
-    let double : half ≡ 2 ^ exponent * 2 = power ∙ pow-suc 2 exponent in
-    let more : (half == 1) ≡ false = not_one half (2 ^ exponent) double (pow_pos exponent) in
-    let there : Between value side (cutoff - half / 2 - half / 2) (cutoff - half / 2 + half / 2) =
-    subst (λ (b : Bool). Covers value (if b then Known (number_of side (cutoff - 1)) else Halving side (cutoff - half / 2) half)) more covers in
-    let from : cutoff - half / 2 - half / 2 ≤ size_of value = there.from in
-    let below : size_of value < cutoff - half / 2 + half / 2 = there.below in
-    record {
-      covers = record { is = there.is; from = omega (arith, double, from); below = omega (arith, double, room, below) };
-      own = is_missed cutoff (size_of value) (omega (arith, double, room, below));
-    }
-
-doubling_back : (wanted : Wanted) (value : ℤ) (side : Side) (cutoff : ℕ) (decision : Bool) → Doubles wanted side cutoff → Covers value (next_phase (Doubling side cutoff) decision) →
-    Earlier value (Doubling side cutoff) decision
-doubling_back wanted value side cutoff true doubles covers =
-    let from : (2 * cutoff + 1) / 2 ≤ size_of value = covers.from in
-    record {
-      covers = record { is = covers.is; from = omega (arith, from) };
-      own = is_reached cutoff (size_of value) (omega (arith, from));
-    }
-doubling_back wanted value side cutoff false doubles covers =
-    let power : cutoff + 1 ≡ 2 ^ doubles.exponent * 2 = doubles.power ∙ pow-suc 2 doubles.exponent in
-    settled_back value side cutoff ((cutoff + 1) / 2) doubles.exponent (omega (arith, power)) (omega (arith, power)) covers
-
-halving_back : (wanted : Wanted) (value : ℤ) (side : Side) (cutoff range : ℕ) (decision : Bool) → Halves wanted side cutoff range → Covers value (halved side cutoff (range / 2) decision) →
-    Earlier value (Halving side cutoff range) decision
-halving_back wanted value side cutoff range decision halves covers =
-    let power : range ≡ 2 ^ halves.exponent * 2 = halves.power ∙ pow-suc 2 halves.exponent in
-    let room : range ≤ cutoff = halves.room in
-    let there = half_back value side cutoff (range / 2) halves.exponent decision (omega (arith, power)) (omega (arith, room)) covers in
-    record { covers = there.covers; own = there.own }
-
-covers_back : (wanted : Wanted) (value : ℤ) (phase : Phase) (decision : Bool) → Keeps wanted phase → IsTrue (allows phase decision) → Covers value (next_phase phase decision) → Earlier value phase decision
-covers_back wanted value (Sign low high) decision keeps allowed covers = record { covers = tt; own = sign_back low high value decision covers.is }
-covers_back wanted value (Doubling side cutoff) decision keeps allowed covers = doubling_back wanted value side cutoff decision keeps covers
-covers_back wanted value (Halving side cutoff range) decision keeps allowed covers = halving_back wanted value side cutoff range decision keeps covers
-covers_back wanted value (Known known) decision keeps allowed covers = absurd (cc)
 
 -- ---- the decisions of a value are allowed
 
@@ -254,17 +28,20 @@ opposite_order (pos a) (negsuc b) h = absurd (cc)
 opposite_order (negsuc a) (pos b) h = refl
 opposite_order (negsuc a) (negsuc b) h = grind (arith, common_steps)
 
-sign_fits : (low high value : ℤ) (decision : Bool) → at_least value 0 ≡ decision → Fits value low high → Fits (pos (size_of value)) (side_of low high decision).low (side_of low high decision).high
+sign_fits : (low high value : ℤ) (decision : Bool) → at_least value 0 ≡ decision → Fits value low high →
+    Fits (pos (size_of value)) (side_of low high decision).low (side_of low high decision).high
 sign_fits low high (pos n) true e fits = fits
 sign_fits low high (pos n) false e fits = let less : n < 0 = missed 0 n e in absurd (omega (arith, less))
 sign_fits low high (negsuc n) true e fits = absurd (cc)
 sign_fits low high (negsuc n) false e fits = record { least = opposite_order (negsuc n) high fits.most; most = opposite_order low (negsuc n) fits.least }
 
-settled_fits : (value : ℤ) (side : Side) (cutoff range : ℕ) (one : Bool) → (range == 1) ≡ one → Fits (pos (size_of value)) side.low side.high → FitsIn value (settled side cutoff range)
+settled_fits : (value : ℤ) (side : Side) (cutoff range : ℕ) (one : Bool) → (range == 1) ≡ one → Fits (pos (size_of value)) side.low side.high →
+    FitsIn value (settled side cutoff range)
 settled_fits value side cutoff range true e fits = rw e tt
 settled_fits value side cutoff range false e fits = rw e fits
 
-halved_fits : (value : ℤ) (side : Side) (cutoff range : ℕ) (decision one : Bool) → (range == 1) ≡ one → Fits (pos (size_of value)) side.low side.high → FitsIn value (halved side cutoff range decision)
+halved_fits : (value : ℤ) (side : Side) (cutoff range : ℕ) (decision one : Bool) → (range == 1) ≡ one → Fits (pos (size_of value)) side.low side.high →
+    FitsIn value (halved side cutoff range decision)
 halved_fits value side cutoff range decision true e fits = rw e tt
 halved_fits value side cutoff range decision false e fits = rw e fits
 
@@ -283,7 +60,8 @@ low_missed : (low : ℤ) (cutoff n : ℕ) → n < cutoff → IsTrue (int_le low 
 low_missed (pos m) cutoff n below least = grind (arith, common_steps)
 low_missed (negsuc m) cutoff n below least = refl
 
-size_allowed : (low high : ℤ) (cutoff n : ℕ) (decision : Bool) → nat_le cutoff n ≡ decision → Fits (pos n) low high → IsTrue (allows_by low high cutoff decision)
+size_allowed : (low high : ℤ) (cutoff n : ℕ) (decision : Bool) → nat_le cutoff n ≡ decision → Fits (pos n) low high →
+    IsTrue (allows_by low high cutoff decision)
 size_allowed low high cutoff n true e fits = high_reached high cutoff n (reached cutoff n e) fits.most
 size_allowed low high cutoff n false e fits = low_missed low cutoff n (missed cutoff n e) fits.least
 
@@ -294,14 +72,16 @@ sign_allowed low high (negsuc n) true e fits = absurd (cc)
 sign_allowed (pos m) high (negsuc n) false e fits = absurd (cc (fits.least))
 sign_allowed (negsuc m) high (negsuc n) false e fits = refl
 
-own_allowed : (value : ℤ) (phase : Phase) (decision : Bool) → is_known phase ≡ false → decided value phase ≡ decision → FitsIn value phase → IsTrue (allows phase decision)
+own_allowed : (value : ℤ) (phase : Phase) (decision : Bool) → is_known phase ≡ false → decided value phase ≡ decision → FitsIn value phase →
+    IsTrue (allows phase decision)
 own_allowed value (Sign low high) decision unknown e fits = sign_allowed low high value decision e fits
 own_allowed value (Doubling side cutoff) decision unknown e fits = size_allowed side.low side.high cutoff (size_of value) decision e fits
 own_allowed value (Halving side cutoff range) decision unknown e fits = size_allowed side.low side.high cutoff (size_of value) decision e fits
 own_allowed value (Known known) decision unknown e fits = absurd (cc)
 
 -- an implied decision is the only one that is allowed
-implied_one : (low high : ℤ) (cutoff : ℕ) (bit decision a b : Bool) → at_least low cutoff ≡ a → at_least high cutoff ≡ b → implied_by low high cutoff ≡ Some bit → IsTrue (allows_by low high cutoff decision) → bit ≡ decision
+implied_one : (low high : ℤ) (cutoff : ℕ) (bit decision a b : Bool) → at_least low cutoff ≡ a → at_least high cutoff ≡ b →
+    implied_by low high cutoff ≡ Some bit → IsTrue (allows_by low high cutoff decision) → bit ≡ decision
 implied_one low high cutoff true true a b la hb e allowed = refl
 implied_one low high cutoff false false a b la hb e allowed = refl
 implied_one low high cutoff true false true b la hb e allowed = absurd (cc (la, allowed))
@@ -313,8 +93,10 @@ implied_one low high cutoff false true false false la hb e allowed = absurd (cc 
 
 implied_own : (phase : Phase) (bit decision : Bool) → implied phase ≡ Some bit → IsTrue (allows phase decision) → bit ≡ decision
 implied_own (Sign low high) bit decision e allowed = implied_one low high 0 bit decision (at_least low 0) (at_least high 0) refl refl e allowed
-implied_own (Doubling side cutoff) bit decision e allowed = implied_one side.low side.high cutoff bit decision (at_least side.low cutoff) (at_least side.high cutoff) refl refl e allowed
-implied_own (Halving side cutoff range) bit decision e allowed = implied_one side.low side.high cutoff bit decision (at_least side.low cutoff) (at_least side.high cutoff) refl refl e allowed
+implied_own (Doubling side cutoff) bit decision e allowed = implied_one side.low side.high cutoff bit decision (at_least side.low cutoff)
+    (at_least side.high cutoff) refl refl e allowed
+implied_own (Halving side cutoff range) bit decision e allowed = implied_one side.low side.high cutoff bit decision (at_least side.low cutoff)
+    (at_least side.high cutoff) refl refl e allowed
 implied_own (Known known) bit decision e allowed = absurd (cc)
 
 -- ---- the decisions of a value
@@ -342,7 +124,8 @@ leads_on wanted value decisions leads (one unknown same) =
     let phase : Phase = phase_after wanted decisions in
     subst (Leads wanted value) (sym same) (record {
       possible = (leads.possible, own_allowed value (phase_after wanted decisions) (decided value (phase_after wanted decisions)) unknown refl leads.fits);
-      covers = covers_on wanted value (phase_after wanted decisions) (decided value (phase_after wanted decisions)) (phase_keeps wanted decisions leads.possible) unknown leads.covers refl;
+      covers = covers_on wanted value (phase_after wanted decisions) (decided value (phase_after wanted decisions))
+          (phase_keeps wanted decisions leads.possible) unknown leads.covers refl;
       fits = fits_on value (phase_after wanted decisions) (decided value (phase_after wanted decisions)) refl leads.fits;
     })
 
@@ -357,7 +140,8 @@ data Length (wanted : Wanted) (value : ℤ) (count : ℕ) (decisions : List Bool
   ended : (x : ℤ) → phase_after wanted decisions ≡ Known x → Length wanted value count decisions
   long : length decisions ≡ count → Length wanted value count decisions
 
-length_on : (wanted : Wanted) (value : ℤ) (count : ℕ) (decisions : List Bool) → Length wanted value count decisions → Says value decisions (phase_after wanted decisions) →
+length_on : (wanted : Wanted) (value : ℤ) (count : ℕ) (decisions : List Bool) → Length wanted value count decisions →
+    Says value decisions (phase_after wanted decisions) →
     Length wanted value (suc count) (with_decided value decisions (phase_after wanted decisions))
 length_on wanted value count decisions (ended x is) (known y at same) = subst (Length wanted value (suc count)) (sym same) (ended x is)
 length_on wanted value count decisions (long n) (known y at same) = subst (Length wanted value (suc count)) (sym same) (ended y at)
@@ -372,7 +156,8 @@ length_first (suc count) wanted value =
     length_on wanted value count (first_decisions count wanted value) (length_first count wanted value)
     (says value (first_decisions count wanted value) (phase_after wanted (first_decisions count wanted value)))
 
-reached_by : (wanted : Wanted) (value : ℤ) (decisions : List Bool) → AreBounds wanted.low wanted.high → Leads wanted value decisions → Length wanted value 36 decisions → Says value decisions (phase_after wanted decisions) →
+reached_by : (wanted : Wanted) (value : ℤ) (decisions : List Bool) → AreBounds wanted.low wanted.high → Leads wanted value decisions →
+    Length wanted value 36 decisions → Says value decisions (phase_after wanted decisions) →
     phase_after wanted decisions ≡ Known value
 reached_by wanted value decisions bounds leads (ended x is) s =
     let same : x ≡ value = subst (Covers value) is leads.covers in
@@ -382,20 +167,23 @@ reached_by wanted value decisions bounds leads (long n) (known x is same) =
     is ∙ ap (λ (v : ℤ). Known v) there
 reached_by wanted value decisions bounds leads (long n) (one unknown same) =
     let allowed = own_allowed value (phase_after wanted decisions) (decided value (phase_after wanted decisions)) unknown refl leads.fits in
-    let few = few_before (length decisions) (phase_after wanted decisions) (decided value (phase_after wanted decisions)) (sound_of wanted decisions bounds leads.possible) allowed in
+    let few = few_before (length decisions) (phase_after wanted decisions) (decided value (phase_after wanted decisions))
+    (sound_of wanted decisions bounds leads.possible) allowed in
     absurd (omega (arith, few, n))
 
 le_test : (a b : ℤ) → a ≤ℤ b → IsTrue (int_le a b)
 le_test a b h = search (arith, h)
 
-pub value_reached : (wanted : Wanted) (value : ℤ) → AreBounds wanted.low wanted.high → wanted.low ≤ℤ value → value ≤ℤ wanted.high → phase_after wanted (decisions_of wanted value) ≡ Known value
+pub value_reached : (wanted : Wanted) (value : ℤ) → AreBounds wanted.low wanted.high → wanted.low ≤ℤ value → value ≤ℤ wanted.high →
+    phase_after wanted (decisions_of wanted value) ≡ Known value
 unfolding most_decisions
 value_reached wanted value bounds least most =
     reached_by wanted value (first_decisions 36 wanted value) bounds
     (leads_first 36 wanted value (record { least = le_test wanted.low value least; most = le_test value wanted.high most })) (length_first 36 wanted value)
     (says value (first_decisions 36 wanted value) (phase_after wanted (first_decisions 36 wanted value)))
 
-pub value_possible : (wanted : Wanted) (value : ℤ) (count : ℕ) → AreBounds wanted.low wanted.high → wanted.low ≤ℤ value → value ≤ℤ wanted.high → ArePossible wanted (first_decisions count wanted value)
+pub value_possible : (wanted : Wanted) (value : ℤ) (count : ℕ) → AreBounds wanted.low wanted.high → wanted.low ≤ℤ value → value ≤ℤ wanted.high →
+    ArePossible wanted (first_decisions count wanted value)
 value_possible wanted value count bounds least most =
     (leads_first count wanted value (record { least = le_test wanted.low value least; most = le_test value wanted.high most })).possible
 
@@ -411,17 +199,20 @@ value_implied wanted value count bit bounds least most e =
     let decisions : List Bool = first_decisions count wanted value in
     let leads = leads_first count wanted value (record { least = le_test wanted.low value least; most = le_test value wanted.high most }) in
     implied_own (phase_after wanted decisions) bit (decided value (phase_after wanted decisions)) e
-    (own_allowed value (phase_after wanted decisions) (decided value (phase_after wanted decisions)) (unknown_implied (phase_after wanted decisions) bit e) refl leads.fits)
+    (own_allowed value (phase_after wanted decisions) (decided value (phase_after wanted decisions))
+    (unknown_implied (phase_after wanted decisions) bit e) refl leads.fits)
 
 -- ---- and no others
 
-own_more : (value : ℤ) (decisions : List Bool) (phase : Phase) (decision : Bool) → IsTrue (allows phase decision) → decided value phase ≡ decision → with_decided value decisions phase ≡ decision ∷ decisions
+own_more : (value : ℤ) (decisions : List Bool) (phase : Phase) (decision : Bool) → IsTrue (allows phase decision) → decided value phase ≡ decision →
+    with_decided value decisions phase ≡ decision ∷ decisions
 own_more value decisions (Sign low high) decision allowed e = ap (λ (d : Bool). d ∷ decisions) e
 own_more value decisions (Doubling side cutoff) decision allowed e = ap (λ (d : Bool). d ∷ decisions) e
 own_more value decisions (Halving side cutoff range) decision allowed e = ap (λ (d : Bool). d ∷ decisions) e
 own_more value decisions (Known x) decision allowed e = absurd (cc)
 
-own_first : (wanted : Wanted) (value : ℤ) (decisions : List Bool) → ArePossible wanted decisions → Covers value (phase_after wanted decisions) → first_decisions (length decisions) wanted value ≡ decisions
+own_first : (wanted : Wanted) (value : ℤ) (decisions : List Bool) → ArePossible wanted decisions → Covers value (phase_after wanted decisions) →
+    first_decisions (length decisions) wanted value ≡ decisions
 own_first wanted value [] possible covers = refl
 own_first wanted value (decision ∷ decisions) possible covers =
     let earlier : Earlier value (phase_after wanted decisions) decision =
@@ -432,7 +223,8 @@ own_first wanted value (decision ∷ decisions) possible covers =
 last_or_before : (n m : ℕ) → n ≤ suc m → (n ≡ suc m) ⊎ (n ≤ m)
 last_or_before n m h = search arith
 
-first_ended : (wanted : Wanted) (value x : ℤ) (m n : ℕ) → n ≤ m → phase_after wanted (first_decisions n wanted value) ≡ Known x → first_decisions m wanted value ≡ first_decisions n wanted value
+first_ended : (wanted : Wanted) (value x : ℤ) (m n : ℕ) → n ≤ m → phase_after wanted (first_decisions n wanted value) ≡ Known x →
+    first_decisions m wanted value ≡ first_decisions n wanted value
 first_ended wanted value x zero n less last = let none : zero ≡ n = omega arith in ap (λ (k : ℕ). first_decisions k wanted value) none
 first_ended wanted value x (suc m) n less last =
     elim (last_or_before n m less) [
@@ -442,9 +234,11 @@ first_ended wanted value x (suc m) n less last =
           ∙ ap (with_decided value (first_decisions n wanted value)) last
     ]
 
-pub value_alone : (wanted : Wanted) (value : ℤ) (decisions : List Bool) → AreBounds wanted.low wanted.high → ArePossible wanted decisions → phase_after wanted decisions ≡ Known value → decisions ≡ decisions_of wanted value
+pub value_alone : (wanted : Wanted) (value : ℤ) (decisions : List Bool) → AreBounds wanted.low wanted.high → ArePossible wanted decisions →
+    phase_after wanted decisions ≡ Known value → decisions ≡ decisions_of wanted value
 unfolding most_decisions
 value_alone wanted value decisions bounds possible at_end =
-    let first : first_decisions (length decisions) wanted value ≡ decisions = own_first wanted value decisions possible (subst (Covers value) (sym at_end) refl) in
+    let first : first_decisions (length decisions) wanted value ≡ decisions = own_first wanted value decisions possible
+    (subst (Covers value) (sym at_end) refl) in
     let few : length decisions ≤ 36 = few_sound (length decisions) (phase_after wanted decisions) (sound_of wanted decisions bounds possible) in
     sym (first_ended wanted value value 36 (length decisions) few (ap (phase_after wanted) first ∙ at_end) ∙ first)

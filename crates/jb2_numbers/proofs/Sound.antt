@@ -39,10 +39,12 @@ halving_facts count side cutoff range h = record {
   few = grind (arith, common_steps);
 }
 
-pub halving_bounded : (count : ℕ) (side : Side) (cutoff range : ℕ) → IsTrue (is_sound count (Halving side cutoff range)) → IsTrue (is_bounded side.low side.high)
+pub halving_bounded : (count : ℕ) (side : Side) (cutoff range : ℕ) → IsTrue (is_sound count (Halving side cutoff range)) →
+    IsTrue (is_bounded side.low side.high)
 halving_bounded count side cutoff range h = grind (arith, common_steps)
 
-pub halving_from_facts : (count : ℕ) (side : Side) (cutoff range : ℕ) → HalvingFacts count cutoff range → IsTrue (is_bounded side.low side.high) → IsTrue (is_sound count (Halving side cutoff range))
+pub halving_from_facts : (count : ℕ) (side : Side) (cutoff range : ℕ) → HalvingFacts count cutoff range → IsTrue (is_bounded side.low side.high) →
+    IsTrue (is_sound count (Halving side cutoff range))
 halving_from_facts count side cutoff range facts bounded = grind (arith, common_steps, facts.some, facts.within, facts.below, facts.few, bounded)
 
 pub power_below : (count : ℕ) → count ≤ 18 → 2 ^ count ≤ 262144
@@ -79,7 +81,8 @@ more_than_one range some e = grind (arith, common_steps)
 not_first : (count : ℕ) (low high : ℤ) → IsTrue (is_sound (suc count) (Sign low high)) → ⊥
 not_first count low high h = grind (arith, common_steps)
 
-doubled_by : (count cutoff : ℕ) (side : Side) → 1 ≤ count + 1 → count + 1 ≤ 18 → (2 * cutoff + 1) + 1 ≡ 2 ^ (count + 1) → IsTrue (is_bounded side.low side.high) →
+doubled_by : (count cutoff : ℕ) (side : Side) → 1 ≤ count + 1 → count + 1 ≤ 18 → (2 * cutoff + 1) + 1 ≡ 2 ^ (count + 1) →
+    IsTrue (is_bounded side.low side.high) →
     IsTrue (is_sound (count + 1) (Doubling side (2 * cutoff + 1)))
 doubled_by count cutoff side some few power bounded = grind (arith, common_steps)
 
@@ -113,7 +116,8 @@ half_facts count cutoff facts =
       product = rw half product;
     }
 
-settled_by : (count cutoff range : ℕ) (side : Side) (one : Bool) → (range == 1) ≡ one → 1 ≤ range → count ≤ 18 → HalfFacts count cutoff range → IsTrue (is_bounded side.low side.high) →
+settled_by : (count cutoff range : ℕ) (side : Side) (one : Bool) → (range == 1) ≡ one → 1 ≤ range → count ≤ 18 → HalfFacts count cutoff range →
+    IsTrue (is_bounded side.low side.high) →
     IsTrue (is_sound (count + 1) (settled side cutoff range))
 settled_by count cutoff range side true e some few facts bounded = rw e (known_sound (count + 1) (number_of side 0) (omega arith))
 settled_by count cutoff range side false e some few facts bounded =
@@ -155,7 +159,8 @@ few_decisions_by count range some few false e = grind (arith, common_steps)
 pub few_decisions : (count range : ℕ) → 2 ≤ range → range * 2 ^ count ≤ 2 ^ 36 → count < 36
 few_decisions count range some few = few_decisions_by count range some few (nat_le 36 count) refl
 
-halved_by : (count cutoff range : ℕ) (side : Side) (decision one : Bool) → ((range / 2) == 1) ≡ one → HalvingFacts count cutoff range → IsTrue (is_bounded side.low side.high) →
+halved_by : (count cutoff range : ℕ) (side : Side) (decision one : Bool) → ((range / 2) == 1) ≡ one → HalvingFacts count cutoff range →
+    IsTrue (is_bounded side.low side.high) →
     IsTrue (is_sound (count + 1) (halved side cutoff (range / 2) decision))
 halved_by count cutoff range side decision true e facts bounded =
     let few : count < 36 = few_decisions count range facts.some facts.few in
@@ -177,16 +182,20 @@ halved_by count cutoff range side false false e facts bounded =
       few = half_product count range facts.few;
     }) bounded)
 
-signed_sound : (count : ℕ) (low high : ℤ) (decision : Bool) → IsTrue (is_sound count (Sign low high)) → IsTrue (is_sound (count + 1) (Doubling (side_of low high decision) 1))
+signed_sound : (count : ℕ) (low high : ℤ) (decision : Bool) → IsTrue (is_sound count (Sign low high)) →
+    IsTrue (is_sound (count + 1) (Doubling (side_of low high decision) 1))
 signed_sound zero low high true h = grind (arith, common_steps)
 signed_sound zero low high false h = grind (arith, common_steps)
 signed_sound (suc count) low high decision h = absurd (not_first count low high h)
 
 -- the next phase keeps to it too
-pub next_sound : (count : ℕ) (phase : Phase) (decision : Bool) → IsTrue (is_sound count phase) → IsTrue (allows phase decision) → IsTrue (is_sound (count + 1) (next_phase phase decision))
+pub next_sound : (count : ℕ) (phase : Phase) (decision : Bool) → IsTrue (is_sound count phase) → IsTrue (allows phase decision) →
+    IsTrue (is_sound (count + 1) (next_phase phase decision))
 next_sound count (Sign low high) decision h allowed = signed_sound count low high decision h
-next_sound count (Doubling side cutoff) true h allowed = doubled_sound count cutoff side (doubling_facts count side cutoff h) (doubling_bounded count side cutoff h) allowed
-next_sound count (Doubling side cutoff) false h allowed = settled_sound count cutoff side (doubling_facts count side cutoff h) (doubling_bounded count side cutoff h)
+next_sound count (Doubling side cutoff) true h allowed = doubled_sound count cutoff side (doubling_facts count side cutoff h)
+    (doubling_bounded count side cutoff h) allowed
+next_sound count (Doubling side cutoff) false h allowed = settled_sound count cutoff side (doubling_facts count side cutoff h)
+    (doubling_bounded count side cutoff h)
 next_sound count (Halving side cutoff range) decision h allowed =
     halved_by count cutoff range side decision ((range / 2) == 1) refl (halving_facts count side cutoff range h) (halving_bounded count side cutoff range h)
 next_sound count (Known value) decision h allowed = absurd (cc)
@@ -203,10 +212,12 @@ doubling_below count side cutoff h =
     let small : 2 ^ count ≤ 262144 = power_below count facts.few in
     omega (arith, facts.power, small)
 
-pub next_sound_at : (count : ℕ) (phase at : Phase) (decision : Bool) (next : Phase) → IsTrue (is_sound count phase) → IsTrue (allows phase decision) → phase ≡ at → next ≡ next_phase at decision →
+pub next_sound_at : (count : ℕ) (phase at : Phase) (decision : Bool) (next : Phase) → IsTrue (is_sound count phase) → IsTrue (allows phase decision) →
+    phase ≡ at → next ≡ next_phase at decision →
     IsTrue (is_sound (count + 1) next)
 next_sound_at count phase at decision next sound allowed same is =
-    subst (λ (q : Phase). IsTrue (is_sound (count + 1) q)) (ap (λ (q : Phase). next_phase q decision) same ∙ sym is) (next_sound count phase decision sound allowed)
+    subst (λ (q : Phase). IsTrue (is_sound (count + 1) q)) (ap (λ (q : Phase). next_phase q decision) same ∙ sym is)
+    (next_sound count phase decision sound allowed)
 
 at_least_higher : (low high : ℤ) (cutoff : ℕ) → IsTrue (int_le low high) → at_least low cutoff ≡ true → at_least high cutoff ≡ true
 at_least_higher (pos m) (pos n) cutoff order reached = grind (arith, common_steps)
@@ -236,32 +247,39 @@ allowed_by low high cutoff true false true la hb order implied = hb
 allowed_by low high cutoff true false false la hb order implied = absurd (cc (implied_false low high cutoff la hb, implied))
 allowed_by low high cutoff false false b la hb order implied = rw la refl
 
-coded_by : (low high : ℤ) (cutoff : ℕ) (decision a b : Bool) → at_least low cutoff ≡ a → at_least high cutoff ≡ b → implied_by low high cutoff ≡ None → IsTrue (allows_by low high cutoff decision)
+coded_by : (low high : ℤ) (cutoff : ℕ) (decision a b : Bool) → at_least low cutoff ≡ a → at_least high cutoff ≡ b → implied_by low high cutoff ≡ None →
+    IsTrue (allows_by low high cutoff decision)
 coded_by low high cutoff decision true b la hb coded = absurd (cc (implied_true low high cutoff la, coded))
 coded_by low high cutoff decision false false la hb coded = absurd (cc (implied_false low high cutoff la hb, coded))
 coded_by low high cutoff true false true la hb coded = hb
 coded_by low high cutoff false false true la hb coded = rw la refl
 
-pub allowed_implied : (count : ℕ) (phase : Phase) (decision : Bool) → IsTrue (is_sound count phase) → implied phase ≡ Some decision → IsTrue (allows phase decision)
+pub allowed_implied : (count : ℕ) (phase : Phase) (decision : Bool) → IsTrue (is_sound count phase) → implied phase ≡ Some decision →
+    IsTrue (allows phase decision)
 allowed_implied count (Sign low high) decision sound given =
     allowed_by low high 0 decision (at_least low 0) (at_least high 0) refl refl (sign_order count low high sound) given
 allowed_implied count (Doubling side cutoff) decision sound given =
-    allowed_by side.low side.high cutoff decision (at_least side.low cutoff) (at_least side.high cutoff) refl refl (bounded_order side.low side.high (doubling_bounded count side cutoff sound)) given
+    allowed_by side.low side.high cutoff decision (at_least side.low cutoff) (at_least side.high cutoff) refl refl
+    (bounded_order side.low side.high (doubling_bounded count side cutoff sound)) given
 allowed_implied count (Halving side cutoff range) decision sound given =
-    allowed_by side.low side.high cutoff decision (at_least side.low cutoff) (at_least side.high cutoff) refl refl (bounded_order side.low side.high (halving_bounded count side cutoff range sound)) given
+    allowed_by side.low side.high cutoff decision (at_least side.low cutoff) (at_least side.high cutoff) refl refl
+    (bounded_order side.low side.high (halving_bounded count side cutoff range sound)) given
 allowed_implied count (Known value) decision sound given = absurd (cc)
 
 pub allowed_coded : (phase : Phase) (decision : Bool) → is_known phase ≡ false → implied phase ≡ None → IsTrue (allows phase decision)
 allowed_coded (Sign low high) decision unknown given = coded_by low high 0 decision (at_least low 0) (at_least high 0) refl refl given
-allowed_coded (Doubling side cutoff) decision unknown given = coded_by side.low side.high cutoff decision (at_least side.low cutoff) (at_least side.high cutoff) refl refl given
-allowed_coded (Halving side cutoff range) decision unknown given = coded_by side.low side.high cutoff decision (at_least side.low cutoff) (at_least side.high cutoff) refl refl given
+allowed_coded (Doubling side cutoff) decision unknown given = coded_by side.low side.high cutoff decision (at_least side.low cutoff)
+    (at_least side.high cutoff) refl refl given
+allowed_coded (Halving side cutoff range) decision unknown given = coded_by side.low side.high cutoff decision (at_least side.low cutoff)
+    (at_least side.high cutoff) refl refl given
 allowed_coded (Known value) decision unknown given = absurd (cc)
 
 -- where a decision is allowed, fewer than 36 came before
 pub few_before : (count : ℕ) (phase : Phase) (decision : Bool) → IsTrue (is_sound count phase) → IsTrue (allows phase decision) → count < 36
 few_before count (Sign low high) decision sound allowed = sign_few count low high sound
 few_before count (Doubling side cutoff) decision sound allowed = let facts = doubling_facts count side cutoff sound in omega (arith, facts.few)
-few_before count (Halving side cutoff range) decision sound allowed = let facts = halving_facts count side cutoff range sound in few_decisions count range facts.some facts.few
+few_before count (Halving side cutoff range) decision sound allowed = let facts =
+    halving_facts count side cutoff range sound in few_decisions count range facts.some facts.few
 few_before count (Known value) decision sound allowed = absurd (cc)
 
 pub sound_part : (path : Path) (phase : Phase) → IsSound path phase → IsTrue (is_sound path.count phase)
@@ -292,8 +310,11 @@ few_sound count (Known value) sound = grind (arith, common_steps)
 -- a reader has read few decisions
 pub few_reader : (path : Path) (phase : Phase) (decisions : List Bool) → decisions_in path ≡ decisions → IsSound path phase → length decisions ≤ 36
 few_reader path phase decisions same sound =
-    subst (λ (ds : List Bool). length ds ≤ 36) same (subst (λ (n : ℕ). n ≤ 36) (sym (how_many path.count path.bits)) (few_sound path.count phase (sound_part path phase sound)))
+    subst (λ (ds : List Bool). length ds ≤ 36) same (subst (λ (n : ℕ). n ≤ 36) (sym (how_many path.count path.bits))
+    (few_sound path.count phase (sound_part path phase sound)))
 
-pub fewer_reader : (path : Path) (phase : Phase) (decision : Bool) (decisions : List Bool) → decisions_in path ≡ decisions → IsSound path phase → IsTrue (allows phase decision) → length decisions < 36
+pub fewer_reader : (path : Path) (phase : Phase) (decision : Bool) (decisions : List Bool) → decisions_in path ≡ decisions → IsSound path phase →
+    IsTrue (allows phase decision) → length decisions < 36
 fewer_reader path phase decision decisions same sound allowed =
-    subst (λ (ds : List Bool). length ds < 36) same (subst (λ (n : ℕ). n < 36) (sym (how_many path.count path.bits)) (few_taken path phase decision sound allowed))
+    subst (λ (ds : List Bool). length ds < 36) same (subst (λ (n : ℕ). n < 36) (sym (how_many path.count path.bits))
+    (few_taken path phase decision sound allowed))

@@ -37,7 +37,8 @@ module _ (root : Root) (from : Chunk) where
   coded_begins reading next decision.NeedBytes e begins = begins_by reading next e begins
   coded_begins reading next decision.Exhausted e begins = begins_by reading next e begins
 
-  implied_begins : (reading next : Reading) (bit : Bool) → implied (phase_after type reading.decisions) ≡ Some bit → next ≡ with_implied reading bit → Begins reading → Begins next
+  implied_begins : (reading next : Reading) (bit : Bool) → implied (phase_after type reading.decisions) ≡ Some bit → next ≡ with_implied reading bit →
+      Begins reading → Begins next
   implied_begins reading next bit i e (nothing is) =
       let first : implied (phase_after type reading.decisions) ≡ Some true = ap (λ (ds : List Bool). implied (phase_after type ds)) is in
       let up : bit ≡ true = cc in
@@ -52,12 +53,14 @@ module _ (root : Root) (from : Chunk) where
   step_begins reading (implies bit e) begins =
       implied_begins reading (step type from reading) bit e (step_in_implied type from reading (phase_after type reading.decisions) bit e) begins
   step_begins reading (codes unknown e) begins =
-      coded_begins reading (step type from reading) (next_coded type from reading).answer (step_in_coded type from reading (phase_after type reading.decisions) unknown e) begins
+      coded_begins reading (step type from reading) (next_coded type from reading).answer
+      (step_in_coded type from reading (phase_after type reading.decisions) unknown e) begins
 
   begins_after : (states : Name → ℕ) (place : Option Interval) (count : ℕ) → Begins (steps count type from (begun states place))
   begins_after states place zero = nothing refl
   begins_after states place (suc count) =
-      step_begins (steps count type from (begun states place)) (turns type (steps count type from (begun states place)).decisions) (begins_after states place count)
+      step_begins (steps count type from (begun states place)) (turns type (steps count type from (begun states place)).decisions)
+      (begins_after states place count)
 
   begins_known : (reading : Reading) (value : ℤ) → phase_after type reading.decisions ≡ Known value → Begins reading → 0 < reading.coded
   begins_known reading value known (nothing is) =
@@ -66,7 +69,8 @@ module _ (root : Root) (from : Chunk) where
       let second : phase_after type reading.decisions ≡ phase_after type (true ∷ []) = ap (phase_after type) is in absurd (let same = sym second ∙ known in cc)
   begins_known reading value known (some more) = more
 
-  pub type_codes : (states : Name → ℕ) (place : Option Interval) (value : ℤ) → answer_at type from (read_on type from (begun states place)) ≡ answer.Number value →
+  pub type_codes : (states : Name → ℕ) (place : Option Interval) (value : ℤ) →
+      answer_at type from (read_on type from (begun states place)) ≡ answer.Number value →
       0 < (read_on type from (begun states place)).coded
   type_codes states place value answered =
       let reading : Reading = read_on type from (begun states place) in

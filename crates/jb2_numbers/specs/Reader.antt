@@ -29,7 +29,8 @@ unfoldable pub Reads : Wanted → List Bool → Reader → Type 0
 Reads wanted decisions reader = (reader.root ≡ wanted.root) × (reader.decisions ≡ decisions) × (reader.phase ≡ phase_after wanted decisions)
 
 -- reader, contexts, decoder and meter stand where the definition stands, with the ticks since this count
-pub record Stands (wanted : Wanted) (chunk : Chunk) (before : ℕ) (reading : Reading) (reader : Reader) (contexts : Numbers) (zp : Decoder) (count : ℕ) : Type 0 where
+pub record Stands (wanted : Wanted) (chunk : Chunk) (before : ℕ) (reading : Reading) (reader : Reader) (contexts : Numbers) (zp : Decoder)
+    (count : ℕ) : Type 0 where
   pub reads : Reads wanted reading.decisions reader
   pub states : states_of contexts ≡ reading.states
   pub fed : Fed chunk.payload reading.place zp

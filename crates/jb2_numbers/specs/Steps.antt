@@ -26,7 +26,8 @@ is_bounded low high = int_le low high && not (at_least high limit)
 abbrev pub is_sound : ℕ → Phase → Bool
 is_sound count (Sign low high) = (count == 0) && is_bounded low high && is_bounded (opposite high) (opposite low)
 is_sound count (Doubling side cutoff) = nat_le 1 count && nat_le count 18 && (cutoff + 1 == 2 ^ count) && is_bounded side.low side.high
-is_sound count (Halving side cutoff range) = nat_le 2 range && nat_le range cutoff && nat_le (cutoff + range) (2 ^ 19) && nat_le (range * 2 ^ count) (2 ^ 36) && is_bounded side.low side.high
+is_sound count (Halving side cutoff range) =
+    nat_le 2 range && nat_le range cutoff && nat_le (cutoff + range) (2 ^ 19) && nat_le (range * 2 ^ count) (2 ^ 36) && is_bounded side.low side.high
 is_sound count (Known value) = nat_le count 36
 
 -- what a reader keeps to
@@ -44,6 +45,7 @@ pub record Takes (old : Reader) (bit : Bool) (new : Reader) : Type 0 where
   pub decisions : new.decisions ≡ bit ∷ old.decisions
   pub phase : new.phase ≡ next_phase old.phase bit
 
+-- the state of a cell
 abbrev pub state_at : Numbers → ℕ → ℕ
 state_at numbers at = state_in numbers.cells (Some at)
 
@@ -60,8 +62,10 @@ pub record IsNext (old new : Reader) (contexts : Numbers) (next : ℕ) : Type 0 
 
 -- a bit that was decoded in the context of this cell: what the decoder gave, and where it stands then
 pub record Decides (at : ℕ) (contexts : Numbers) (zp : Decoder) (bit : Bool) (contexts' : Numbers) (zp' : Decoder) : Type 0 where
-  pub answers : (payload : List ℕ) (place : Option Interval) → Fed payload place zp → (outcome_of zp.table (Adaptive (state_at contexts at)) payload zp.ended place).answer ≡ decision.Bit bit
-  pub feeds : (payload : List ℕ) (place : Option Interval) → Fed payload place zp → Fed payload (outcome_of zp.table (Adaptive (state_at contexts at)) payload zp.ended place).place zp'
+  pub answers : (payload : List ℕ) (place : Option Interval) → Fed payload place zp →
+      (outcome_of zp.table (Adaptive (state_at contexts at)) payload zp.ended place).answer ≡ decision.Bit bit
+  pub feeds : (payload : List ℕ) (place : Option Interval) → Fed payload place zp →
+      Fed payload (outcome_of zp.table (Adaptive (state_at contexts at)) payload zp.ended place).place zp'
   pub stores : (payload : List ℕ) (place : Option Interval) (of : Name) → Fed payload place zp → IsCell contexts of at →
       states_of contexts' ≡ store (states_of contexts) of (outcome_of zp.table (Adaptive (state_at contexts at)) payload zp.ended place).state
 
@@ -85,7 +89,8 @@ pub record Stops (at : ℕ) (contexts : Numbers) (zp : Decoder) (stop : NumberSt
   pub kind : is_stop stop ≡ true
 
 -- a step ends the reading, after one decision or none
-pub record EndsBy (wanted : Wanted) (chunk : Chunk) (before : ℕ) (reading : Reading) (given : NumberStep) (old new : Reader) (contexts : Numbers) (zp : Decoder) (ticks : ℕ) : Type 0 where
+pub record EndsBy (wanted : Wanted) (chunk : Chunk) (before : ℕ) (reading : Reading) (given : NumberStep) (old new : Reader) (contexts : Numbers)
+    (zp : Decoder) (ticks : ℕ) : Type 0 where
   pub count : ℕ
   pub more : length new.decisions ≡ count + length old.decisions
   pub few : length new.decisions ≤ 36

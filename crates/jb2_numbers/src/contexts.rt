@@ -182,7 +182,8 @@ impl NumberContexts {
         ensures still { OnErr result ((self.new ≡ self.old) × (zp.new ≡ zp.old) × (meter.new ≡ meter.old)) }
         ensures ticks { OnOk result (M.count meter.new ≡ ticked_once (M.count meter.old)) }
         ensures cells { KeepsCells self.old self.new }
-        ensures below { (of : Name) → IsCell self.old of at → AreBelow (length zp.old.table) (states_of self.old) → AreBelow (length zp.new.table) (states_of self.new) }
+        ensures below { (of : Name) → IsCell self.old of at → AreBelow (length zp.old.table) (states_of self.old) →
+            AreBelow (length zp.new.table) (states_of self.new) }
         ensures table { zp.new.table ≡ zp.old.table }
         ensures ended { zp.new.ended ≡ zp.old.ended }
     {
@@ -202,7 +203,8 @@ impl NumberContexts {
         requires { at < length self.old.cells }
         ensures cells { KeepsCells self.old self.new }
         ensures stored { (of : Name) → IsCell self.old of at → states_of self.new ≡ store (states_of self.old) of state }
-        ensures below { (of : Name) (count : ℕ) → IsCell self.old of at → state < count → AreBelow count (states_of self.old) → AreBelow count (states_of self.new) }
+        ensures below { (of : Name) (count : ℕ) → IsCell self.old of at → state < count → AreBelow count (states_of self.old) →
+            AreBelow count (states_of self.new) }
     {
         self.cells[at].state = state;
     }

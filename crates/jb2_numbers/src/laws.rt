@@ -20,25 +20,32 @@ ghost use Rattle.jb2_numbers.specs.Reader.{AreBounds, Reader, Reads, Stands};
 /// are coded.
 pub fn worked_numbers()
     // The decisions are 1 0 0, then 1 0 1, and 0 0 for a negative number.
-    ensures one { answer_and_coded (wanted Root.ShapeWidth (pos 0) (pos 262142)) (chunk flat_rows (0x7F ∷ []) true) (begun fresh None) ≡ (answer.Number (pos 1), 3) }
-    ensures two { answer_and_coded (wanted Root.ShapeWidth (pos 0) (pos 262142)) (chunk flat_rows (0x5F ∷ []) true) (begun fresh None) ≡ (answer.Number (pos 2), 3) }
-    ensures negative { answer_and_coded (wanted Root.NewRowX (negsuc 262142) (pos 262142)) (chunk flat_rows (0xFF ∷ []) true) (begun fresh None) ≡ (answer.Number (negsuc 0), 2) }
+    ensures one { answer_and_coded (wanted Root.ShapeWidth (pos 0) (pos 262142)) (chunk flat_rows (0x7F ∷ []) true) (begun fresh None) ≡
+        (answer.Number (pos 1), 3) }
+    ensures two { answer_and_coded (wanted Root.ShapeWidth (pos 0) (pos 262142)) (chunk flat_rows (0x5F ∷ []) true) (begun fresh None) ≡
+        (answer.Number (pos 2), 3) }
+    ensures negative { answer_and_coded (wanted Root.NewRowX (negsuc 262142) (pos 262142)) (chunk flat_rows (0xFF ∷ []) true) (begun fresh None) ≡
+        (answer.Number (negsuc 0), 2) }
 
     // Type 11 of 0 to 11 is 1111, and width 31 is 11111000000. The decisions, the last one first, have the implied ones
     // among them: a type's sign, and that it is below 15, 13 and 12.
-    ensures eleven { answer_and_coded (wanted Root.RecordType (pos 0) (pos 11)) (chunk flat_rows (0x0F ∷ []) true) (begun fresh None) ≡ (answer.Number (pos 11), 4) }
-    ensures thirty_one { answer_and_coded (wanted Root.ShapeWidth (pos 0) (pos 262142)) (chunk flat_rows (0x07 ∷ 0xFF ∷ []) true) (begun fresh None) ≡ (answer.Number (pos 31), 11) }
+    ensures eleven { answer_and_coded (wanted Root.RecordType (pos 0) (pos 11)) (chunk flat_rows (0x0F ∷ []) true) (begun fresh None) ≡
+        (answer.Number (pos 11), 4) }
+    ensures thirty_one { answer_and_coded (wanted Root.ShapeWidth (pos 0) (pos 262142)) (chunk flat_rows (0x07 ∷ 0xFF ∷ []) true) (begun fresh None) ≡
+        (answer.Number (pos 31), 11) }
 
     ensures path_of_eleven { (read_on (wanted Root.RecordType (pos 0) (pos 11)) (chunk flat_rows (0x0F ∷ []) true) (begun fresh None)).decisions ≡
         false ∷ false ∷ true ∷ false ∷ true ∷ true ∷ true ∷ true ∷ [] }
-    ensures path_of_thirty_one { (read_on (wanted Root.ShapeWidth (pos 0) (pos 262142)) (chunk flat_rows (0x07 ∷ 0xFF ∷ []) true) (begun fresh None)).decisions ≡
+    ensures path_of_thirty_one { (read_on (wanted Root.ShapeWidth (pos 0) (pos 262142)) (chunk flat_rows (0x07 ∷ 0xFF ∷ []) true)
+        (begun fresh None)).decisions ≡
         false ∷ false ∷ false ∷ false ∷ false ∷ false ∷ true ∷ true ∷ true ∷ true ∷ true ∷ true ∷ [] }
 
     // A range of one value, even before a byte arrived.
     ensures alone { answer_and_coded (wanted Root.Match (pos 0) (pos 0)) (chunk flat_rows [] false) (begun fresh None) ≡ (answer.Number (pos 0), 0) }
 
     // Four bytes determine one decision.
-    ensures needs_bytes { answer_and_coded (wanted Root.ShapeWidth (pos 0) (pos 262142)) (chunk flat_rows (0x00 ∷ 0x00 ∷ 0x00 ∷ 0x00 ∷ []) false) (begun fresh None) ≡ (answer.NeedBytes, 1) }
+    ensures needs_bytes { answer_and_coded (wanted Root.ShapeWidth (pos 0) (pos 262142)) (chunk flat_rows (0x00 ∷ 0x00 ∷ 0x00 ∷ 0x00 ∷ []) false)
+        (begun fresh None) ≡ (answer.NeedBytes, 1) }
 {}
 
 /// Two names are the same exactly where root and decisions are.
@@ -51,7 +58,8 @@ pub fn names_differ()
 /// one that the bounds allow.
 pub fn numbers_lie_within()
     ensures answered { (number : Wanted) (from : Chunk) (states : Name → ℕ) (place : Option Interval) (value : ℤ) → AreBounds number.low number.high →
-        answer_at number from (read_on number from (begun states place)) ≡ answer.Number value → IsTrue (int_le number.low value) × IsTrue (int_le value number.high) }
+        answer_at number from (read_on number from (begun states place)) ≡ answer.Number value →
+        IsTrue (int_le number.low value) × IsTrue (int_le value number.high) }
     ensures known { (number : Wanted) (decisions : List Bool) (value : ℤ) → ArePossible number decisions → phase_after number decisions ≡ Known value →
         IsTrue (int_le number.low value) × IsTrue (int_le value number.high) }
 {}
@@ -66,7 +74,8 @@ pub fn numbers_are_reached()
     ensures alone { (number : Wanted) (value : ℤ) (decisions : List Bool) → AreBounds number.low number.high → ArePossible number decisions →
         phase_after number decisions ≡ Known value → decisions ≡ decisions_of number value }
     ensures implied { (number : Wanted) (value : ℤ) (count : ℕ) (bit : Bool) → AreBounds number.low number.high → number.low ≤ℤ value → value ≤ℤ number.high →
-        implied (phase_after number (first_decisions count number value)) ≡ Some bit → bit ≡ decided value (phase_after number (first_decisions count number value)) }
+        implied (phase_after number (first_decisions count number value)) ≡ Some bit →
+        bit ≡ decided value (phase_after number (first_decisions count number value)) }
     // Those of 11 among 0 to 11, the last one first.
     ensures eleven { decisions_of (wanted Root.RecordType (pos 0) (pos 11)) (pos 11) ≡ false ∷ false ∷ true ∷ false ∷ true ∷ true ∷ true ∷ true ∷ [] }
     ensures negative { decisions_of (wanted Root.NewRowX (negsuc 262142) (pos 262142)) (negsuc 0) ≡ false ∷ false ∷ [] }
@@ -75,8 +84,8 @@ pub fn numbers_are_reached()
 /// A number whose two bounds are one is that bound, and codes nothing: each of its decisions is implied, true exactly
 /// where the bound is at least the cutoff.
 pub fn one_value_codes_nothing()
-    ensures answer { (number : Wanted) (from : Chunk) (states : Name → ℕ) (place : Option Interval) → AreBounds number.low number.high → number.low ≡ number.high →
-        answer_at number from (read_on number from (begun states place)) ≡ answer.Number number.low }
+    ensures answer { (number : Wanted) (from : Chunk) (states : Name → ℕ) (place : Option Interval) → AreBounds number.low number.high →
+        number.low ≡ number.high → answer_at number from (read_on number from (begun states place)) ≡ answer.Number number.low }
     ensures nothing { (number : Wanted) (from : Chunk) (states : Name → ℕ) (place : Option Interval) → number.low ≡ number.high →
         (read_on number from (begun states place)).coded ≡ 0 }
     ensures states_stay { (number : Wanted) (from : Chunk) (states : Name → ℕ) (place : Option Interval) → number.low ≡ number.high →
@@ -114,17 +123,24 @@ pub fn readings_leave_room()
 /// However the bytes of a chunk are cut: a number that was read as far as some of them go, and is read on with more, is the
 /// one that is read from all of them.
 pub fn cuts_change_nothing()
-    ensures { (number : Wanted) (rows : List Row) (payload more : List ℕ) (ended : Bool) (states : Name → ℕ) (place : Option Interval) → AreBounds number.low number.high →
-        IsReady (chunk rows payload false) states place →
-        read_on number (chunk rows (payload ++ more) ended) (read_on number (chunk rows payload false) (begun states place)) ≡ read_on number (chunk rows (payload ++ more) ended) (begun states place) }
+    ensures { (number : Wanted) (rows : List Row) (payload more : List ℕ) (ended : Bool) (states : Name → ℕ) (place : Option Interval) →
+        AreBounds number.low number.high → IsReady (chunk rows payload false) states place →
+        read_on number (chunk rows (payload ++ more) ended) (read_on number (chunk rows payload false) (begun states place)) ≡
+        read_on number (chunk rows (payload ++ more) ended) (begun states place) }
 {}
 
 /// Where a reading stops after any number of steps, and goes on from there with more bytes, it comes to what it would have
 /// come to with these bytes alone. A reading that stopped more than once is covered too: it goes on from any reading.
 pub fn stops_change_nothing()
-    ensures { (number : Wanted) (rows : List Row) (payload more : List ℕ) (ended : Bool) (at : Reading) (count : ℕ) → AreBounds number.low number.high →
-        ArePossible number at.decisions → IsReady (chunk rows payload false) at.states at.place →
-        read_on number (chunk rows (payload ++ more) ended) (steps count number (chunk rows payload false) at) ≡ read_on number (chunk rows (payload ++ more) ended) at }
+    ensures reading { (number : Wanted) (rows : List Row) (payload more : List ℕ) (ended : Bool) (at : Reading) (count : ℕ) →
+        AreBounds number.low number.high → ArePossible number at.decisions → IsReady (chunk rows payload false) at.states at.place →
+        read_on number (chunk rows (payload ++ more) ended) (steps count number (chunk rows payload false) at) ≡
+        read_on number (chunk rows (payload ++ more) ended) at }
+    // So a number that some bytes determine stays.
+    ensures known { (number : Wanted) (rows : List Row) (payload more : List ℕ) (ended : Bool) (at : Reading) (value : ℤ) →
+        AreBounds number.low number.high → ArePossible number at.decisions → IsReady (chunk rows payload false) at.states at.place →
+        answer_at number (chunk rows payload false) (read_on number (chunk rows payload false) at) ≡ answer.Number value →
+        read_on number (chunk rows (payload ++ more) ended) at ≡ read_on number (chunk rows payload false) at }
 {}
 
 /// Decisions that the bounds allow stay so while a number is read.
@@ -135,7 +151,8 @@ pub fn readings_stay_possible()
 
 /// A reader that has read nothing stands at the beginning of its number, over whatever its decoder was fed.
 pub fn numbers_begin()
-    ensures { (number : Wanted) (payload : List ℕ) (place : Option Interval) (reader : Reader) (contexts : Numbers) (zp : Decoder) (count : ℕ) → Reads number [] reader → Fed payload place zp →
+    ensures { (number : Wanted) (payload : List ℕ) (place : Option Interval) (reader : Reader) (contexts : Numbers) (zp : Decoder) (count : ℕ) →
+        Reads number [] reader → Fed payload place zp →
         Stands number (chunk zp.table payload zp.ended) count (begun (states_of contexts) place) reader contexts zp count }
 {}
 

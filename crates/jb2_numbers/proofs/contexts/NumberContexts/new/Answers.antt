@@ -11,4 +11,5 @@ pub returns-clause-start : goal.returns-clause-start
 returns-clause-start c = states_started (record { cells = c.new.result.items }) (none_start c.new.result.items c.new.ensures.items)
 
 pub returns-clause-below : goal.returns-clause-below
-returns-clause-below c = fresh_below (states_of (record { cells = c.new.result.items })) (states_started (record { cells = c.new.result.items }) (none_start c.new.result.items c.new.ensures.items))
+returns-clause-below c = fresh_below (states_of (record { cells = c.new.result.items }))
+    (states_started (record { cells = c.new.result.items }) (none_start c.new.result.items c.new.ensures.items))

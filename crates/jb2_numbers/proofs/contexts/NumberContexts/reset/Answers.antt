@@ -7,4 +7,5 @@ pub returns-clause-start : goal.returns-clause-start
 returns-clause-start c = states_started (record { cells = c.clear.new.self.items }) (none_start c.clear.new.self.items c.clear.ensures.items)
 
 pub returns-clause-below : goal.returns-clause-below
-returns-clause-below c = fresh_below (states_of (record { cells = c.clear.new.self.items })) (states_started (record { cells = c.clear.new.self.items }) (none_start c.clear.new.self.items c.clear.ensures.items))
+returns-clause-below c = fresh_below (states_of (record { cells = c.clear.new.self.items }))
+    (states_started (record { cells = c.clear.new.self.items }) (none_start c.clear.new.self.items c.clear.ensures.items))

@@ -14,8 +14,10 @@ decisions-preserved g c =
     let later : next - first ≡ suc (now - first) = omega arith in
     record {
       stands = λ wanted chunk before reading start.
-          subst (λ (k : ℕ). Stands wanted chunk before (steps k wanted chunk reading) c.step.new.self c.step.new.contexts c.step.new.zp (g.M.Meter.count c.step.new.meter)) (sym later)
-          (c.in-Ok.ensures.goes wanted chunk before (steps (now - first) wanted chunk reading) (c.decisions.invariant.stands wanted chunk before reading start));
+          subst (λ (k : ℕ). Stands wanted chunk before (steps k wanted chunk reading) c.step.new.self c.step.new.contexts c.step.new.zp
+          (g.M.Meter.count c.step.new.meter)) (sym later)
+          (c.in-Ok.ensures.goes wanted chunk before (steps (now - first) wanted chunk reading)
+          (c.decisions.invariant.stands wanted chunk before reading start));
       more = omega arith;
       unknown = c.in-Ok.ensures.next.unknown;
       cell = c.in-Ok.ensures.next.cell;
@@ -31,5 +33,6 @@ returns-in-Err-clause-ends g c wanted chunk before reading start =
     let now : ℕ = length c.decisions.self.decisions in
     let more : first ≤ now = c.decisions.invariant.more in
     let later : now ≡ (now - first) + first = omega arith in
-    ends_earlier wanted chunk before reading c.in-Err.answer c.args.self.now c.decisions.self c.step.new.self c.step.new.contexts c.step.new.zp (g.M.Meter.count c.step.new.meter) (now - first) later
+    ends_earlier wanted chunk before reading c.in-Err.answer c.args.self.now c.decisions.self c.step.new.self c.step.new.contexts c.step.new.zp
+    (g.M.Meter.count c.step.new.meter) (now - first) later
     (c.in-Err.ensures.ends wanted chunk before (steps (now - first) wanted chunk reading) (c.decisions.invariant.stands wanted chunk before reading start))

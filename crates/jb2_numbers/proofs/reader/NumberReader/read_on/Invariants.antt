@@ -1,4 +1,4 @@
-use Rattle.std.proofs.Common.{◌≡◌, ◌≤◌, ◌-◌, ◌+◌, ℕ, false, length}
+use Rattle.std.proofs.Common.{◌≡◌, ◌≤◌, ◌-◌, ℕ, false, length}
 use Rattle.zp_decoder.specs.Chunk.{Chunk}
 use Rattle.zp_decoder.specs.States.{AreBelow}
 use Rattle.jb2_numbers.specs.Contexts.{name}
@@ -12,7 +12,8 @@ abbrev pub invariant-decisions : goal.invariant-decisions
 invariant-decisions g l = record {
   stands : (wanted : Wanted) (chunk : Chunk) (before : ℕ) (reading : Reading) →
       Stands wanted chunk before reading l.initial.self l.initial.contexts l.initial.zp (g.M.Meter.count l.initial.meter) →
-      Stands wanted chunk before (steps (length l.self.decisions - length l.initial.self.decisions) wanted chunk reading) l.self l.contexts l.zp (g.M.Meter.count l.meter);
+      Stands wanted chunk before (steps (length l.self.decisions - length l.initial.self.decisions) wanted chunk reading) l.self l.contexts l.zp
+      (g.M.Meter.count l.meter);
   more : length l.initial.self.decisions ≤ length l.self.decisions;
   unknown : is_known l.self.phase ≡ false;
   cell : IsCell l.contexts (name l.self.root l.self.decisions) l.at;

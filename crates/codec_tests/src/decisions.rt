@@ -159,13 +159,23 @@ fn read_piece(zp: &mut ZpDecoder, rows: u16, reading: &mut Reading, piece: &[u8]
     if taken < piece.len() { None } else { Some(()) }
 }
 
+/// A decoder with the table `djvu`, and how many rows that has.
+fn djvu_decoder(alloc: Global) -> Option<(ZpDecoder, u16)>
+    ensures rows { IfSome result (λ pair. pair.1 ≡ length pair.0.table) }
+    ensures open_end { IfSome result (λ pair. pair.0.ended ≡ false) }
+{
+    let table = Table::djvu(alloc).ok()?;
+    let rows = table.len();
+    let table = Arc::new(alloc, table).ok()?;
+    Some((ZpDecoder::new(table), rows))
+}
+
 /// How many decisions a chunk has that comes in pieces of this size, and the sum of their bits, each times a power of 31.
 fn read_pieces(alloc: Global, bytes: &[u8], size: usize) -> Option<(u32, u32)>
     requires { 0 < size }
 {
-    let table = Table::djvu(alloc).ok()?;
-    let rows = table.len();
-    let mut zp = ZpDecoder::new(Arc::new(alloc, table).ok()?);
+    let (zp, rows) = djvu_decoder(alloc)?;
+    let mut zp = zp;
     let mut reading = Reading {
         states: vec![in alloc; 0u8; 1024].ok()?,
         last: 0,

@@ -119,10 +119,22 @@ fn read_both(rt: &impl Abort, alloc: Global, cut: usize) -> Result<(), Fail>
     };
     let mut meter = CountMeter::new();
     let mut direct = DirectReader::begin(alloc, 70, 9)?;
-    let (step, taken) = read_direct(&mut direct, &mut contexts, &mut zp, &mut meter, &BYTES[..cut]);
+    let (step, taken) = read_direct(
+        &mut direct,
+        &mut contexts,
+        &mut zp,
+        &mut meter,
+        &BYTES[..cut],
+    );
     assert_eq!(rt; step, ShapeStep::NeedBytes);
     assert_eq!(rt; taken, cut);
-    let (step, taken) = read_direct(&mut direct, &mut contexts, &mut zp, &mut meter, &BYTES[cut..]);
+    let (step, taken) = read_direct(
+        &mut direct,
+        &mut contexts,
+        &mut zp,
+        &mut meter,
+        &BYTES[cut..],
+    );
     let ShapeStep::Done = step else {
         panic!(rt; "the shape isn't whole");
     };
@@ -132,7 +144,8 @@ fn read_both(rt: &impl Abort, alloc: Global, cut: usize) -> Result<(), Fail>
     let matched = Arc::new(alloc, direct)?;
     let mut refined = RefineReader::begin(alloc, 33, 5, matched)?;
     let rest = &BYTES[cut..][taken..];
-    let ShapeStep::Done = read_refined(&mut refined, &mut contexts, &mut zp, &mut meter, rest) else {
+    let ShapeStep::Done = read_refined(&mut refined, &mut contexts, &mut zp, &mut meter, rest)
+    else {
         panic!(rt; "the refined shape isn't whole");
     };
     assert_eq!(rt; meter.count(), 795);

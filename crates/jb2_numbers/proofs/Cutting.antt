@@ -220,19 +220,17 @@ cut_by wanted short long first a count bounds possible (waits passed is unknown 
     ∙ steps_ended wanted long first (most_decisions + passed) most_decisions (omega arith) (read_on-ends_from wanted long first bounds possible))
 
 pub stopped_anywhere : (wanted : Wanted) (rows : List Row) (payload more : List ℕ) (ended : Bool) (at : Reading) (count : ℕ) →
-    AreBounds wanted.low wanted.high → ArePossible wanted at.decisions →
-    IsReady (chunk rows payload false) at.states at.place →
-    read_on wanted (chunk rows (payload ++ more) ended) (steps count wanted (chunk rows payload false) at) ≡ read_on wanted
-    (chunk rows (payload ++ more) ended) at
+    AreBounds wanted.low wanted.high → ArePossible wanted at.decisions → IsReady (chunk rows payload false) at.states at.place →
+    read_on wanted (chunk rows (payload ++ more) ended) (steps count wanted (chunk rows payload false) at) ≡
+    read_on wanted (chunk rows (payload ++ more) ended) at
 stopped_anywhere wanted rows payload more ended at count bounds possible ready =
     cut_by wanted (chunk rows payload false) (chunk rows (payload ++ more) ended) at (steps count wanted (chunk rows payload false) at) count bounds possible
     (follows wanted rows payload more ended ready.table at count ready.below (standing_after payload more at.place ready.standing))
 
 pub cut_anywhere : (wanted : Wanted) (rows : List Row) (payload more : List ℕ) (ended : Bool) (states : Name → ℕ) (place : Option Interval) →
-    AreBounds wanted.low wanted.high →
-    IsReady (chunk rows payload false) states place →
-    read_on wanted (chunk rows (payload ++ more) ended) (read_on wanted (chunk rows payload false) (begun states place)) ≡ read_on wanted
-    (chunk rows (payload ++ more) ended) (begun states place)
+    AreBounds wanted.low wanted.high → IsReady (chunk rows payload false) states place →
+    read_on wanted (chunk rows (payload ++ more) ended) (read_on wanted (chunk rows payload false) (begun states place)) ≡
+    read_on wanted (chunk rows (payload ++ more) ended) (begun states place)
 cut_anywhere wanted rows payload more ended states place bounds ready =
     stopped_anywhere wanted rows payload more ended (begun states place) most_decisions bounds tt ready
 
@@ -244,6 +242,7 @@ pub number_stays : (wanted : Wanted) (rows : List Row) (payload more : List ℕ)
 number_stays wanted rows payload more ended at value bounds possible ready answered =
     let from : Chunk = chunk rows payload false in
     let reading : Reading = read_on wanted from at in
+    let all : Chunk = chunk rows (payload ++ more) ended in
     let known = known_answer wanted from reading (phase_after wanted reading.decisions) (next_coded wanted from reading).answer value refl answered in
     sym (stopped_anywhere wanted rows payload more ended at most_decisions bounds possible ready)
-    ∙ steps_ended wanted (chunk rows (payload ++ more) ended) reading most_decisions 0 (omega arith) (ap (step_in wanted (chunk rows (payload ++ more) ended) reading) known)
+    ∙ steps_ended wanted all reading most_decisions 0 (omega arith) (ap (step_in wanted all reading) known)

@@ -129,11 +129,11 @@ longer_by : (wanted : Wanted) (chunk : Chunk) (reading : Reading) (count : ℕ) 
 longer_by wanted chunk reading count few (knows value phase same) = inl same
 longer_by wanted chunk reading count few (waits none unknown same) = inl same
 longer_by wanted chunk reading count few (implies bit given same) =
-    let more : length (step wanted chunk reading).decisions ≡ suc (length reading.decisions) = ap (λ (r : Reading). length r.decisions) same in inr
-    (omega (arith, more, few))
+    let more : length (step wanted chunk reading).decisions ≡ suc (length reading.decisions) = ap (λ (r : Reading). length r.decisions) same in
+    inr (omega (arith, more, few))
 longer_by wanted chunk reading count few (codes bit unknown none same) =
-    let more : length (step wanted chunk reading).decisions ≡ suc (length reading.decisions) = ap (λ (r : Reading). length r.decisions) same in inr
-    (omega (arith, more, few))
+    let more : length (step wanted chunk reading).decisions ≡ suc (length reading.decisions) = ap (λ (r : Reading). length r.decisions) same in
+    inr (omega (arith, more, few))
 
 longer : (wanted : Wanted) (chunk : Chunk) (at : Reading) (count : ℕ) →
     (step wanted chunk (steps count wanted chunk at) ≡ steps count wanted chunk at) ⊎ (count ≤ length (steps count wanted chunk at).decisions)

@@ -8,22 +8,27 @@ use Rattle.zp_decoder.specs.declared.decoder.Decision.{Decision}
 use Rattle.zp_decoder.specs.declared.decoder.Decision.TheVariants as decision
 use Rattle.zp_decoder.specs.Decision.{Interval, Adaptive, Outcome, outcome_of}
 use Rattle.zp_decoder.specs.Decision as coding
-use Rattle.zp_decoder.specs.Decoder.{Fed, IsStanding}
+use Rattle.zp_decoder.specs.Runs.{IsStanding}
+use Rattle.zp_decoder.specs.Decoder.{Fed}
 use Rattle.bit_plane.specs.Pixels.{Pixels}
 use Rattle.djvu_base.specs.declared.faults.FaultKind.TheVariants as fault
 use Rattle.jb2_numbers.specs.declared.roots.Root.{Root}
 use Rattle.jb2_numbers.specs.declared.reader.NumberStep.{NumberStep}
 use Rattle.jb2_numbers.specs.declared.reader.NumberStep.TheVariants as number
-use Rattle.jb2_numbers.specs.Contexts.{Name, states_of}
+use Rattle.jb2_numbers.specs.Answer.{Answer}
+use Rattle.jb2_numbers.specs.Kept.{states_of}
+use Rattle.jb2_numbers.specs.Contexts.{Name}
 use Rattle.jb2_numbers.specs.Number as numbers
-use Rattle.jb2_numbers.specs.Number.{Chunk, Wanted, chunk, wanted, begun, read_on, answer_at}
-use Rattle.jb2_numbers.specs.Reader.{Reader, Reads, AreBounds}
+use Rattle.zp_decoder.specs.Chunk.{Chunk, chunk}
+use Rattle.jb2_numbers.specs.Number.{Wanted, wanted, begun, read_on, answer_at}
+use Rattle.jb2_numbers.specs.Reader.{Reader, Reads, AreBounds, step_of}
+use Rattle.jb2_records.proofs.Numbering.{answer_number, answer_needs, answer_exhausted}
 use Rattle.jb2_numbers.proofs.Lemmas.{answer_within}
 use Rattle.jb2_shapes.specs.declared.steps.ShapeStep.{ShapeStep}
 use Rattle.jb2_shapes.specs.declared.steps.ShapeStep.TheVariants as shape
 use Rattle.jb2_shapes.specs.Numbers as cells
 use Rattle.jb2_shapes.specs.Shape as shapes
-use Rattle.jb2_shapes.specs.Contexts.{States}
+use Rattle.zp_decoder.specs.States.{States}
 use Rattle.jb2_shapes.specs.Shape.{Sketch, progress, empty_sketch}
 use Rattle.jb2_records.specs.declared.stops.Stop.{Stop}
 use Rattle.jb2_records.specs.declared.stops.Stop.TheVariants as stop
@@ -45,28 +50,28 @@ bit_result decision.Exhausted = Err (stop.Refused fault.ZpExhausted)
 
 -- a number was read as far as it goes
 pub record IsRead (source : Chunk) (wanted : Wanted) (at : Coder) (step : NumberStep) (new : Parts) : Type 0 where
-  pub answer : step ≢ number.OutOfMemory → step ≡ answer_at wanted source (read_on wanted source (begun at.numbers at.place))
+  pub answer : step ≢ number.OutOfMemory → step ≡ step_of (answer_at wanted source (read_on wanted source (begun at.numbers at.place)))
   pub stands : step ≢ number.OutOfMemory → Stands source (after_number at (read_on wanted source (begun at.numbers at.place))) new
 
 number_goes : (source : Chunk) (root : Root) (low high : ℤ) (at : Coder) (step : NumberStep) (new : Parts) → IsRead source (wanted root low high) at step new →
     Told (λ (n : ℤ). n) source (read_number source root low high at) (result_of step) new
 number_goes source root low high at (number.Number value) new is = record {
   next = after_number at (read_on (wanted root low high) source (begun at.numbers at.place));
-  got = ap (λ (s : NumberStep). number_by s (read_on (wanted root low high) source (begun at.numbers at.place)) at) (sym (is.answer (λ memory. cc)));
+  got = ap (λ (s : Answer). number_by s (read_on (wanted root low high) source (begun at.numbers at.place)) at) (answer_number _ value (sym (is.answer (λ memory. cc))));
   stands = is.stands (λ memory. cc);
 }
 number_goes source root low high at number.NeedBytes new is =
     let stands : Stands source (after_number at (read_on (wanted root low high) source (begun at.numbers at.place))) new = is.stands (λ memory. cc) in
     record {
       decisions = at.decisions + (read_on (wanted root low high) source (begun at.numbers at.place)).coded;
-      stops = ap (λ (s : NumberStep). number_by s (read_on (wanted root low high) source (begun at.numbers at.place)) at) (sym (is.answer (λ memory. cc)));
+      stops = ap (λ (s : Answer). number_by s (read_on (wanted root low high) source (begun at.numbers at.place)) at) (answer_needs _ (sym (is.answer (λ memory. cc))));
       count = stands.count;
     }
 number_goes source root low high at number.Exhausted new is =
     let stands : Stands source (after_number at (read_on (wanted root low high) source (begun at.numbers at.place))) new = is.stands (λ memory. cc) in
     record {
       decisions = at.decisions + (read_on (wanted root low high) source (begun at.numbers at.place)).coded;
-      stops = ap (λ (s : NumberStep). number_by s (read_on (wanted root low high) source (begun at.numbers at.place)) at) (sym (is.answer (λ memory. cc)));
+      stops = ap (λ (s : Answer). number_by s (read_on (wanted root low high) source (begun at.numbers at.place)) at) (answer_exhausted _ (sym (is.answer (λ memory. cc))));
       count = stands.count;
     }
 number_goes source root low high at number.OutOfMemory new is = tt
@@ -124,7 +129,7 @@ number_there : (root : Root) (low high : ℤ) (old new : Parts) (first : Reader)
 number_there root low high old new first value on source place takes =
     let counts : Counts (wanted root low high) source old.count (states_of old.numbers) place (number.Number value) new.numbers new.unread new.zp new.count =
     on.counts source old.count (states_of old.numbers) place (λ memory. cc) on.bounds (start_of source (wanted root low high) (states_of old.numbers) place old new first (number.Number value) on refl takes) in
-    let both = answer_within (wanted root low high) source (states_of old.numbers) place value on.bounds (sym counts.answer) in
+    let both = answer_within (wanted root low high) source (states_of old.numbers) place value on.bounds (answer_number _ value (sym counts.answer)) in
     (le_of low value both.0, le_of value high both.1)
 
 -- each coder stands somewhere in some chunk

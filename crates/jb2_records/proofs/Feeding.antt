@@ -12,7 +12,7 @@ use Rattle.jb2_records.specs.Reading.{Input, Outcome, records_of}
 use Rattle.jb2_records.specs.Mask.{mask_of, mask_drawn}
 use Rattle.jb2_records.specs.Reader.{Masking, Fed, Settles, input_of, standing}
 use Rattle.jb2_records.specs.Holding.{IsFinal, IsHeld, IsDecoded, with_decoded}
-use Rattle.jb2_numbers.specs.Number.{Chunk, chunk}
+use Rattle.zp_decoder.specs.Chunk.{Chunk, chunk}
 use Rattle.jb2_records.specs.Coding.{chunk_start}
 use Rattle.jb2_records.specs.Telling.{Parts, Stands}
 use Rattle.jb2_records.specs.Drawing.{Task, Scene, drawn, Shows, IsBegun, DrawsAll}

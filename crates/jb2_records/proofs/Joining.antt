@@ -1,7 +1,7 @@
 -- Steps of a reading, joined: what is answered by a call that calls others.
 use Rattle.std.proofs.Common.{◌≡◌, Bool, Result, Err, Option, None, List, sym, ap, subst}
 use Rattle.djvu_base.specs.declared.faults.FaultKind.{FaultKind}
-use Rattle.jb2_numbers.specs.Number.{Chunk}
+use Rattle.zp_decoder.specs.Chunk.{Chunk}
 use Rattle.jb2_records.specs.declared.stops.Stop.{Stop}
 use Rattle.jb2_records.specs.declared.stops.Stop.TheVariants as stop
 use Rattle.jb2_records.specs.Records.{Record}

@@ -7,16 +7,20 @@ use Rattle.zp_table.specs.Rows.{IsTable}
 use Rattle.zp_decoder.specs.declared.decoder.Decision.{Decision}
 use Rattle.zp_decoder.specs.declared.decoder.Decision.TheVariants as decision
 use Rattle.zp_decoder.specs.Decision.{Interval, Form, Adaptive, Outcome, outcome_of}
-use Rattle.zp_decoder.specs.Decoder.{Decoder, Fed, IsStanding, bytes_wanted}
+use Rattle.zp_decoder.specs.Runs.{IsStanding}
+use Rattle.zp_decoder.specs.Decoder.{Decoder, Fed, bytes_wanted}
 use Rattle.zp_decoder.proofs.Lemmas.{between_facts, between-from_facts}
-use Rattle.jb2_numbers.specs.declared.phases.Phase.{Phase}
-use Rattle.jb2_numbers.specs.declared.phases.Phase.TheVariants.{Sign, Doubling, Halving, Known}
+use Rattle.jb2_numbers.specs.Phases.{Phase, Sign, Doubling, Halving, Known}
 use Rattle.jb2_numbers.specs.declared.reader.NumberStep.{NumberStep}
-use Rattle.jb2_numbers.specs.declared.reader.NumberStep.TheVariants as number
-use Rattle.jb2_numbers.specs.Contexts.{Name, Numbers}
-use Rattle.jb2_numbers.specs.Number.{Chunk, chunk, Wanted, Reading, begun, phase_after, name_at, next_coded, with_implied, with_coded, step, step_in, steps, most_decisions, read_on, answer_without, answer_in, answer_at}
+use Rattle.jb2_numbers.specs.declared.reader.NumberStep.TheVariants as step
+use Rattle.jb2_numbers.specs.Answer.{Answer}
+use Rattle.jb2_numbers.specs.Answer as number
+use Rattle.jb2_numbers.specs.Kept.{Numbers}
+use Rattle.jb2_numbers.specs.Contexts.{Name}
+use Rattle.zp_decoder.specs.Chunk.{Chunk, chunk, IsReady}
+use Rattle.jb2_numbers.specs.Number.{Wanted, Reading, begun, phase_after, name_at, next_coded, with_implied, with_coded, step as further, step_in, steps, most_decisions, read_on, answer_without, answer_in, answer_at}
 use Rattle.jb2_numbers.specs.Reader as reading
-use Rattle.jb2_numbers.specs.Reader.{Reader, AreBounds}
+use Rattle.jb2_numbers.specs.Reader.{Reader, AreBounds, step_of}
 use Rattle.jb2_numbers.proofs.Lemmas.{step_in_implied, step_in_coded, answer_in_coded, read_on-ends, never_exhausted, Turns, turns, knows, implies, codes}
 use Rattle.jb2_records.specs.Taking.{Unread, Feeds, Takes, TakesMore, Pends, Counts}
 use Rattle.jb2_records.proofs.Offering.{takes_more, all_taken, front, whole, part}
@@ -50,7 +54,7 @@ module _ (wanted : Wanted) (from : Chunk) (at : Reading) where
   -- and nothing follows it
   steps_known : (value : ℤ) (count : ℕ) → phase_after wanted at.decisions ≡ Known value → steps count wanted from at ≡ at
   steps_known value zero e = refl
-  steps_known value (suc count) e = ap (step wanted from) (steps_known value count e) ∙ ap (step_in wanted from at) e
+  steps_known value (suc count) e = ap (further wanted from) (steps_known value count e) ∙ ap (step_in wanted from at) e
 
   -- where no step follows, and bytes are wanted, the next decision isn't determined
   waits_by : (given : Decision) → (next_coded wanted from at).answer ≡ given → with_coded at (name_at wanted at) (next_coded wanted from at) (next_coded wanted from at).answer ≡ at →
@@ -62,7 +66,7 @@ module _ (wanted : Wanted) (from : Chunk) (at : Reading) where
   waits_by decision.NeedBytes e last needs = e
   waits_by decision.Exhausted e last needs = absurd (let other = sym (ap answer_without e) ∙ needs in cc)
 
-  waits_in : Turns wanted at.decisions → step wanted from at ≡ at → answer_at wanted from at ≡ number.NeedBytes → (next_coded wanted from at).answer ≡ decision.NeedBytes
+  waits_in : Turns wanted at.decisions → further wanted from at ≡ at → answer_at wanted from at ≡ number.NeedBytes → (next_coded wanted from at).answer ≡ decision.NeedBytes
   waits_in (knows value e) last needs = absurd (let other = sym (ap (answer_in wanted from at) e) ∙ needs in cc)
   waits_in (implies bit e) last needs =
       let more : suc (length at.decisions) ≡ length at.decisions =
@@ -81,23 +85,39 @@ standing_more payload more (Some at) stands =
 
 -- ---- a reader
 
+-- what a reader tells is what the reading comes to
+pub answer_number : (a : Answer) (value : ℤ) → step_of a ≡ step.Number value → a ≡ number.Number value
+answer_number (number.Number other) value e = cc
+answer_number number.NeedBytes value e = absurd (cc)
+answer_number number.Exhausted value e = absurd (cc)
+
+pub answer_needs : (a : Answer) → step_of a ≡ step.NeedBytes → a ≡ number.NeedBytes
+answer_needs (number.Number other) e = absurd (cc)
+answer_needs number.NeedBytes e = refl
+answer_needs number.Exhausted e = absurd (cc)
+
+pub answer_exhausted : (a : Answer) → step_of a ≡ step.Exhausted → a ≡ number.Exhausted
+answer_exhausted (number.Number other) e = absurd (cc)
+answer_exhausted number.NeedBytes e = absurd (cc)
+answer_exhausted number.Exhausted e = refl
+
 -- what a reader of numbers did
 pub record Advances (old new : Reader) (contexts next_contexts : Numbers) (zp next : Decoder) (count later : ℕ) (given : NumberStep) : Type 0 where
-  pub answer : (wanted : Wanted) (from : Chunk) (before : ℕ) (at : Reading) → given ≢ number.OutOfMemory → reading.Stands wanted from before at old contexts zp count →
-      given ≡ answer_at wanted from (read_on wanted from at)
-  pub stands : (wanted : Wanted) (from : Chunk) (before : ℕ) (at : Reading) → given ≢ number.OutOfMemory → reading.Stands wanted from before at old contexts zp count →
+  pub answer : (wanted : Wanted) (from : Chunk) (before : ℕ) (at : Reading) → given ≢ step.OutOfMemory → reading.Stands wanted from before at old contexts zp count →
+      given ≡ step_of (answer_at wanted from (read_on wanted from at))
+  pub stands : (wanted : Wanted) (from : Chunk) (before : ℕ) (at : Reading) → given ≢ step.OutOfMemory → reading.Stands wanted from before at old contexts zp count →
       reading.Stands wanted from before (read_on wanted from at) new next_contexts next later
   pub standing : (payload : List ℕ) (place : Option Interval) → Fed payload place next → IsStanding (length payload) place
   pub table : next.table ≡ zp.table
 
 module _ (law : (wanted : Wanted) (rows : List Row) (payload more : List ℕ) (ended : Bool) (states : Name → ℕ) (place : Option Interval) → AreBounds wanted.low wanted.high →
-    IsTable rows → ((name : Name) → states name < length rows) → IsStanding (length payload) place →
+    IsReady (chunk rows payload false) states place →
     read_on wanted (chunk rows (payload ++ more) ended) (read_on wanted (chunk rows payload false) (begun states place)) ≡ read_on wanted (chunk rows (payload ++ more) ended) (begun states place))
     (wants : (rows : List Row) (form : Form) (taken : List ℕ) (ended : Bool) (place : Option Interval) →
     (outcome_of rows form taken ended place).answer ≡ decision.NeedBytes → 0 < bytes_wanted taken place)
     (wanted : Wanted) (source : Chunk) (before : ℕ) (states : Name → ℕ) (place : Option Interval) (old new : Reader) (contexts next_contexts : Numbers) (unread : Unread) (zp next : Decoder) (count later : ℕ) (given : NumberStep)
     (bounds : AreBounds wanted.low wanted.high) (on : Advances old new contexts next_contexts zp next count later given) (feeds : Feeds unread zp)
-    (pends : Pends wanted source before states place old contexts unread zp count) (some : given ≢ number.OutOfMemory) where
+    (pends : Pends wanted source before states place old contexts unread zp count) (some : given ≢ step.OutOfMemory) where
   abbrev short : Chunk
   short = chunk source.table pends.takes.taken zp.ended
 
@@ -107,11 +127,11 @@ module _ (law : (wanted : Wanted) (rows : List Row) (payload more : List ℕ) (e
   here : reading.Stands wanted short before there new next_contexts next later
   here = subst (λ (r : Reading). reading.Stands wanted short before r new next_contexts next later) pends.goes (on.stands wanted short before pends.at some pends.stands)
 
-  told : given ≡ answer_at wanted short there
-  told = on.answer wanted short before pends.at some pends.stands ∙ ap (answer_at wanted short) pends.goes
+  told : given ≡ step_of (answer_at wanted short there)
+  told = on.answer wanted short before pends.at some pends.stands ∙ ap (λ (r : Reading). step_of (answer_at wanted short r)) pends.goes
 
   -- where this is what the chunk has
-  counts_by : there ≡ read_on wanted source (begun states place) → given ≡ answer_at wanted source (read_on wanted source (begun states place)) →
+  counts_by : there ≡ read_on wanted source (begun states place) → given ≡ step_of (answer_at wanted source (read_on wanted source (begun states place))) →
       Counts wanted source before states place given next_contexts unread next later
   counts_by same answer =
       let now : reading.Stands wanted short before (read_on wanted source (begun states place)) new next_contexts next later =
@@ -133,48 +153,48 @@ module _ (law : (wanted : Wanted) (rows : List Row) (payload more : List ℕ) (e
   counts_whole : pends.takes.taken ≡ source.payload → zp.ended ≡ source.ended → Counts wanted source before states place given next_contexts unread next later
   counts_whole all ended =
       let same : short ≡ source = ap (λ (l : List ℕ). chunk source.table l zp.ended) all ∙ ap (λ (e : Bool). chunk source.table source.payload e) ended in
-      counts_by (ap (λ (c : Chunk). read_on wanted c (begun states place)) same) (told ∙ ap (λ (c : Chunk). answer_at wanted c (read_on wanted c (begun states place))) same)
+      counts_by (ap (λ (c : Chunk). read_on wanted c (begun states place)) same) (told ∙ ap (λ (c : Chunk). step_of (answer_at wanted c (read_on wanted c (begun states place)))) same)
 
   -- with more bytes
   longer : (more : List ℕ) (ended : Bool) → zp.ended ≡ false → read_on wanted (chunk source.table (pends.takes.taken ++ more) ended) there ≡ read_on wanted (chunk source.table (pends.takes.taken ++ more) ended) (begun states place)
   longer more ended goes =
       subst (λ (e : Bool). read_on wanted (chunk source.table (pends.takes.taken ++ more) ended) (read_on wanted (chunk source.table pends.takes.taken e) (begun states place))
       ≡ read_on wanted (chunk source.table (pends.takes.taken ++ more) ended) (begun states place)) (sym goes)
-      (law wanted source.table pends.takes.taken more ended states place bounds (subst (λ (t : List Row). IsTable t) pends.takes.table feeds.table) pends.below pends.begins)
+      (law wanted source.table pends.takes.taken more ended states place bounds (record { table = subst (λ (t : List Row). IsTable t) pends.takes.table feeds.table; below = pends.below; standing = pends.begins }))
 
-  counts_known : (rest : List ℕ) → pends.takes.taken ++ rest ≡ source.payload → zp.ended ≡ false → (value : ℤ) → given ≡ number.Number value →
+  counts_known : (rest : List ℕ) → pends.takes.taken ++ rest ≡ source.payload → zp.ended ≡ false → (value : ℤ) → given ≡ step.Number value →
       Counts wanted source before states place given next_contexts unread next later
   counts_known rest is goes value e =
-      let known : phase_after wanted there.decisions ≡ Known value = known_in wanted short there (phase_after wanted there.decisions) value (sym told ∙ e) in
+      let known : phase_after wanted there.decisions ≡ Known value = known_in wanted short there (phase_after wanted there.decisions) value (answer_number _ value (sym told ∙ e)) in
       let same : there ≡ read_on wanted source (begun states place) =
       sym (steps_known wanted source there value most_decisions known)
       ∙ subst (λ (l : List ℕ). read_on wanted (chunk source.table l source.ended) there ≡ read_on wanted (chunk source.table l source.ended) (begun states place)) is (longer rest source.ended goes) in
-      counts_by same (e ∙ sym (ap (answer_in wanted source there) known) ∙ ap (answer_at wanted source) same)
+      counts_by same (e ∙ sym (ap (λ (p : Phase). step_of (answer_in wanted source there p)) known) ∙ ap (λ (r : Reading). step_of (answer_at wanted source r)) same)
 
-  counts_part : (rest : List ℕ) → pends.takes.taken ++ rest ≡ source.payload → zp.ended ≡ false → (step : NumberStep) → given ≡ step → given ≢ number.NeedBytes →
+  counts_part : (rest : List ℕ) → pends.takes.taken ++ rest ≡ source.payload → zp.ended ≡ false → (kind : NumberStep) → given ≡ kind → given ≢ step.NeedBytes →
       Counts wanted source before states place given next_contexts unread next later
-  counts_part rest is goes (number.Number value) e known = counts_known rest is goes value e
-  counts_part rest is goes number.NeedBytes e known = absurd (known e)
-  counts_part rest is goes number.Exhausted e known =
-      let past : (next_coded wanted short there).answer ≡ decision.Exhausted = exhausted_in wanted short there (phase_after wanted there.decisions) (sym told ∙ e) in
+  counts_part rest is goes (step.Number value) e known = counts_known rest is goes value e
+  counts_part rest is goes step.NeedBytes e known = absurd (known e)
+  counts_part rest is goes step.Exhausted e known =
+      let past : (next_coded wanted short there).answer ≡ decision.Exhausted = exhausted_in wanted short there (phase_after wanted there.decisions) (answer_exhausted _ (sym told ∙ e)) in
       absurd (never_exhausted source.table (Adaptive (there.states (name_at wanted there))) pends.takes.taken there.place
       (ap (λ (b : Bool). (outcome_of source.table (Adaptive (there.states (name_at wanted there))) pends.takes.taken b there.place).answer) (sym goes) ∙ past))
-  counts_part rest is goes number.OutOfMemory e known = absurd (some e)
+  counts_part rest is goes step.OutOfMemory e known = absurd (some e)
 
   -- a reader that answered without wanting bytes
-  pub counts_end : given ≢ number.NeedBytes → Counts wanted source before states place given next_contexts unread next later
+  pub counts_end : given ≢ step.NeedBytes → Counts wanted source before states place given next_contexts unread next later
   counts_end known = elim (front source pends.at.place unread zp feeds pends.takes) [
     | whole all ended ↦ counts_whole all ended
     | part byte more is goes ↦ counts_part (byte ∷ more) is goes given refl known
   ]
 
   -- one that wants bytes where none are left
-  pub counts_need : given ≡ number.NeedBytes → (new_unread : Unread) (last : Decoder) →
+  pub counts_need : given ≡ step.NeedBytes → (new_unread : Unread) (last : Decoder) →
       ((taken : List ℕ) (place : Option Interval) → Fed taken place next → 0 < bytes_wanted taken place → unread.left ≡ []) → TakesMore unread new_unread next last →
       Counts wanted source before states place given next_contexts new_unread last later
   counts_need needs new_unread last none more =
       let waits : (next_coded wanted short there).answer ≡ decision.NeedBytes =
-      waits_in wanted short there (turns wanted there.decisions) (read_on-ends wanted short states place bounds) (sym told ∙ needs) in
+      waits_in wanted short there (turns wanted there.decisions) (read_on-ends wanted short states place bounds) (answer_needs _ (sym told ∙ needs)) in
       let left : unread.left ≡ [] = none pends.takes.taken there.place here.fed (wants source.table (Adaptive (there.states (name_at wanted there))) pends.takes.taken zp.ended there.place waits) in
       let all = all_taken source pends.at.place unread zp feeds pends.takes left in
       let counts : Counts wanted source before states place given next_contexts unread next later = counts_whole all.0 all.1 in

@@ -10,15 +10,15 @@ use Rattle.zp_table.specs.Rows.{IsTable}
 use Rattle.zp_decoder.specs.declared.decoder.Decision.{Decision}
 use Rattle.zp_decoder.specs.declared.decoder.Decision.TheVariants as decision
 use Rattle.zp_decoder.specs.Decision.{Interval, Form, Adaptive, Outcome, outcome_of, interval_at, is_determined, counted}
-use Rattle.zp_decoder.specs.Decoder.{Decoder, Fed, IsStanding, bytes_wanted, is_all}
-use Rattle.zp_decoder.specs.Runs.{IsFormOf, room}
+use Rattle.zp_decoder.specs.Runs.{IsStanding, IsFormOf, room}
+use Rattle.zp_decoder.specs.Decoder.{Decoder, Fed, bytes_wanted, is_all}
 use Rattle.zp_decoder.proofs.Lemmas.{room_is, between_facts}
 use Rattle.bit_plane.specs.Pixels.{Pixels}
-use Rattle.jb2_numbers.specs.Number.{Chunk}
+use Rattle.zp_decoder.specs.Chunk.{Chunk, chunk, IsReady}
 use Rattle.jb2_numbers.proofs.Lemmas.{never_exhausted}
 use Rattle.jb2_shapes.specs.declared.steps.ShapeStep.{ShapeStep}
 use Rattle.jb2_shapes.specs.declared.steps.ShapeStep.TheVariants as shape
-use Rattle.jb2_shapes.specs.Contexts.{States, AreBelow}
+use Rattle.zp_decoder.specs.States.{States, AreBelow}
 use Rattle.jb2_shapes.specs.Shape.{Sketch, Progress, Reading, IsWhole, left_of, progress, stands, after_decision, read_pixels, reading_of}
 use Rattle.jb2_shapes.specs.Refined.{Refinement, refined_context, column_shift, row_shift}
 use Rattle.bit_plane.specs.Ink.{ink_box_of}
@@ -275,7 +275,7 @@ drawn_moved source reading told sketch states old new zp next on has =
 module _ (wanted : (rows : List Row) (form : Form) (taken : List ℕ) (ended : Bool) (place : Option Interval) →
     (outcome_of rows form taken ended place).answer ≡ decision.NeedBytes → 0 < bytes_wanted taken place)
     (cut : (context : Pixels → ℤ → ℤ → List Bool) (rows : List Row) (payload more : List ℕ) (ended : Bool) (at : Progress) →
-    IsTable rows → AreBelow (length rows) at.states → IsStanding (length payload) at.place →
+    IsReady (chunk rows payload false) at.states at.place →
     reading_of context rows (payload ++ more) ended (reading_of context rows payload false at).at ≡ reading_of context rows (payload ++ more) ended at)
     (context : Pixels → ℤ → ℤ → List Bool) (source : Chunk) (unread : Unread) (zp next : Decoder) (sketch new_sketch : Sketch) (states new_states : States) (told : ShapeStep)
     (on : Advances context zp next sketch new_sketch states new_states told) (start : Progress) (feeds : Feeds unread zp) (below : AreBelow (length zp.table) states) where
@@ -283,8 +283,11 @@ module _ (wanted : (rows : List Row) (form : Form) (taken : List ℕ) (ended : B
       reading_of context source.table (draws.takes.taken ++ rest) source.ended (reading_of context source.table draws.takes.taken false (progress sketch states draws.place)).at
       ≡ reading_of context source.table (draws.takes.taken ++ rest) source.ended (progress sketch states draws.place)
   cut_here draws rest =
-      cut context source.table draws.takes.taken rest source.ended (progress sketch states draws.place) (subst (λ (t : List Row). IsTable t) draws.takes.table feeds.table)
-      (subst (λ (t : List Row). AreBelow (length t) states) draws.takes.table below) draws.takes.standing
+      cut context source.table draws.takes.taken rest source.ended (progress sketch states draws.place) (record {
+        table = subst (λ (t : List Row). IsTable t) draws.takes.table feeds.table;
+        below = subst (λ (t : List Row). AreBelow (length t) states) draws.takes.table below;
+        standing = draws.takes.standing;
+      })
 
   part_end : (draws : DrawsOn context source start sketch states unread zp) (byte : ℕ) (more : List ℕ) → draws.takes.taken ++ byte ∷ more ≡ source.payload → zp.ended ≡ false → (step : ShapeStep) → told ≡ step →
       told ≢ shape.NeedBytes → HasDrawn (reading_of context source.table source.payload source.ended start) source told new_sketch new_states unread next

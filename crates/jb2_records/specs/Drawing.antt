@@ -5,7 +5,7 @@ use Rattle.zp_table.specs.Rows.{IsTable}
 use Rattle.bit_plane.specs.Pixels.{Pixels, area_limit, side_limit}
 use Rattle.djvu_base.specs.declared.faults.FaultKind.{FaultKind}
 use Rattle.djvu_base.specs.declared.faults.FaultKind.TheVariants as fault
-use Rattle.jb2_numbers.specs.Number.{Chunk}
+use Rattle.zp_decoder.specs.Chunk.{Chunk}
 use Rattle.bit_plane.specs.Ink.{unsigned}
 use Rattle.jb2_records.specs.Limits.{shape_limit, placed_limit, placed_pixel_limit}
 use Rattle.jb2_places.specs.Place.{Placement}

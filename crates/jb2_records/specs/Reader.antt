@@ -5,7 +5,7 @@ use Rattle.std.specs.declared.sync.Arc.{Arc}
 use Rattle.djvu_base.specs.Meter.{ticked, TicksExactly}
 use Rattle.zp_table.specs.declared.rows.Row.{Row}
 use Rattle.bit_plane.specs.Pixels.{Pixels, area_limit, side_limit}
-use Rattle.jb2_numbers.specs.Number.{chunk}
+use Rattle.zp_decoder.specs.Chunk.{chunk}
 use Rattle.jb2_records.specs.declared.reader.Jb2Step.{Jb2Step}
 use Rattle.jb2_records.specs.declared.reader.Jb2Step.TheVariants as answer
 use Rattle.jb2_records.specs.Reading.{Input, Mask, records_of}

@@ -4,16 +4,19 @@ use Rattle.djvu_base.specs.Meter.{TicksExactly}
 use Rattle.zp_table.specs.Rows.{IsTable}
 use Rattle.zp_decoder.specs.declared.decoder.Decision.{Decision}
 use Rattle.zp_decoder.specs.Decision.{Interval, Adaptive, outcome_of, counted}
-use Rattle.zp_decoder.specs.Decoder.{Decoder, Fed, IsStanding, is_all, room_left}
+use Rattle.zp_decoder.specs.Runs.{IsStanding}
+use Rattle.zp_decoder.specs.Decoder.{Decoder, Fed, is_all, room_left}
 use Rattle.bit_plane.specs.Pixels.{Pixels}
 use Rattle.jb2_numbers.specs.declared.reader.NumberStep.{NumberStep}
-use Rattle.jb2_numbers.specs.Contexts.{Name, Numbers, states_of}
+use Rattle.jb2_numbers.specs.Kept.{Numbers, states_of}
+use Rattle.jb2_numbers.specs.Contexts.{Name}
 use Rattle.jb2_numbers.specs.Number as numbers
-use Rattle.jb2_numbers.specs.Number.{Chunk, chunk, Wanted, begun, read_on, answer_at}
+use Rattle.zp_decoder.specs.Chunk.{Chunk, chunk}
+use Rattle.jb2_numbers.specs.Number.{Wanted, begun, read_on, answer_at}
 use Rattle.jb2_numbers.specs.Reader as reading
-use Rattle.jb2_numbers.specs.Reader.{Reader}
+use Rattle.jb2_numbers.specs.Reader.{Reader, step_of}
 use Rattle.jb2_shapes.specs.declared.steps.ShapeStep.{ShapeStep}
-use Rattle.jb2_shapes.specs.Contexts.{States}
+use Rattle.zp_decoder.specs.States.{States}
 use Rattle.jb2_shapes.specs.Shape as shapes
 use Rattle.jb2_shapes.specs.Shape.{Sketch, Progress, progress, reading_of}
 
@@ -68,7 +71,7 @@ pub record Pends (wanted : Wanted) (source : Chunk) (before : ℕ) (states : Nam
 
 -- a number was read, as the chunk has it
 pub record Counts (wanted : Wanted) (source : Chunk) (before : ℕ) (states : Name → ℕ) (place : Option Interval) (step : NumberStep) (contexts : Numbers) (unread : Unread) (zp : Decoder) (count : ℕ) : Type 0 where
-  pub answer : step ≡ answer_at wanted source (read_on wanted source (begun states place))
+  pub answer : step ≡ step_of (answer_at wanted source (read_on wanted source (begun states place)))
   pub states_are : states_of contexts ≡ (read_on wanted source (begun states place)).states
   pub takes : Takes source (read_on wanted source (begun states place)).place unread zp
   pub ticks : TicksExactly (read_on wanted source (begun states place)).coded before count

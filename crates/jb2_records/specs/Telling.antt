@@ -3,10 +3,10 @@ use Rattle.std.specs.Prelude.{◌≡◌, ℕ, ◌<◌, List, length, Option, Som
 use Rattle.djvu_base.specs.Meter.{TicksExactly}
 use Rattle.zp_decoder.specs.Decoder.{Decoder}
 use Rattle.djvu_base.specs.declared.faults.FaultKind.{FaultKind}
-use Rattle.jb2_numbers.specs.Contexts as numbers
-use Rattle.jb2_numbers.specs.Contexts.{Numbers}
-use Rattle.jb2_numbers.specs.Number.{Chunk}
-use Rattle.jb2_shapes.specs.Contexts as shapes
+use Rattle.jb2_numbers.specs.Kept as numbers
+use Rattle.zp_decoder.specs.States.{AreBelow}
+use Rattle.jb2_numbers.specs.Kept.{Numbers}
+use Rattle.zp_decoder.specs.Chunk.{Chunk}
 use Rattle.jb2_shapes.specs.Numbers as cells
 use Rattle.jb2_shapes.specs.Numbers.{Cells}
 use Rattle.jb2_records.specs.declared.stops.Stop.{Stop}
@@ -28,8 +28,8 @@ pub record Parts : Type 0 where
 -- the decoder is told the end in time, and each state is a row of its table
 pub record IsReady (parts : Parts) : Type 0 where
   pub feeds : Feeds parts.unread parts.zp
-  pub numbers : numbers.AreBelow (length parts.zp.table) parts.numbers
-  pub pixels : shapes.AreBelow (length parts.zp.table) (cells.states_of parts.pixels)
+  pub numbers : AreBelow (length parts.zp.table) (numbers.states_of parts.numbers)
+  pub pixels : AreBelow (length parts.zp.table) (cells.states_of parts.pixels)
   pub flag : parts.flag < length parts.zp.table
   pub row : parts.row < length parts.zp.table
 

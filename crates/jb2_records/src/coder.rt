@@ -3,8 +3,8 @@
 ghost use Rattle.std.specs.Prelude.{◌≡◌, ◌*◌, ◌≤◌, ◌≤ℤ◌, IfOk};
 ghost use Rattle.std.specs.Arc.{arc_value};
 ghost use Rattle.bit_plane.specs.Pixels.{area_limit, side_limit};
-ghost use Rattle.jb2_numbers.specs.Contexts.{at_start};
-ghost use Rattle.jb2_numbers.specs.Number.{Chunk, chunk};
+ghost use Rattle.zp_decoder.specs.States.{fresh};
+ghost use Rattle.zp_decoder.specs.Chunk.{Chunk, chunk};
 ghost use Rattle.jb2_numbers.specs.Reader.{AreBounds};
 ghost use Rattle.jb2_records.specs.Coding.{Coder as Place, chunk_start, read_number, read_flag, read_row, read_direct, read_refined};
 ghost use Rattle.jb2_records.specs.Reading.{with_fresh_numbers};
@@ -14,7 +14,6 @@ use crate::stops::Stop;
 use crate::unread::{Unread, is_all, sound_rows};
 use bit_plane::Plane;
 use djvu_base::{CountMeter, FaultKind};
-use jb2_numbers::laws::states_are_below;
 use jb2_numbers::{NumberContexts, NumberReader, NumberStep, Root};
 use jb2_shapes::{DirectReader, RefineReader, ShapeContexts, ShapeStep};
 use std::alloc::{AllocError, Global};
@@ -90,7 +89,6 @@ impl Coder {
             Told (λ number. number) source (read_number source root low high at) result self.new }
         ensures within { IfOk result (λ number. (low ≤ℤ number) × (number ≤ℤ high)) }
     {
-        states_are_below();
         self.zp.was_fed();
         let mut reader = NumberReader::begin(low, high, root);
         match self.unread.number(

@@ -1,6 +1,6 @@
 //! Where the marks of records are placed (`specs/Reading.antt`).
 ghost use Rattle.std.specs.Prelude.{◌≡◌, List, OnOk};
-ghost use Rattle.jb2_numbers.specs.Number.{Chunk};
+ghost use Rattle.zp_decoder.specs.Chunk.{Chunk};
 ghost use Rattle.jb2_records.specs.Records.{Record, Relative};
 ghost use Rattle.jb2_records.specs.Coding.{Coder as Place};
 ghost use Rattle.jb2_records.specs.Reading.{read_steps, read_relative, read_place};

@@ -2,7 +2,7 @@
 ghost use Rattle.std.specs.Prelude.{◌≡◌, ◌<◌, ℕ, ℤ, List, length, true, false, nat_lt, None, IfOk};
 ghost use Rattle.std.specs.Arc.{arc_value};
 ghost use Rattle.bit_plane.specs.Pixels.{Pixels};
-ghost use Rattle.jb2_numbers.specs.Number.{Chunk};
+ghost use Rattle.zp_decoder.specs.Chunk.{Chunk};
 ghost use Rattle.jb2_records.specs.declared.types.RecordType.TheVariants as type;
 ghost use Rattle.jb2_records.specs.Records.{Record, Relative};
 ghost use Rattle.jb2_records.specs.Coding.{Coder as Place, Read};

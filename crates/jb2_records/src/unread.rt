@@ -5,11 +5,12 @@ ghost use Rattle.djvu_base.specs.Meter.{TicksExactly};
 ghost use Rattle.zp_table.specs.Rows.{IsTable};
 ghost use Rattle.zp_decoder.specs.Decision.{Interval};
 ghost use Rattle.zp_decoder.specs.Decoder.{Fed, bytes_wanted, is_all};
-ghost use Rattle.jb2_numbers.specs.Contexts as number_contexts;
+ghost use Rattle.jb2_numbers.specs.Kept.{states_of};
 ghost use Rattle.jb2_numbers.specs.Contexts.{Name};
-ghost use Rattle.jb2_numbers.specs.Number.{Chunk, Wanted};
+ghost use Rattle.zp_decoder.specs.Chunk.{Chunk};
+ghost use Rattle.jb2_numbers.specs.Number.{Wanted};
 ghost use Rattle.jb2_numbers.specs.Reader.{AreBounds};
-ghost use Rattle.jb2_shapes.specs.Contexts as pixel_contexts;
+ghost use Rattle.zp_decoder.specs.States.{AreBelow};
 ghost use Rattle.jb2_shapes.specs.Numbers as cells;
 ghost use Rattle.jb2_shapes.specs.Shape.{progress, direct_context, direct_reading, IsWhole};
 ghost use Rattle.jb2_shapes.specs.Refined.{refined_reading};
@@ -119,12 +120,12 @@ impl Unread {
         meter: &mut M,
     ) -> NumberStep
         requires feeds { Feeds self.old zp.old }
-        requires below { number_contexts.AreBelow (length zp.old.table) contexts.old }
+        requires below { AreBelow (length zp.old.table) (states_of contexts.old) }
         ensures counts { (wanted : Wanted) (source : Chunk) (before : ℕ) (states : Name → ℕ) (place : Option Interval) → result ≢ NumberStep.OutOfMemory → AreBounds wanted.low wanted.high →
             Pends wanted source before states place reader.old contexts.old self.old zp.old (M.count meter.old) →
             Counts wanted source before states place result contexts.new self.new zp.new (M.count meter.new) }
         ensures feeds { Feeds self.new zp.new }
-        ensures below { number_contexts.AreBelow (length zp.new.table) contexts.new }
+        ensures below { AreBelow (length zp.new.table) (states_of contexts.new) }
         ensures table { zp.new.table ≡ zp.old.table }
     {
         taken_bytes_decide();
@@ -150,7 +151,7 @@ impl Unread {
         meter: &mut M,
     ) -> ShapeStep
         requires feeds { Feeds self.old zp.old }
-        requires below { pixel_contexts.AreBelow (length zp.old.table) (cells.states_of contexts.old) }
+        requires below { AreBelow (length zp.old.table) (cells.states_of contexts.old) }
         ensures draws { (source : Chunk) (place : Option Interval) → Takes source place self.old zp.old →
             HasDrawn (direct_reading source.table source.payload source.ended (progress reader.old (cells.states_of contexts.old) place)) source result reader.new (cells.states_of contexts.new) self.new zp.new }
         ensures done { result ≡ ShapeStep.Done → IsWhole reader.new }
@@ -159,7 +160,7 @@ impl Unread {
         ensures grows { reader.old.number ≤ reader.new.number }
         ensures ticks { TicksExactly (reader.new.number - reader.old.number) (M.count meter.old) (M.count meter.new) }
         ensures feeds { Feeds self.new zp.new }
-        ensures below { pixel_contexts.AreBelow (length zp.new.table) (cells.states_of contexts.new) }
+        ensures below { AreBelow (length zp.new.table) (cells.states_of contexts.new) }
         ensures table { zp.new.table ≡ zp.old.table }
     {
         taken_bytes_decide();
@@ -185,7 +186,7 @@ impl Unread {
         meter: &mut M,
     ) -> ShapeStep
         requires feeds { Feeds self.old zp.old }
-        requires below { pixel_contexts.AreBelow (length zp.old.table) (cells.states_of contexts.old) }
+        requires below { AreBelow (length zp.old.table) (cells.states_of contexts.old) }
         ensures draws { (source : Chunk) (place : Option Interval) → Takes source place self.old zp.old →
             HasDrawn (refined_reading reader.old.matched source.table source.payload source.ended (progress reader.old.sketch (cells.states_of contexts.old) place)) source result reader.new.sketch (cells.states_of contexts.new) self.new zp.new }
         ensures done { result ≡ ShapeStep.Done → IsWhole reader.new.sketch }
@@ -195,7 +196,7 @@ impl Unread {
         ensures grows { reader.old.sketch.number ≤ reader.new.sketch.number }
         ensures ticks { TicksExactly (reader.new.sketch.number - reader.old.sketch.number) (M.count meter.old) (M.count meter.new) }
         ensures feeds { Feeds self.new zp.new }
-        ensures below { pixel_contexts.AreBelow (length zp.new.table) (cells.states_of contexts.new) }
+        ensures below { AreBelow (length zp.new.table) (cells.states_of contexts.new) }
         ensures table { zp.new.table ≡ zp.old.table }
     {
         taken_bytes_decide();

@@ -1,4 +1,4 @@
-use Rattle.jb2_numbers.specs.Number.{Chunk}
+use Rattle.zp_decoder.specs.Chunk.{Chunk}
 use Rattle.jb2_records.specs.Coding.{Coder}
 use Rattle.jb2_records.specs.Telling.{Stands}
 use Rattle.jb2_records.proofs.Texting.{GoesText}

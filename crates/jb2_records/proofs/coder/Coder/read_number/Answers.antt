@@ -33,7 +33,7 @@ on c =
           (subst (λ (high : ℤ). Reads (wanted c.args.root (to_z w32 (of_z w32 c.args.low)) high) [] c.begin-reader.result) high_is c.begin-reader.ensures);
       counts = λ source before states place. c.number.ensures.counts (wanted c.args.root c.args.low c.args.high) source before states place;
       bounds = c.requires;
-      below = λ name. c.states_are_below.ensures (length c.self.inside.zp.table) c.self.inside.numbers name c.self.invariant.numbers;
+      below = c.self.invariant.numbers;
       pixels = refl;
       flag = refl;
       row = refl;

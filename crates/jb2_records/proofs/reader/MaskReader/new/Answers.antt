@@ -1,7 +1,6 @@
 use Rattle.std.proofs.Common.{ℕ, List, false, refl, sym, subst}
 use Rattle.std.specs.Arc.{arc_value}
-use Rattle.jb2_records.specs.Reader.{Fed, inherited_of}
-use Rattle.jb2_records.specs.Reader.{IsMaskSize}
+use Rattle.jb2_records.specs.Reader.{Fed, inherited_of, IsMaskSize}
 use Rattle.jb2_records.proofs.Feeding.{fed_new}
 use Rattle.jb2_records.proofs.reader.MaskReader.new.Goals as goal
 use Rattle.zp_table.specs.Rows.{IsTable}

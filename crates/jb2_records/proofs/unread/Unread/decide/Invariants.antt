@@ -1,7 +1,7 @@
 use Rattle.std.proofs.Common.{◌≡◌, ◌<◌, ℕ, length}
 use Rattle.std.specs.Prelude.{Option}
 use Rattle.zp_decoder.specs.Decision.{Interval}
-use Rattle.jb2_numbers.specs.Number.{Chunk}
+use Rattle.zp_decoder.specs.Chunk.{Chunk}
 use Rattle.jb2_records.specs.Taking.{Feeds, Takes}
 use Rattle.jb2_records.proofs.unread.Unread.decide.Given as goal
 

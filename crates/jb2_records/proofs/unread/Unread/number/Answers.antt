@@ -1,7 +1,8 @@
 use Rattle.std.proofs.Common.{◌≡◌, ◌≢◌, List, length, sym, subst, ◌∙◌}
 use Rattle.zp_table.specs.declared.rows.Row.{Row}
 use Rattle.jb2_numbers.specs.declared.reader.NumberStep.TheVariants as number
-use Rattle.jb2_numbers.specs.Contexts.{AreBelow}
+use Rattle.zp_decoder.specs.States.{AreBelow}
+use Rattle.jb2_numbers.specs.Kept.{states_of}
 use Rattle.jb2_records.proofs.Numbering.{Advances, counts_end, counts_need, pends_more}
 use Rattle.jb2_records.proofs.unread.Unread.number.Goals as goal
 
@@ -35,6 +36,6 @@ bytes-preserved g c =
           bounds on c.bytes.invariant.feeds (c.bytes.invariant.pends wanted source before states place bounds pends) some
           c.offer.new.self c.offer.new.zp (c.offer.ensures.fewer c.if-not-offer.false) c.offer.ensures.takes;
       feeds = c.offer.ensures.feeds;
-      below = subst (λ (t : List Row). AreBelow (length t) c.advance-step.new.contexts) (sym c.offer.ensures.table) c.advance-step.ensures.below;
+      below = subst (λ (t : List Row). AreBelow (length t) (states_of c.advance-step.new.contexts)) (sym c.offer.ensures.table) c.advance-step.ensures.below;
       table = c.offer.ensures.table ∙ c.advance-step.ensures.table ∙ c.bytes.invariant.table;
     }

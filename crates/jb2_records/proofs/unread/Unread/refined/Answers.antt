@@ -1,6 +1,6 @@
 use Rattle.std.proofs.Common.{◌≡◌, List, length, sym, ap, subst, ◌∙◌, arith}
 use Rattle.zp_table.specs.declared.rows.Row.{Row}
-use Rattle.jb2_shapes.specs.Contexts.{AreBelow}
+use Rattle.zp_decoder.specs.States.{AreBelow}
 use Rattle.jb2_shapes.specs.Numbers.{states_of}
 use Rattle.jb2_shapes.specs.Shape.{progress, reading_of}
 use Rattle.zp_decoder.specs.Decoder.{Fed}

@@ -2,8 +2,8 @@ use Rattle.std.proofs.Common.{◌≡◌, ◌≤◌, ◌-◌, ℕ, length}
 use Rattle.std.specs.Prelude.{Option}
 use Rattle.djvu_base.specs.Meter.{TicksExactly}
 use Rattle.zp_decoder.specs.Decision.{Interval}
-use Rattle.jb2_numbers.specs.Number.{Chunk}
-use Rattle.jb2_shapes.specs.Contexts.{AreBelow}
+use Rattle.zp_decoder.specs.Chunk.{Chunk}
+use Rattle.zp_decoder.specs.States.{AreBelow}
 use Rattle.jb2_shapes.specs.Numbers.{states_of}
 use Rattle.jb2_shapes.specs.Shape.{progress}
 use Rattle.jb2_records.proofs.Offering.{beside}

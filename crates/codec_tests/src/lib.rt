@@ -9,6 +9,8 @@ mod decisions;
 #[cfg(test)]
 mod drawings;
 #[cfg(test)]
+mod notices;
+#[cfg(test)]
 mod numbers;
 #[cfg(test)]
 mod places;

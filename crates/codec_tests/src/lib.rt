@@ -11,6 +11,8 @@ mod drawings;
 #[cfg(test)]
 mod note;
 #[cfg(test)]
+mod notices;
+#[cfg(test)]
 mod numbers;
 #[cfg(test)]
 mod places;

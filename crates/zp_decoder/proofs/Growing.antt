@@ -6,8 +6,7 @@ use Rattle.zp_table.specs.declared.rows.Row.{Row}
 use Rattle.zp_table.specs.Rows.{IsTable}
 use Rattle.zp_decoder.specs.Bits.{bit_in, bit_at, bits_from}
 use Rattle.zp_decoder.specs.Decision.{Form, Interval, interval, interval_at, split_of, cut, shift, shifted, most_bits, after, is_determined, is_exhausted, outcome_of, outcome_from}
-use Rattle.zp_decoder.specs.Decoder.{IsStanding}
-use Rattle.zp_decoder.specs.Runs.{IsFormOf}
+use Rattle.zp_decoder.specs.Runs.{IsStanding, IsFormOf}
 use Rattle.zp_decoder.proofs.Shifting.{shifted-step, shifted-stop}
 use Rattle.zp_decoder.proofs.Within.{high_or_low, BetweenFacts, facts_of_place, split_facts, after_facts, le_from_le_true}
 
@@ -53,7 +52,7 @@ cut-n_by : (z : ℕ) (at : Interval) (less : Bool) → nat_lt at.code z ≡ less
 cut-n_by z at true e = rw e refl
 cut-n_by z at false e = rw e refl
 
-cut-n : (z : ℕ) (at : Interval) → (cut z at).n ≡ at.n
+pub cut-n : (z : ℕ) (at : Interval) → (cut z at).n ≡ at.n
 cut-n z at = cut-n_by z at (nat_lt at.code z) refl
 
 after-append : (payload more : List ℕ) (z : ℕ) (at : Interval) → at.n + 32 ≤ 8 * length payload → after (payload ++ more) z at ≡ after payload z at

@@ -1,8 +1,12 @@
 -- What crates above may cite of the proofs here. All else may change with the code.
--- each decoder was fed something, and how much room that leaves
-pub use Rattle.zp_decoder.proofs.Standing.{is_fed, room_is}
+-- how much room a decoder's payload and place leave, and how few bytes it took
+pub use Rattle.zp_decoder.proofs.Feeding.{room_is, few_is}
 -- what a decision answers, the bounds that it keeps, and the room that it leaves
 pub use Rattle.zp_decoder.proofs.Within.{Comes, comes, needs, exhausts, moves, standing, state_below, fewer, facts_of_place}
 pub use Rattle.zp_decoder.proofs.Within.{le_from_le_true, between_facts, between-from_facts}
 -- with more bytes a decision is the same
 pub use Rattle.zp_decoder.proofs.Growing.{grown}
+-- a decision over the bytes that were taken, beside one over the payload
+pub use Rattle.zp_decoder.proofs.Taking.{taken_same, wanted, fits}
+-- states by their names
+pub use Rattle.zp_decoder.proofs.StateLemmas.{are_same-true, are_same-refl, stored_here, stored_elsewhere, stored_below, fresh_below}

@@ -1,37 +1,43 @@
--- How a decoder stands to the bytes that it was fed.
-use Rattle.std.specs.Prelude.{◌≡◌, ℕ, ◌+◌, ◌*◌, Bool, true, ◌&&◌, List, Option, Some, None, nat_lt, nat_le, IsTrue}
+-- How a decoder stands to the bytes that it took.
+use Rattle.std.specs.Prelude.{◌≡◌, ℕ, ◌+◌, ◌-◌, ◌*◌, ◌/◌, ◌≤◌, ◌⊎◌, Bool, false, ◌&&◌, ◌||◌, ◌==◌, List, [], ◌∷◌, length, Option, None, nat_lt, nat_le}
 use Rattle.zp_table.specs.declared.rows.Row.{Row}
-use Rattle.zp_decoder.specs.Decision.{Interval}
-use Rattle.zp_decoder.specs.Runs.{room}
+use Rattle.zp_decoder.specs.Decision.{Interval, interval_at}
+use Rattle.zp_decoder.specs.declared.standing.Standing.{Standing}
+use Rattle.zp_decoder.specs.Window.{Stands}
 
--- what only the decoder itself reads
-pub record Kept : Type 0 where
-  pub bytes : List ℕ
-  pub place : Option Interval
-
--- the state table, whether the bytes so far are the whole chunk, and what is kept of them
+-- the state table, whether the bytes taken are the whole chunk, and what only the decoder itself reads
 pub record Decoder : Type 0 where
   pub table : List Row
   pub ended : Bool
-  pub kept : Kept
+  pub kept : Standing
 
--- since its chunk began the decoder was fed this payload, and its last decision led to this place, which is none at the
--- start
+-- while bytes may come, the code has bits of the payload alone once something is decided
+abbrev pub IsSettled : List ℕ → Option Interval → Bool → Type 0
+IsSettled payload place ended = ended ≡ false → (place ≡ None) ⊎ ((interval_at payload place).n + 16 ≤ 8 * length payload)
+
+-- since its chunk began the decoder took this payload, and its last decision led to this place, which is none at the start
 unfoldable pub Fed : List ℕ → Option Interval → Decoder → Type 0
-Fed payload place decoder = (decoder.kept.bytes ≡ payload) × (decoder.kept.place ≡ place)
+Fed payload place decoder = Stands payload (interval_at payload place) decoder.kept × IsSettled payload place decoder.ended
+
+-- it took some payload, and stands at some place
+unfoldable pub IsFed : Decoder → Type 0
+IsFed decoder = (payload : List ℕ) × (place : Option Interval) × Fed payload place decoder
+
+-- how many bytes more are taken, at most: those with which 192 bits more than were shifted in are there, or fewer
+abbrev pub bytes_wanted : List ℕ → Option Interval → ℕ
+bytes_wanted payload place = ((interval_at payload place).n + 192 - 8 * length payload) / 8
+
+-- whether bytes taken are a whole chunk, where these are left of its payload, which is all of it or not
+abbrev pub is_all : List ℕ → Bool → Bool
+is_all [] ended = ended
+is_all (byte ∷ left) ended = false
 
 -- how many bits can still be decided, at most, with the bytes so far
 unfoldable pub room_left : Decoder → ℕ
-room_left decoder = room decoder.kept.bytes decoder.kept.place
+room_left decoder = 0x8000 * (decoder.kept.spare + 1) - decoder.kept.a
 
--- between decisions a is below 8000 hexadecimal and at most code, code is below 10000 hexadecimal, and of the bits in
--- use at most 192 lie past the end of so many bytes
-abbrev pub is_between : ℕ → Interval → Bool
-is_between size at = nat_lt at.a 0x8000 && nat_le at.a at.code && nat_lt at.code 0x10000 && nat_le at.n (8 * size + 176)
-
-abbrev pub is_standing : ℕ → Option Interval → Bool
-is_standing size None = true
-is_standing size (Some at) = is_between size at
-
-abbrev pub IsStanding : ℕ → Option Interval → Type 0
-IsStanding size place = IsTrue (is_standing size place)
+-- what holds of what is kept, whatever was taken
+abbrev pub is_sound : Bool → Standing → Bool
+is_sound ended kept =
+    nat_lt kept.a 0x8000 && nat_le kept.a kept.code && nat_lt kept.code 0x10000 && nat_le kept.spare 368
+    && (ended || (nat_le 176 kept.spare && (nat_le 192 kept.spare || kept.a == 0)))

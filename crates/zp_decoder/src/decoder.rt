@@ -1,13 +1,13 @@
-//! The decoder. It keeps the bytes of its chunk, and shifts one bit in at a time.
-ghost use Rattle.std.specs.Prelude.{◌≡◌, ◌<◌, ◌≤◌, ℕ, List, [], ◌++◌, length, Bool, true, false, Option, None, OnOk, OnErr};
+//! The decoder. Of the bytes of its chunk it keeps those that aren't shifted in yet.
+ghost use Rattle.std.specs.Prelude.{◌≡◌, ◌<◌, ◌≤◌, ℕ, List, [], ◌++◌, take, min, length, nat_lt, nat_le, not, ◌&&◌, ◌⊎◌, Bool, true, false, Option, None, if◌then◌else◌};
 ghost use Rattle.std.specs.Arc.{arc_value};
-ghost use Rattle.zp_decoder.specs.Decision.{Interval, Adaptive, Pass, Iw, outcome_of, outcome_at, interval_at, counted, next_state};
-ghost use Rattle.zp_decoder.specs.Decoder.{Fed, room_left};
+ghost use Rattle.zp_decoder.specs.Decision.{Form, Interval, Adaptive, Pass, Iw, outcome_of, outcome_at, probable_of, interval_at, interval, counted, next_state};
+ghost use Rattle.zp_decoder.specs.Decoder.{Fed, bytes_wanted, room_left};
+ghost use Rattle.zp_decoder.specs.Runs.{IsStanding};
 
-use crate::interval::{Interval, adaptive_split, interval_at, iw_split, pass_split};
-use crate::steps::{Step, make_step};
+use crate::interval::{adaptive_split, iw_split, pass_split};
+use crate::standing::{Standing, leading_ones};
 use djvu_base::Meter;
-use std::alloc::{AllocError, Global};
 use std::marker::Model;
 use std::sync::Arc;
 use zp_table::{Row, Table};
@@ -17,67 +17,73 @@ use zp_table::{Row, Table};
 pub enum Decision {
     /// The bit.
     Bit(bool),
-    /// The bytes that arrived don't determine it: exactly where fewer than 32 bits follow those that were shifted in,
+    /// The bytes taken don't determine it: exactly where fewer than 32 bits follow those that were shifted in,
     /// and more bytes of the chunk may come.
     NeedBytes,
-    /// All bytes of the chunk arrived, and with it more than 192 bits past their end would be in use.
+    /// The bytes taken are the whole chunk, and with it more than 192 bits past their end would be in use.
     Exhausted,
 }
 
 /// Decodes the bits of a chunk that arrives in pieces.
 ///
 /// Contracts see its table and whether the chunk ended. They speak of the rest by `Fed payload place decoder`: since the
-/// chunk began it was fed this payload, and its last decision led to this place. What a decision answers, and where it
+/// chunk began it took this payload, and its last decision led to this place. What a decision answers, and where it
 /// leads, is `outcome_of` of the table, its form, the payload and the place (DjVu 3 reference, ZP-Coder).
 #[derive(Debug, Drop)]
 pub struct ZpDecoder {
-    rows: Arc<Table>,
-    bytes: Vec<u8>,
-    is_whole: bool,
-    place: Option<Interval>,
+    table: Arc<Table>,
+    ended: bool,
+    kept: Standing,
 }
 
 impl Model for ZpDecoder {
-    ghost use Rattle.std.specs.Prelude.{length};
+    ghost use Rattle.std.specs.Prelude.{IsTrue};
     ghost use Rattle.std.specs.Arc.{arc_value};
-    ghost use Rattle.zp_decoder.specs.Decoder.{Decoder, IsStanding};
+    ghost use Rattle.zp_decoder.specs.Decoder.{Decoder, is_sound, IsFed};
 
     ghost Value = { Decoder };
 
-    ghost view = { λ a. record { table = arc_value a.rows; ended = a.is_whole; kept = record { bytes = a.bytes.items; place = a.place } } };
+    ghost view = { λ a. record { table = arc_value a.table; ended = a.ended; kept = a.kept } };
 
-    ghost invariant = { λ a. IsStanding (length a.bytes.items) a.place };
+    ghost invariant = { λ a. IsTrue (is_sound a.ended a.kept) × IsFed (record { table = arc_value a.table; ended = a.ended; kept = a.kept }) };
 }
 
 impl ZpDecoder {
-    /// A decoder at the start of a chunk of which no byte arrived.
+    /// A decoder at the start of a chunk of which no byte was taken.
     #[tactic(auto, unfolding(crate::specs::Decoder::Fed))]
-    pub fn new(alloc: Global, table: Arc<Table>) -> ZpDecoder
+    pub fn new(table: Arc<Table>) -> ZpDecoder
         ensures table { result.table ≡ arc_value table }
         ensures open_end { result.ended ≡ false }
         ensures fed { Fed [] None result }
     {
         ZpDecoder {
-            rows: table,
-            bytes: Vec::new(alloc),
-            is_whole: false,
-            place: None,
+            table,
+            ended: false,
+            kept: Standing::new(),
         }
     }
 
-    /// The next bytes of the chunk, which hasn't ended. Where there is no memory for them, nothing changes.
+    /// Takes the next bytes of the chunk, which hasn't ended, until 192 bits more than were shifted in are there, and
+    /// tells how many these are.
     #[tactic(auto, unfolding(crate::specs::Decoder::Fed))]
-    pub fn push(&mut self, piece: &[u8]) -> Result<(), AllocError>
+    pub fn push(&mut self, piece: &[u8]) -> usize
         requires { self.old.ended ≡ false }
-        ensures fed { OnOk result ((payload : List ℕ) (place : Option Interval) → Fed payload place self.old → Fed (payload ++ piece.now) place self.new) }
+        ensures taken { (payload : List ℕ) (place : Option Interval) → Fed payload place self.old → result ≡ min (length piece.now) (bytes_wanted payload place) }
+        ensures fed { (payload : List ℕ) (place : Option Interval) → Fed payload place self.old → Fed (payload ++ take result piece.now) place self.new }
+        ensures within { result ≤ length piece.now }
         ensures table { self.new.table ≡ self.old.table }
         ensures open_end { self.new.ended ≡ false }
-        ensures err { OnErr result (self.new ≡ self.old) }
     {
-        self.bytes.extend_from_slice(piece)
+        let wanted = ((368 - self.kept.spare) / 8) as usize;
+        let count = wanted.min(piece.len());
+        let taken = &piece[..count];
+        for byte in taken {
+            self.kept = self.kept.with(*byte);
+        }
+        count
     }
 
-    /// The bytes so far are the whole chunk. A further call changes nothing.
+    /// The bytes taken are the whole chunk. A further call changes nothing.
     #[tactic(auto, unfolding(crate::specs::Decoder::Fed))]
     pub fn end(&mut self)
         ensures fed { (payload : List ℕ) (place : Option Interval) → Fed payload place self.old → Fed payload place self.new }
@@ -85,24 +91,31 @@ impl ZpDecoder {
         ensures ended { self.new.ended ≡ true }
         ensures again { self.old.ended ≡ true → self.new ≡ self.old }
     {
-        self.is_whole = true;
+        self.ended = true;
     }
 
-    /// Begins a new chunk, of which no byte arrived.
+    /// It took some payload, and what was decided led to some place: a fact for proofs, which costs nothing.
+    pub fn was_fed(&self)
+        ensures some { (payload : List ℕ) × (place : Option Interval) × Fed payload place self.now }
+        ensures standing { (payload : List ℕ) (place : Option Interval) → Fed payload place self.now → IsStanding (length payload) place }
+    {
+        let _ = &self.table;
+    }
+
+    /// Begins a new chunk, of which no byte was taken.
     #[tactic(auto, unfolding(crate::specs::Decoder::Fed))]
     pub fn restart(&mut self)
         ensures fed { Fed [] None self.new }
         ensures table { self.new.table ≡ self.old.table }
         ensures open_end { self.new.ended ≡ false }
     {
-        self.bytes.clear();
-        self.is_whole = false;
-        self.place = None;
+        self.ended = false;
+        self.kept = Standing::new();
     }
 
     /// Decides a bit in a context, whose state moves by the table. A bit ticks the meter once; the other two answers
     /// change nothing.
-    #[tactic(auto, using(crate::proofs::Deciding::place_same), unfolding(crate::specs::Decoder::Fed))]
+    #[tactic(auto, unfolding(crate::specs::Decoder::Fed))]
     pub fn decode<M: Meter>(&mut self, ctx: &mut u8, meter: &mut M) -> Decision
         requires { ctx.old < length self.old.table }
         // For every payload that it was fed, the definition's answer, place and state.
@@ -123,18 +136,18 @@ impl ZpDecoder {
         ensures needs { result ≡ Decision.NeedBytes → (self.new ≡ self.old) × (ctx.new ≡ ctx.old) × (meter.new ≡ meter.old) }
         ensures exhausted { result ≡ Decision.Exhausted → (self.new ≡ self.old) × (ctx.new ≡ ctx.old) × (meter.new ≡ meter.old) }
     {
-        let row = self.rows.row(*ctx);
-        let from = interval_at(self.bytes.as_slice(), self.place);
-        let z = adaptive_split(row.p, from.a);
-        match self.decide(z, meter) {
-            Decision::Bit(is_less) => {
-                let is_odd = *ctx % 2 == 1;
-                *ctx = next_state(row, *ctx, z, from);
-                Decision::Bit(if is_less { !is_odd } else { is_odd })
-            }
-            Decision::NeedBytes => Decision::NeedBytes,
-            Decision::Exhausted => Decision::Exhausted,
+        let row = self.table.row(*ctx);
+        let a = self.kept.a;
+        let code = self.kept.code;
+        let z = adaptive_split(row.p, a);
+        if is_quiet(z, code, self.kept.spare, self.ended) {
+            self.kept.a = z;
+            meter.tick();
+            return Decision::Bit(*ctx % 2 == 1);
         }
+        let answer = self.decide(z, *ctx % 2 == 1, meter);
+        *ctx = state_after(answer, row, *ctx, z, a, code);
+        answer
     }
 
     /// Decides a bit without a context.
@@ -153,8 +166,7 @@ impl ZpDecoder {
         ensures needs { result ≡ Decision.NeedBytes → (self.new ≡ self.old) × (meter.new ≡ meter.old) }
         ensures exhausted { result ≡ Decision.Exhausted → (self.new ≡ self.old) × (meter.new ≡ meter.old) }
     {
-        let from = interval_at(self.bytes.as_slice(), self.place);
-        self.decide(pass_split(from.a), meter)
+        self.decide(pass_split(self.kept.a), false, meter)
     }
 
     /// Decides a bit without a context, in the form of IW44's coefficients.
@@ -173,44 +185,87 @@ impl ZpDecoder {
         ensures needs { result ≡ Decision.NeedBytes → (self.new ≡ self.old) × (meter.new ≡ meter.old) }
         ensures exhausted { result ≡ Decision.Exhausted → (self.new ≡ self.old) × (meter.new ≡ meter.old) }
     {
-        let from = interval_at(self.bytes.as_slice(), self.place);
-        self.decide(iw_split(from.a), meter)
+        self.decide(iw_split(self.kept.a), false, meter)
     }
 
-    /// Decides a bit with this z: whether it is the less probable one.
+    /// Decides a bit with this z, where this is the more probable bit. Forms differ in nothing else.
     #[tactic(auto, unfolding(crate::specs::Decoder::Fed))]
-    fn decide<M: Meter>(&mut self, z: u32, meter: &mut M) -> Decision
+    fn decide<M: Meter>(&mut self, z: u32, probable: bool, meter: &mut M) -> Decision
         requires { z ≤ 0x10000 }
-        ensures answer { (payload : List ℕ) (place : Option Interval) → Fed payload place self.old →
-            result ≡ (outcome_at self.old.table Pass payload self.old.ended place z (interval_at payload place)).answer }
-        ensures fed { (payload : List ℕ) (place : Option Interval) → Fed payload place self.old →
-            Fed payload (outcome_at self.old.table Pass payload self.old.ended place z (interval_at payload place)).place self.new }
+        ensures answer { (form : Form) (payload : List ℕ) (place : Option Interval) → probable_of form ≡ probable → Fed payload place self.old →
+            result ≡ (outcome_at self.old.table form payload self.old.ended place z (interval_at payload place)).answer }
+        ensures fed { (form : Form) (payload : List ℕ) (place : Option Interval) → Fed payload place self.old →
+            Fed payload (outcome_at self.old.table form payload self.old.ended place z (interval_at payload place)).place self.new }
         ensures table { self.new.table ≡ self.old.table }
         ensures ended { self.new.ended ≡ self.old.ended }
         ensures ticks { M.count meter.new ≡ counted result (M.count meter.old) }
+        ensures fewer { (bit : Bool) → self.old.kept.a < z → z < 0x10000 → result ≡ Decision.Bit bit → room_left self.new < room_left self.old }
         ensures needs { result ≡ Decision.NeedBytes → (self.new ≡ self.old) × (meter.new ≡ meter.old) }
         ensures exhausted { result ≡ Decision.Exhausted → (self.new ≡ self.old) × (meter.new ≡ meter.old) }
     {
-        let from = interval_at(self.bytes.as_slice(), self.place);
-        match make_step(self.bytes.as_slice(), self.is_whole, z, from) {
-            Step::Made(next) => {
-                self.place = Some(next);
-                meter.tick();
-                Decision::Bit(from.code < z)
-            }
-            Step::NeedBytes => Decision::NeedBytes,
-            Step::Exhausted => Decision::Exhausted,
+        if lacks_bytes(self.kept.spare, self.ended) {
+            return Decision::NeedBytes;
         }
+        let bit = bit_of(z, self.kept.code, probable);
+        let next = self.kept.cut(z);
+        if next.a < 0x8000 {
+            self.kept = next;
+            meter.tick();
+            return Decision::Bit(bit);
+        }
+        let count = leading_ones(next.a);
+        if next.spare < count {
+            return Decision::Exhausted;
+        }
+        self.kept = next.shift(count);
+        meter.tick();
+        Decision::Bit(bit)
     }
 }
 
-/// The state of a context after a decision with this z.
-fn next_state(row: Row, state: u8, z: u32, from: Interval) -> u8
-    ensures { result ≡ next_state row state z from }
+/// Whether the bit is the more probable one, and nothing is shifted in: most decisions are so.
+fn is_quiet(z: u32, code: u32, spare: u32, ended: bool) -> bool
+    ensures { result ≡ (nat_lt z 0x8000 && nat_le z code && not (nat_lt spare 208 && not ended)) }
 {
-    if from.code < z {
+    z < 0x8000 && z <= code && !lacks_bytes(spare, ended)
+}
+
+/// Whether fewer than 32 bits follow those that were shifted in, and more may come.
+fn lacks_bytes(spare: u32, ended: bool) -> bool
+    ensures { result ≡ (nat_lt spare 208 && not ended) }
+{
+    spare < 208 && !ended
+}
+
+/// The bit of a code with this z: below it lies the less probable one.
+fn bit_of(z: u32, code: u32, probable: bool) -> bool
+    ensures { result ≡ (if nat_lt code z then not probable else probable) }
+{
+    if code < z { !probable } else { probable }
+}
+
+/// The state of a context after this answer to a decision with this z: without a bit it stays.
+fn state_after(answer: Decision, row: Row, state: u8, z: u32, a: u32, code: u32) -> u8
+    ensures bit { (bit : Bool) → answer ≡ Decision.Bit bit → result ≡ next_state row state z (interval a code 0) }
+    ensures needs { answer ≡ Decision.NeedBytes → result ≡ state }
+    ensures exhausted { answer ≡ Decision.Exhausted → result ≡ state }
+    ensures row { (result ≡ state) ⊎ (result ≡ row.up) ⊎ (result ≡ row.dn) }
+{
+    match answer {
+        Decision::Bit(_) => next_state(row, state, z, a, code),
+        Decision::NeedBytes => state,
+        Decision::Exhausted => state,
+    }
+}
+
+/// The state of a context after a bit that was decided with this z.
+fn next_state(row: Row, state: u8, z: u32, a: u32, code: u32) -> u8
+    ensures next { result ≡ next_state row state z (interval a code 0) }
+    ensures row { (result ≡ state) ⊎ (result ≡ row.up) ⊎ (result ≡ row.dn) }
+{
+    if code < z {
         row.dn
-    } else if z >= 0x8000 && from.a >= u32::from(row.m) {
+    } else if z >= 0x8000 && a >= u32::from(row.m) {
         row.up
     } else {
         state

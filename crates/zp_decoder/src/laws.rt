@@ -1,13 +1,13 @@
 //! Laws and worked values of the definitions, as clauses of functions that do nothing.
-ghost use Rattle.std.specs.Prelude.{◌≡◌, ◌+◌, ◌*◌, ◌<◌, ◌≤◌, ℕ, Bool, true, false, List, [], ◌∷◌, ◌++◌, ◌==◌, length, replicate, Option, Some, None, IsTrue};
+ghost use Rattle.std.specs.Prelude.{◌≡◌, ◌+◌, ◌*◌, ◌<◌, ◌≤◌, ℕ, Bool, true, false, List, [], ◌∷◌, ◌++◌, ◌==◌, length, replicate, Option, Some, None, IsTrue, ◌⊎◌, ◌↔◌};
 ghost use Rattle.zp_table.specs.declared.rows.Row.{Row};
 ghost use Rattle.zp_table.specs.Rows.{IsTable};
 ghost use Rattle.zp_table.specs.Listing.{djvu_rows, flat_rows};
 ghost use Rattle.zp_decoder.specs.declared.decoder.Decision.TheVariants as decision;
 ghost use Rattle.zp_decoder.specs.Bits.{bit_at};
 ghost use Rattle.zp_decoder.specs.Decision.{Form, Adaptive, Pass, Iw, Interval, interval, start, interval_at, split_of, is_determined, outcome_of};
-ghost use Rattle.zp_decoder.specs.Decoder.{Decoder, Fed, room_left, is_between, IsStanding};
-ghost use Rattle.zp_decoder.specs.Runs.{IsFormOf, AreFormsOf, outcomes, answers, bits_made, room, IsAligned};
+ghost use Rattle.zp_decoder.specs.Decoder.{Decoder, Fed, bytes_wanted, is_all, room_left};
+ghost use Rattle.zp_decoder.specs.Runs.{IsFormOf, AreFormsOf, outcomes, answers, bits_made, is_between, IsStanding, room, IsAligned};
 
 /// With the table `flat`, with `djvu`, and past the end, worked out from the definition.
 pub fn worked_decisions()
@@ -85,9 +85,22 @@ pub fn decisions_end()
     ensures room { (payload : List ℕ) → room payload None ≡ 0x8000 * (8 * length payload + 177) }
 {}
 
-/// Each decoder was fed some payload, and what was decided led to some place. For each such payload and place, the room
-/// that is left for decisions is what they leave.
+/// For each payload that a decoder took, and each place that its decisions led to, the room that is left for decisions is
+/// what they leave. No more bytes are taken than make 192 bits behind those that were shifted in.
 pub fn decoders_are_fed()
-    ensures some { (decoder : Decoder) → (payload : List ℕ) × (place : Option Interval) × Fed payload place decoder }
+    ensures few { (payload : List ℕ) (place : Option Interval) (decoder : Decoder) → Fed payload place decoder → 8 * length payload ≤ (interval_at payload place).n + 192 }
     ensures room { (payload : List ℕ) (place : Option Interval) (decoder : Decoder) → Fed payload place decoder → room_left decoder ≡ room payload place }
+{}
+
+/// For who keeps bytes that the decoder hasn't taken. What was taken is a front of the chunk's payload, and a decoder is
+/// told the end once nothing is left. Where a decision is determined by the bytes taken, or all were taken, it is that of
+/// the whole payload. Where it isn't determined, the decoder takes a byte more.
+pub fn taken_bytes_decide()
+    ensures same { (rows : List Row) (form : Form) (taken left : List ℕ) (ended : Bool) (place : Option Interval) → IsTable rows → IsFormOf rows form →
+        IsStanding (length taken) place → (is_determined taken (is_all left ended) (interval_at taken place) ≡ true) ⊎ (left ≡ []) →
+        outcome_of rows form (taken ++ left) ended place ≡ outcome_of rows form taken (is_all left ended) place }
+    ensures wanted { (rows : List Row) (form : Form) (taken : List ℕ) (ended : Bool) (place : Option Interval) →
+        (outcome_of rows form taken ended place).answer ≡ decision.NeedBytes → 0 < bytes_wanted taken place }
+    ensures fits { (taken : List ℕ) (place : Option Interval) (count : ℕ) → 8 * length taken ≤ (interval_at taken place).n + 192 →
+        (count ≤ bytes_wanted taken place) ↔ (8 * (length taken + count) ≤ (interval_at taken place).n + 192) }
 {}

@@ -1,15 +1,17 @@
-use Rattle.std.proofs.Common.{refl, sym, ◌∙◌, arith}
-use Rattle.std.proofs.lemmas.Grind.{common_steps}
-use Rattle.zp_table.specs.Listing.{flat_rows}
-use Rattle.zp_decoder.specs.Decision.{Iw}
-use Rattle.zp_decoder.specs.Decoder.{Fed}
-use Rattle.zp_decoder.proofs.Deciding.{left_falls}
+use Rattle.std.proofs.Common.{◌≡◌, ℕ, refl, ap, subst}
+use Rattle.zp_decoder.specs.Decision.{Iw, outcome_at, interval_at}
+use Rattle.zp_decoder.specs.Decoder.{Decoder, Fed}
+use Rattle.zp_decoder.proofs.Steps.{split_is}
 use Rattle.zp_decoder.proofs.decoder.ZpDecoder.iw.Goals as goal
 
--- z has no need of the table, so the one of one row serves
-pub returns-clause-fewer : goal.returns-clause-fewer
-unfolding Fed
-returns-clause-fewer g c bit answered =
-    let fed = c.decide.ensures.fed c.args.self.now.kept.bytes c.args.self.now.kept.place (refl, refl) in
-    let told = c.decide.ensures.answer c.args.self.now.kept.bytes c.args.self.now.kept.place (refl, refl) in
-    left_falls c.args.self.now c.decide.new.self flat_rows Iw c.iw_split.result bit refl tt (grind (arith, common_steps)) (grind (arith, common_steps)) (sym told ∙ answered) fed.0 fed.1
+pub returns-clause-answer : goal.returns-clause-answer
+returns-clause-answer g c payload place fed =
+    subst (λ (z : ℕ). c.decide-2.result ≡ (outcome_at c.args.self.now.table Iw payload c.args.self.now.ended place z (interval_at payload place)).answer)
+    (split_is c.args.self.now payload place c.decide.inside.kept Iw c.iw_split.result (ap (λ (d : Decoder). d.kept) c.decide.view_is) fed c.iw_split.ensures)
+    (c.decide-2.ensures.answer Iw payload place refl fed)
+
+pub returns-clause-fed : goal.returns-clause-fed
+returns-clause-fed g c payload place fed =
+    subst (λ (z : ℕ). Fed payload (outcome_at c.args.self.now.table Iw payload c.args.self.now.ended place z (interval_at payload place)).place c.decide-2.new.self)
+    (split_is c.args.self.now payload place c.decide.inside.kept Iw c.iw_split.result (ap (λ (d : Decoder). d.kept) c.decide.view_is) fed c.iw_split.ensures)
+    (c.decide-2.ensures.fed Iw payload place fed)

@@ -123,18 +123,20 @@ starts at rest bucket (suc count) index left plane =
     else starts at rest bucket count (index + 1) (left - 1) plane)
     else starts at rest bucket count (index + 1) left plane
 
--- the third step: each chosen bucket in order
-abbrev pub all_starts : Place → (Plane → Course) → List ℕ → Plane → Course
-all_starts at rest [] plane = rest plane
-all_starts at rest (bucket ∷ later) plane = starts at (all_starts at rest later) bucket 16 (16 * bucket) (unknowns at bucket) plane
+-- the third step: the buckets from one on, in order; of each is told whether its decision was 1
+abbrev pub all_starts : Place → (Plane → Course) → ℕ → List Bool → Plane → Course
+all_starts at rest bucket [] plane = rest plane
+all_starts at rest bucket (true ∷ later) plane = starts at (all_starts at rest (bucket + 1) later) bucket 16 (16 * bucket) (unknowns at bucket) plane
+all_starts at rest bucket (false ∷ later) plane = all_starts at rest (bucket + 1) later plane
 
--- the second step: each of so many buckets with an unknown coefficient, in order. Those whose decision was 1 are chosen
-abbrev pub choices : Place → (Plane → Course) → ℕ → ℕ → List ℕ → Course
-choices at rest zero bucket chosen = all_starts at (all_raises at rest) chosen at.before
+-- the second step: each of so many buckets in order; one with an unknown coefficient has a decision. The decisions so far
+-- are kept, with 0 for a bucket that had none
+abbrev pub choices : Place → (Plane → Course) → ℕ → ℕ → List Bool → Course
+choices at rest zero bucket chosen = all_starts at (all_raises at rest) (first_bucket (band_of at.slice)) chosen at.before
 choices at rest (suc count) bucket chosen =
     if has_unknown at bucket
-    then Asks at.before (In (bucket_context at bucket)) (λ bit. choices at rest count (bucket + 1) (if bit then chosen ++ bucket ∷ [] else chosen))
-    else choices at rest count (bucket + 1) chosen
+    then Asks at.before (In (bucket_context at bucket)) (λ bit. choices at rest count (bucket + 1) (chosen ++ bit ∷ []))
+    else choices at rest count (bucket + 1) (chosen ++ false ∷ [])
 
 abbrev pub all_choices : Place → (Plane → Course) → Course
 all_choices at rest = choices at rest (bucket_count (band_of at.slice)) (first_bucket (band_of at.slice)) []

@@ -1,19 +1,19 @@
 -- However the bytes are cut, the reading is the same; and each decision leaves room for fewer.
-use Rattle.std.proofs.Common.{◌≡◌, ℕ, ◌+◌, ◌<◌, ◌≤◌, Bool, true, false, List, length, ◌++◌, Option, refl, ap, sym, ◌∙◌, arith, inl, inr}
+use Rattle.std.proofs.Common.{◌≡◌, ℕ, ◌+◌, ◌≤◌, Bool, true, false, List, length, ◌++◌, Option, refl, ap, sym, ◌∙◌, arith, inl, inr}
 use Rattle.std.proofs.lemmas.Bool.{cases_Bool}
 use Rattle.zp_table.specs.declared.rows.Row.{Row}
-use Rattle.zp_table.specs.Rows.{IsTable}
 use Rattle.zp_decoder.specs.declared.decoder.Decision.{Decision}
 use Rattle.zp_decoder.specs.declared.decoder.Decision.TheVariants as decision
 use Rattle.zp_decoder.specs.Chunk.{Chunk, chunk, IsReady}
-use Rattle.zp_decoder.specs.Decision.{Interval, Form, Outcome, Adaptive, Iw, interval_at, is_determined, outcome_of}
-use Rattle.zp_decoder.specs.Runs.{IsFormOf, IsStanding, room}
+use Rattle.zp_decoder.specs.Decision.{Interval, Form, Outcome, interval_at, is_determined, outcome_of}
+use Rattle.zp_decoder.specs.Runs.{IsFormOf, room}
 use Rattle.zp_decoder.specs.States.{AreBelow}
 use Rattle.zp_decoder.proofs.Lemmas.{grown, standing, state_below, stored_below, fewer}
 use Rattle.iw44_blocks.specs.Plane.{Plane}
-use Rattle.iw44_slices.specs.Contexts.{Context, is_same}
+use Rattle.iw44_slices.specs.Contexts.{is_same}
 use Rattle.iw44_slices.specs.Slice.{Asked, In, Plain, Course, Ended, Asks}
-use Rattle.iw44_slices.specs.Reading.{States, At, Reading, form_of, states_after, moved, after_decision, outcome_at, read_on}
+use Rattle.iw44_slices.specs.Reading.{States, At, Reading, stands, plane_of, form_of, states_after, moved, after_decision, outcome_at, read_on}
+use Rattle.iw44_slices.specs.declared.steps.SliceStep.{SliceStep}
 use Rattle.iw44_slices.specs.declared.steps.SliceStep.TheVariants as step
 
 -- a bit comes only where the bytes determine it
@@ -107,3 +107,25 @@ pub leaves_room : (from : Chunk) (course : Course) (at : At) → IsReady from at
 leaves_room from (Ended plane) at ready = record { ready = ready; room = omega arith; more = omega arith }
 leaves_room from (Asks plane asked next) at ready =
     leaves_by from plane asked next at (outcome_at from asked at).answer ready refl (λ bit later there. leaves_room from (next bit) later there)
+
+-- what was read whole has nothing left
+whole_by : (from : Chunk) (plane : Plane) (asked : Asked) (next : Bool → Course) (at : At) (answer : Decision) →
+    ((bit : Bool) (later : At) → (read_on from (next bit) later).answer ≡ step.SliceEnd → (read_on from (next bit) later).left ≡ Ended (plane_of (read_on from (next bit) later).left)) →
+    let reading = after_decision answer (outcome_at from asked at) plane asked next at (λ bit later. read_on from (next bit) later) in
+    reading.answer ≡ step.SliceEnd → reading.left ≡ Ended (plane_of reading.left)
+whole_by from plane asked next at (decision.Bit bit) goes e = goes bit (moved asked (outcome_at from asked at) at) e
+whole_by from plane asked next at decision.NeedBytes goes e = cc
+whole_by from plane asked next at decision.Exhausted goes e = cc
+
+pub nothing_left : (from : Chunk) (course : Course) (at : At) → (read_on from course at).answer ≡ step.SliceEnd → (read_on from course at).left ≡ Ended (plane_of (read_on from course at).left)
+nothing_left from (Ended plane) at e = refl
+nothing_left from (Asks plane asked next) at e = whole_by from plane asked next at (outcome_at from asked at).answer (λ bit later there. nothing_left from (next bit) later there) e
+
+-- and more bytes change nothing of it
+pub whole_stays : (rows : List Row) (payload more : List ℕ) (ended : Bool) (course : Course) (at : At) → IsReady (chunk rows payload false) at.states at.place →
+    (read_on (chunk rows payload false) course at).answer ≡ step.SliceEnd → read_on (chunk rows (payload ++ more) ended) course at ≡ read_on (chunk rows payload false) course at
+whole_stays rows payload more ended course at ready e =
+    let short = read_on (chunk rows payload false) course at in
+    let left = nothing_left (chunk rows payload false) course at e in
+    sym (cut_anywhere rows payload more ended course at ready) ∙ ap (λ (c : Course). read_on (chunk rows (payload ++ more) ended) c short.at) left
+    ∙ ap (λ (c : Course). stands step.SliceEnd c short.at) (sym left) ∙ ap (λ (a : SliceStep). stands a short.left short.at) (sym e)

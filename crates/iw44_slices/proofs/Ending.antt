@@ -1,5 +1,5 @@
 -- After 200 slices no threshold is in use.
-use Rattle.std.proofs.Common.{◌≡◌, ℕ, zero, suc, ◌+◌, ◌*◌, ◌/◌, ◌%◌, ◌^◌, ◌<◌, ◌≤◌, Bool, true, false, ◌&&◌, ◌||◌, List, [], ◌∷◌, refl, ap, sym, ◌∙◌, arith, nat_le}
+use Rattle.std.proofs.Common.{◌≡◌, ℕ, zero, suc, ◌+◌, ◌*◌, ◌/◌, ◌^◌, ◌<◌, ◌≤◌, Bool, true, false, ◌&&◌, ◌||◌, List, [], ◌∷◌, refl, ap, ◌∙◌, arith, nat_le}
 use Rattle.std.specs.Prelude.{slice_index_or, if◌then◌else◌}
 use Rattle.std.specs.List.{list_all}
 use Rattle.std.proofs.lemmas.Bool.Decides.{nat_tests}
@@ -7,7 +7,7 @@ use Rattle.std.proofs.lemmas.Nat.{div_below}
 use Rattle.std.proofs.Math.Pow.{pow_mono}
 use Rattle.iw44_blocks.specs.Plane.{Plane, block_count}
 use Rattle.iw44_slices.specs.Bands.{band_of, first_bucket, bucket_count, low_thresholds, band_thresholds, first_threshold, threshold, is_in_use}
-use Rattle.iw44_slices.specs.Slice.{Course, Ended, some_from, does_something, blocks_course, slice_course}
+use Rattle.iw44_slices.specs.Slice.{Ended, some_from, does_something, blocks_course, slice_course}
 
 -- no number of a list is above 80000 hexadecimal
 abbrev AreLow : List ℕ → Type 0

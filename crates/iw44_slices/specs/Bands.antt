@@ -1,5 +1,5 @@
 -- The bands of a block, and the thresholds of its coefficients.
-use Rattle.std.specs.Prelude.{ℕ, zero, suc, ◌/◌, ◌%◌, ◌^◌, Bool, ◌&&◌, nat_le, if◌then◌else◌, List, [], ◌∷◌, ◌++◌, replicate, slice_index_or}
+use Rattle.std.specs.Prelude.{ℕ, zero, suc, ◌/◌, ◌%◌, ◌^◌, Bool, ◌&&◌, nat_le, List, [], ◌∷◌, ◌++◌, replicate, slice_index_or}
 
 -- a bucket is 16 coefficients, and a band some buckets in a row
 abbrev pub bucket_size : ℕ

@@ -4,5 +4,6 @@ pub use Rattle.iw44_blocks.specs.Plane
 pub mod Bands
 pub mod Contexts
 pub mod Slice
+pub mod Sizes
 pub mod Reading
 pub mod Worked

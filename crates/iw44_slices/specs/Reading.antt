@@ -1,6 +1,5 @@
 -- How a slice is read from a chunk.
-use Rattle.std.specs.Prelude.{ℕ, ◌+◌, Bool, List, Option, None}
-use Rattle.zp_table.specs.declared.rows.Row.{Row}
+use Rattle.std.specs.Prelude.{ℕ, ◌+◌, Bool, Option, None}
 use Rattle.zp_decoder.specs.declared.decoder.Decision.{Decision}
 use Rattle.zp_decoder.specs.declared.decoder.Decision.TheVariants as decision
 use Rattle.zp_decoder.specs.Chunk.{Chunk}

@@ -2,7 +2,7 @@
 use Rattle.std.specs.Prelude.{ℕ, Bool, List}
 use Rattle.zp_table.specs.Listing.{flat_rows}
 use Rattle.zp_decoder.specs.Chunk.{Chunk, chunk}
-use Rattle.iw44_blocks.specs.Plane.{Plane, zero_plane}
+use Rattle.iw44_blocks.specs.Plane.{zero_plane}
 use Rattle.iw44_slices.specs.Reading.{Reading, at_start, plane_of, read_slice}
 
 -- the first slice of a plane of one place

@@ -1,16 +1,17 @@
 //! Laws of the definitions, and worked values: each is a clause of a function that does nothing.
-ghost use Rattle.std.specs.Prelude.{◌≡◌, ℕ, ◌+◌, ◌*◌, ◌≤◌, Bool, true, false, pos, negsuc, List, [], ◌∷◌, ◌++◌, length, Some};
+ghost use Rattle.std.specs.Prelude.{◌≡◌, ℕ, ◌+◌, ◌*◌, ◌/◌, ◌≤◌, Bool, true, false, pos, negsuc, List, [], ◌∷◌, ◌++◌, length, Some};
 ghost use Rattle.zp_table.specs.declared.rows.Row.{Row};
 ghost use Rattle.zp_table.specs.Listing.{flat_rows};
 ghost use Rattle.zp_decoder.specs.Chunk.{Chunk, chunk, IsReady};
 ghost use Rattle.zp_decoder.specs.Decision.{interval};
 ghost use Rattle.zp_decoder.specs.Runs.{room};
 ghost use Rattle.zp_decoder.specs.States.{fresh};
-ghost use Rattle.iw44_blocks.specs.Plane.{Plane, coefficient, zero_plane};
+ghost use Rattle.iw44_blocks.specs.Plane.{Plane, IsSmall, coefficient, zero_plane};
 ghost use Rattle.iw44_slices.specs.declared.steps.SliceStep.TheVariants as step;
 ghost use Rattle.iw44_slices.specs.Bands.{threshold};
 ghost use Rattle.iw44_slices.specs.Slice.{Course, Ended, start_size, raised, slice_course};
 ghost use Rattle.iw44_slices.specs.Reading.{At, standing, plane_of, read_on, read_slice};
+ghost use Rattle.iw44_slices.specs.Sizes.{AreDue};
 ghost use Rattle.iw44_slices.specs.Worked.{first_slice, two_slices};
 
 /// After 200 slices no threshold is in use, so that a plane reads nothing.
@@ -18,12 +19,19 @@ pub fn slices_end()
     ensures { (slice : ℕ) (plane : Plane) → 200 ≤ slice → slice_course slice plane ≡ Ended plane }
 {}
 
+/// Ten slices later a coefficient's threshold is half as large.
+pub fn thresholds_are_halved()
+    ensures { (slice index : ℕ) → threshold (slice + 10) index ≡ threshold slice index / 2 }
+{}
+
 /// However the bytes are cut, the reading is the same: what was left where the bytes ended is read on with more bytes, as
-/// if all had been there before.
+/// if all had been there before; and what was read whole stays.
 pub fn readings_grow()
-    ensures { (rows : List Row) (payload more : List ℕ) (ended : Bool) (course : Course) (at : At) → IsReady (chunk rows payload false) at.states at.place →
+    ensures goes_on { (rows : List Row) (payload more : List ℕ) (ended : Bool) (course : Course) (at : At) → IsReady (chunk rows payload false) at.states at.place →
         read_on (chunk rows (payload ++ more) ended) (read_on (chunk rows payload false) course at).left (read_on (chunk rows payload false) course at).at
         ≡ read_on (chunk rows (payload ++ more) ended) course at }
+    ensures whole { (rows : List Row) (payload more : List ℕ) (ended : Bool) (course : Course) (at : At) → IsReady (chunk rows payload false) at.states at.place →
+        (read_on (chunk rows payload false) course at).answer ≡ step.SliceEnd → read_on (chunk rows (payload ++ more) ended) course at ≡ read_on (chunk rows payload false) course at }
 {}
 
 /// A reading leaves states and a place that can be read on from, and room for so many decisions fewer. A chunk has room for
@@ -33,6 +41,16 @@ pub fn decisions_are_bounded()
     ensures room { (from : Chunk) (course : Course) (at : At) → IsReady from at.states at.place →
         room from.payload (read_on from course at).at.place + (read_on from course at).at.decisions ≤ room from.payload at.place + at.decisions }
     ensures grows { (from : Chunk) (course : Course) (at : At) → IsReady from at.states at.place → at.decisions ≤ (read_on from course at).at.decisions }
+{}
+
+/// No coefficient ever is above 32,767 in size, in the middle of a slice neither. `AreDue` is what slices keep to: a new
+/// plane does, and a plane that does so before a slice does after it.
+pub fn sizes_stay_small()
+    ensures new { (width height : ℕ) → AreDue 0 (zero_plane width height) }
+    ensures after { (slice : ℕ) (plane : Plane) (from : Chunk) (at : At) → AreDue slice plane → (read_slice from slice plane at).answer ≡ step.SliceEnd →
+        AreDue (slice + 1) (plane_of (read_slice from slice plane at).left) }
+    ensures small { (slice : ℕ) (plane : Plane) → AreDue slice plane → IsSmall 32767 plane }
+    ensures partly { (slice : ℕ) (plane : Plane) (from : Chunk) (at : At) → AreDue slice plane → IsSmall 32767 (plane_of (read_slice from slice plane at).left) }
 {}
 
 /// Thresholds of coefficients, and the sizes that they lead to.

@@ -1,5 +1,8 @@
-use Rattle.iw44_slices.proofs.Cutting.{cut_anywhere}
+use Rattle.iw44_slices.proofs.Cutting.{cut_anywhere, whole_stays}
 use Rattle.iw44_slices.proofs.laws.readings_grow.Goals as goal
 
-pub returns : goal.returns
-returns c = cut_anywhere
+pub returns-clause-goes_on : goal.returns-clause-goes_on
+returns-clause-goes_on c = cut_anywhere
+
+pub returns-clause-whole : goal.returns-clause-whole
+returns-clause-whole c = whole_stays

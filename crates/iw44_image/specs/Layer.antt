@@ -1,5 +1,5 @@
 -- The chunks of a layer: its planes, slice by slice.
-use Rattle.std.specs.Prelude.{ℕ, zero, suc, ◌+◌, ◌-◌, ◌==◌, Bool, true, false, ◌&&◌, not, nat_le, if◌then◌else◌, List, [], ◌∷◌, ◌++◌, Option, None}
+use Rattle.std.specs.Prelude.{ℕ, zero, suc, ◌+◌, ◌-◌, Bool, true, false, ◌&&◌, not, nat_le, if◌then◌else◌, List, [], ◌∷◌, ◌++◌, Option, None}
 use Rattle.djvu_base.specs.declared.faults.FaultKind.{FaultKind}
 use Rattle.djvu_base.specs.declared.faults.FaultKind.TheVariants as fault
 use Rattle.zp_table.specs.declared.rows.Row.{Row}
@@ -7,7 +7,7 @@ use Rattle.zp_decoder.specs.Chunk.{Chunk, chunk}
 use Rattle.zp_decoder.specs.Decision.{Interval}
 use Rattle.zp_decoder.specs.States.{fresh}
 use Rattle.iw44_blocks.specs.Plane.{Plane, zero_plane}
-use Rattle.iw44_slices.specs.Reading.{States, At, Reading, standing, plane_of, read_slice}
+use Rattle.iw44_slices.specs.Reading.{States, Reading, standing, plane_of, read_slice}
 use Rattle.iw44_slices.specs.declared.steps.SliceStep.{SliceStep}
 use Rattle.iw44_slices.specs.declared.steps.SliceStep.TheVariants as step
 use Rattle.iw44_image.specs.Header.{Header, Opening, Short, Wrong, Opened, Known, First, Later, open_chunk}

@@ -1,13 +1,13 @@
 -- The samples of a layer's pixels.
-use Rattle.std.specs.Prelude.{ℕ, ◌+◌, ◌-◌, ◌*◌, ◌/◌, ◌%◌, ◌==◌, Bool, true, false, ◌&&◌, not, if◌then◌else◌, ℤ, pos, negsuc, ◌+ℤ◌, ◌-ℤ◌, ◌*ℤ◌, unsigned_abs, List, map}
+use Rattle.std.specs.Prelude.{ℕ, ◌-◌, ◌*◌, ◌/◌, ◌%◌, ◌==◌, Bool, if◌then◌else◌, ℤ, pos, negsuc, ◌+ℤ◌, ◌-ℤ◌, ◌*ℤ◌, unsigned_abs, map}
 use Rattle.std.specs.Int.{int_shr, int_max, int_min}
 use Rattle.std.specs.List.{range_with_len}
 use Rattle.djvu_base.specs.Picture.{Picture}
 use Rattle.iw44_blocks.specs.Plane.{Plane, grid_of}
-use Rattle.iw44_blocks.specs.Lattice.{Lattice, value_at}
+use Rattle.iw44_blocks.specs.Lattice.{value_at}
 use Rattle.iw44_lifting.specs.Lift.{lifted}
-use Rattle.iw44_image.specs.Header.{Header, Known, First, Later}
-use Rattle.iw44_image.specs.Layer.{Channel, Y, B, R, Planes, Layer, plane_for}
+use Rattle.iw44_image.specs.Header.{Header}
+use Rattle.iw44_image.specs.Layer.{Planes}
 
 -- a number brought between a least and a largest one
 abbrev pub within : ℤ → ℤ → ℤ → ℤ

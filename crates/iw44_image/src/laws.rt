@@ -1,14 +1,35 @@
 //! Laws of the definitions, and worked values: each is a clause of a function that does nothing.
-ghost use Rattle.std.specs.Prelude.{◌≡◌, ℕ, ◌≤◌, ◌≤ℤ◌, Bool, true, false, ℤ, pos, negsuc, ◌-ℤ◌, List, [], ◌∷◌};
+ghost use Rattle.std.specs.Prelude.{◌≡◌, ◌≢◌, ℕ, ◌≤◌, ◌≤ℤ◌, Bool, true, false, ℤ, pos, negsuc, ◌-ℤ◌, List, [], ◌∷◌, ◌++◌};
+ghost use Rattle.djvu_base.specs.declared.faults.FaultKind.{FaultKind};
 ghost use Rattle.djvu_base.specs.declared.faults.FaultKind.TheVariants as fault;
-ghost use Rattle.iw44_image.specs.Header.{Header, Short, Wrong, Opened};
-ghost use Rattle.iw44_image.specs.Layer.{Done, Need, Fault};
+ghost use Rattle.zp_table.specs.declared.rows.Row.{Row};
+ghost use Rattle.zp_table.specs.Rows.{IsTable};
+ghost use Rattle.iw44_image.specs.Header.{Header, Known, Short, Wrong, Opened, open_chunk};
+ghost use Rattle.iw44_image.specs.Layer.{Layer, Done, Need, Fault, read_chunk};
 ghost use Rattle.iw44_image.specs.Samples.{grey, colour, sample_of};
-ghost use Rattle.iw44_image.specs.Worked.{first_opening, one_chunk, two_chunks, picture_of};
+ghost use Rattle.iw44_image.specs.Growth.{OpenGrows, AreRows};
+ghost use Rattle.iw44_image.specs.Worked.{data_of, first_opening, one_chunk, two_chunks, picture_of};
 
 /// Grey is colour without chroma: of a sample y it is what colour is of -1 - y.
 pub fn grey_is_colour_without_chroma()
     ensures { (y : ℤ) → grey y ≡ colour (negsuc 0 -ℤ y) (pos 0) (pos 0) }
+{}
+
+/// With more bytes the start of a chunk goes on as it began: a refusal stays, and so does a header.
+pub fn headers_stay()
+    ensures { (limit number : ℕ) (known : Known) (bytes more : List ℕ) (ended : Bool) →
+        OpenGrows more (open_chunk limit number known bytes false) (open_chunk limit number known (bytes ++ more) ended) }
+{}
+
+/// With more bytes a chunk of a layer only goes on: a refusal stays, with all that was read; while bytes may come the chunk
+/// isn't done; and its decisions don't fall.
+pub fn more_bytes_only_go_on()
+    ensures refused { (table : List Row) (limit : ℕ) (bytes more : List ℕ) (ended : Bool) (layer : Layer) (kind : FaultKind) →
+        (read_chunk table limit (data_of bytes false) layer).answer ≡ Fault kind →
+        read_chunk table limit (data_of (bytes ++ more) ended) layer ≡ read_chunk table limit (data_of bytes false) layer }
+    ensures open_end { (table : List Row) (limit : ℕ) (bytes : List ℕ) (layer : Layer) → (read_chunk table limit (data_of bytes false) layer).answer ≢ Done }
+    ensures decisions { (table : List Row) (limit : ℕ) (bytes more : List ℕ) (ended : Bool) (layer : Layer) → IsTable table → AreRows table layer →
+        (read_chunk table limit (data_of bytes false) layer).layer.decisions ≤ (read_chunk table limit (data_of (bytes ++ more) ended) layer).layer.decisions }
 {}
 
 /// Headers: grey of one pixel, with and without the last byte; colours at full and at half size; and those that are refused,

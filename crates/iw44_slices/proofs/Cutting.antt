@@ -5,10 +5,10 @@ use Rattle.zp_table.specs.declared.rows.Row.{Row}
 use Rattle.zp_decoder.specs.declared.decoder.Decision.{Decision}
 use Rattle.zp_decoder.specs.declared.decoder.Decision.TheVariants as decision
 use Rattle.zp_decoder.specs.Chunk.{Chunk, chunk, IsReady}
-use Rattle.zp_decoder.specs.Decision.{Interval, Form, Outcome, interval_at, is_determined, outcome_of}
+use Rattle.zp_decoder.specs.Decision.{Interval, Form, Outcome, interval_at, split_of, bit_of, is_determined, outcome_of}
 use Rattle.zp_decoder.specs.Runs.{IsFormOf, room}
 use Rattle.zp_decoder.specs.States.{AreBelow}
-use Rattle.zp_decoder.proofs.Lemmas.{grown, standing, state_below, stored_below, fewer}
+use Rattle.zp_decoder.proofs.Lemmas.{comes, needs, exhausts, moves, grown, standing, state_below, stored_below, fewer}
 use Rattle.iw44_blocks.specs.Plane.{Plane}
 use Rattle.iw44_slices.specs.Contexts.{is_same}
 use Rattle.iw44_slices.specs.Slice.{Asked, In, Plain, Course, Ended, Asks}
@@ -129,3 +129,28 @@ whole_stays rows payload more ended course at ready e =
     let left = nothing_left (chunk rows payload false) course at e in
     sym (cut_anywhere rows payload more ended course at ready) ∙ ap (λ (c : Course). read_on (chunk rows (payload ++ more) ended) c short.at) left
     ∙ ap (λ (c : Course). stands step.SliceEnd c short.at) (sym left) ∙ ap (λ (a : SliceStep). stands a short.left short.at) (sym e)
+
+-- while bytes may come nothing is exhausted
+open_end : (rows : List Row) (form : Form) (payload : List ℕ) (place : Option Interval) → (outcome_of rows form payload false place).answer ≡ decision.Exhausted → ⊥
+open_end rows form payload place e =
+    elim (comes rows form payload false place (split_of rows form (interval_at payload place).a) (interval_at payload place)) [
+      | needs d is ↦ let told : (outcome_of rows form payload false place).answer ≡ decision.NeedBytes = ap (λ (o : Outcome). o.answer) is in let wrong = sym told ∙ e in cc
+      | exhausts d x is ↦ cc
+      | moves d x is ↦
+          let told : (outcome_of rows form payload false place).answer ≡ decision.Bit (bit_of form (split_of rows form (interval_at payload place).a) (interval_at payload place)) =
+          ap (λ (o : Outcome). o.answer) is in
+          let wrong = sym told ∙ e in cc
+    ]
+
+open_by : (from : Chunk) (plane : Plane) (asked : Asked) (next : Bool → Course) (at : At) (answer : Decision) → (answer ≡ decision.Exhausted → ⊥) →
+    ((bit : Bool) (later : At) → (read_on from (next bit) later).answer ≡ step.Exhausted → ⊥) →
+    (after_decision answer (outcome_at from asked at) plane asked next at (λ bit later. read_on from (next bit) later)).answer ≡ step.Exhausted → ⊥
+open_by from plane asked next at (decision.Bit bit) none goes e = goes bit (moved asked (outcome_at from asked at) at) e
+open_by from plane asked next at decision.NeedBytes none goes e = cc
+open_by from plane asked next at decision.Exhausted none goes e = none refl
+
+pub never_exhausted : (rows : List Row) (payload : List ℕ) (course : Course) (at : At) → (read_on (chunk rows payload false) course at).answer ≡ step.Exhausted → ⊥
+never_exhausted rows payload (Ended plane) at e = cc
+never_exhausted rows payload (Asks plane asked next) at e =
+    open_by (chunk rows payload false) plane asked next at (outcome_at (chunk rows payload false) asked at).answer (open_end rows (form_of asked at.states) payload at.place)
+    (λ bit later there. never_exhausted rows payload (next bit) later there) e

@@ -1,5 +1,5 @@
 -- Sizes after what was read of a slice.
-use Rattle.std.proofs.Common.{◌≡◌, ◌≢◌, ℕ, zero, suc, ◌+◌, ◌-◌, ◌*◌, ◌/◌, ◌%◌, ◌<◌, ◌≤◌, Bool, true, false, List, ℤ, pos, unsigned_abs, inl, inr, refl, ap, sym, ◌∙◌, subst, arith, replicate, get_or, nat_lt}
+use Rattle.std.proofs.Common.{◌≡◌, ℕ, zero, suc, ◌+◌, ◌-◌, ◌*◌, ◌/◌, ◌%◌, ◌<◌, ◌≤◌, Bool, ℤ, pos, unsigned_abs, inl, inr, ap, sym, ◌∙◌, subst, arith, replicate, get_or, nat_lt}
 use Rattle.std.specs.Prelude.{if◌then◌else◌}
 use Rattle.std.proofs.lemmas.Bool.Decides.{nat_tests}
 use Rattle.std.proofs.lemmas.Bool.{cases_lt, cases_eq}
@@ -7,13 +7,11 @@ use Rattle.std.proofs.lemmas.List.{get_or-replicate, get_or_past, length-replica
 use Rattle.zp_decoder.specs.declared.decoder.Decision.{Decision}
 use Rattle.zp_decoder.specs.declared.decoder.Decision.TheVariants as decision
 use Rattle.zp_decoder.specs.Chunk.{Chunk}
-use Rattle.zp_decoder.specs.Decision.{Outcome}
 use Rattle.iw44_blocks.specs.Plane.{Plane, block_count, blocks_along, coefficient, zero_plane, IsSmall}
-use Rattle.iw44_slices.specs.Bands.{band_of, first_bucket, bucket_count, threshold}
+use Rattle.iw44_slices.specs.Bands.{band_of, threshold}
 use Rattle.iw44_slices.specs.Slice.{Asked, Course, Ended, Asks, slice_course}
 use Rattle.iw44_slices.specs.Reading.{At, Reading, plane_of, after_decision, outcome_at, read_on, read_slice}
 use Rattle.iw44_slices.specs.Sizes.{IsDue, InBand, AreDue, Along}
-use Rattle.iw44_slices.specs.declared.steps.SliceStep.{SliceStep}
 use Rattle.iw44_slices.specs.declared.steps.SliceStep.TheVariants as step
 use Rattle.iw44_slices.proofs.Sizes.{next_threshold, due_small}
 use Rattle.iw44_slices.proofs.Courses.{Small, After, slice_does, slice_keeps, slice_counts, ends_within}

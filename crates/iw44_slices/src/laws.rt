@@ -1,5 +1,5 @@
 //! Laws of the definitions, and worked values: each is a clause of a function that does nothing.
-ghost use Rattle.std.specs.Prelude.{◌≡◌, ℕ, ◌+◌, ◌*◌, ◌/◌, ◌≤◌, Bool, true, false, pos, negsuc, List, [], ◌∷◌, ◌++◌, length, Some};
+ghost use Rattle.std.specs.Prelude.{◌≡◌, ◌≢◌, ℕ, ◌+◌, ◌*◌, ◌/◌, ◌≤◌, Bool, true, false, pos, negsuc, List, [], ◌∷◌, ◌++◌, length, Some};
 ghost use Rattle.zp_table.specs.declared.rows.Row.{Row};
 ghost use Rattle.zp_table.specs.Listing.{flat_rows};
 ghost use Rattle.zp_decoder.specs.Chunk.{Chunk, chunk, IsReady};
@@ -25,13 +25,15 @@ pub fn thresholds_are_halved()
 {}
 
 /// However the bytes are cut, the reading is the same: what was left where the bytes ended is read on with more bytes, as
-/// if all had been there before; and what was read whole stays.
+/// if all had been there before; and what was read whole stays. While bytes may
+/// come nothing is exhausted.
 pub fn readings_grow()
     ensures goes_on { (rows : List Row) (payload more : List ℕ) (ended : Bool) (course : Course) (at : At) → IsReady (chunk rows payload false) at.states at.place →
         read_on (chunk rows (payload ++ more) ended) (read_on (chunk rows payload false) course at).left (read_on (chunk rows payload false) course at).at
         ≡ read_on (chunk rows (payload ++ more) ended) course at }
     ensures whole { (rows : List Row) (payload more : List ℕ) (ended : Bool) (course : Course) (at : At) → IsReady (chunk rows payload false) at.states at.place →
         (read_on (chunk rows payload false) course at).answer ≡ step.SliceEnd → read_on (chunk rows (payload ++ more) ended) course at ≡ read_on (chunk rows payload false) course at }
+    ensures open_end { (rows : List Row) (payload : List ℕ) (course : Course) (at : At) → (read_on (chunk rows payload false) course at).answer ≢ step.Exhausted }
 {}
 
 /// A reading leaves states and a place that can be read on from, and room for so many decisions fewer. A chunk has room for

@@ -8,7 +8,7 @@ use Rattle.zp_table.specs.declared.rows.Row.{Row}
 use Rattle.zp_table.specs.Rows.{IsTable}
 use Rattle.zp_decoder.specs.Chunk.{Chunk, chunk, IsReady}
 use Rattle.zp_decoder.specs.Decision.{Interval}
-use Rattle.zp_decoder.specs.Runs.{IsStanding, is_between}
+use Rattle.zp_decoder.specs.Runs.{room, IsStanding, is_between}
 use Rattle.zp_decoder.specs.States.{AreBelow}
 use Rattle.zp_decoder.proofs.Lemmas.{between_facts, between-from_facts}
 use Rattle.iw44_slices.specs.Slice.{slice_course}
@@ -259,3 +259,29 @@ opened_open table (Opened header slices zp) layer e =
 
 pub chunk_open : (table : List Row) (limit : ℕ) (bytes : List ℕ) (layer : Layer) → (read_chunk table limit (data_of bytes false) layer).answer ≡ Done → ⊥
 chunk_open table limit bytes layer e = opened_open table (open_chunk limit layer.chunks layer.header bytes false) layer e
+
+-- a chunk's decisions leave room for fewer
+after_bounded : (answer : SliceStep) (layer : Layer) (place : Option Interval) (n : ℕ) (rest : Layer → Option Interval → LayerReading) → layer.decisions ≤ n →
+    (rest layer place).layer.decisions ≤ n → (after_slice answer layer place rest).layer.decisions ≤ n
+after_bounded step.SliceEnd layer place n rest low goes = goes
+after_bounded step.NeedBytes layer place n rest low goes = low
+after_bounded step.Exhausted layer place n rest low goes = low
+
+tasks_bounded : (from : Chunk) (slices : ℕ) (tasks : List Task) (layer : Layer) (place : Option Interval) → CanRead from layer place →
+    (read_tasks from slices tasks layer place).layer.decisions ≤ layer.decisions + room from.payload place
+tasks_bounded from slices [] layer place can = let e = end_counts from.ended slices layer in omega arith
+tasks_bounded from slices (next ∷ later) layer place can =
+    let less = (leaves from next layer place can).room in
+    let rest = tasks_bounded from slices later (layer_after layer next.channel (task_reading from next layer place)) (task_reading from next layer place).at.place (can_after from next layer place can) in
+    after_bounded (task_reading from next layer place).answer (layer_after layer next.channel (task_reading from next layer place)) (task_reading from next layer place).at.place
+    (layer.decisions + room from.payload place) (λ after at. read_tasks from slices later after at) (omega arith) (omega arith)
+
+pub chunk_bounded : (table : List Row) (limit : ℕ) (bytes zp : List ℕ) (ended : Bool) (layer : Layer) (header : Header) (slices : ℕ) → IsTable table → AreRows table layer →
+    open_chunk limit layer.chunks layer.header bytes ended ≡ Opened header slices zp →
+    (read_chunk table limit (data_of bytes ended) layer).layer.decisions ≤ layer.decisions + 0x8000 * (8 * length zp + 177)
+chunk_bounded table limit bytes zp ended layer header slices is rows opened =
+    let all = tasks_bounded (chunk table zp ended) slices (tasks header slices layer.slices) (with_header layer.header layer header) None (can_begin table zp ended layer header is rows) in
+    let begun = header_counts layer.header layer header in
+    let room_is : room zp None ≡ 0x8000 * (8 * length zp + 177) = omega arith in
+    let low : (read_opened table ended (Opened header slices zp) layer).layer.decisions ≤ layer.decisions + 0x8000 * (8 * length zp + 177) = omega arith in
+    subst (λ (o : Opening). (read_opened table ended o layer).layer.decisions ≤ layer.decisions + 0x8000 * (8 * length zp + 177)) (sym opened) low

@@ -1,5 +1,5 @@
 //! Laws of the definitions, and worked values: each is a clause of a function that does nothing.
-ghost use Rattle.std.specs.Prelude.{◌≡◌, ◌≢◌, ℕ, ◌≤◌, ◌≤ℤ◌, Bool, true, false, ℤ, pos, negsuc, ◌-ℤ◌, List, [], ◌∷◌, ◌++◌};
+ghost use Rattle.std.specs.Prelude.{◌≡◌, ◌≢◌, ℕ, ◌≤◌, ◌≤ℤ◌, Bool, true, false, ℤ, pos, negsuc, ◌-ℤ◌, List, [], ◌∷◌, ◌++◌, ◌+◌, ◌*◌, length};
 ghost use Rattle.djvu_base.specs.declared.faults.FaultKind.{FaultKind};
 ghost use Rattle.djvu_base.specs.declared.faults.FaultKind.TheVariants as fault;
 ghost use Rattle.zp_table.specs.declared.rows.Row.{Row};
@@ -30,6 +30,13 @@ pub fn more_bytes_only_go_on()
     ensures open_end { (table : List Row) (limit : ℕ) (bytes : List ℕ) (layer : Layer) → (read_chunk table limit (data_of bytes false) layer).answer ≢ Done }
     ensures decisions { (table : List Row) (limit : ℕ) (bytes more : List ℕ) (ended : Bool) (layer : Layer) → IsTable table → AreRows table layer →
         (read_chunk table limit (data_of bytes false) layer).layer.decisions ≤ (read_chunk table limit (data_of (bytes ++ more) ended) layer).layer.decisions }
+{}
+
+/// A chunk adds at most 32,768 decisions for each bit of its ZP data and 177 bits more.
+pub fn decisions_of_a_chunk_are_bounded()
+    ensures { (table : List Row) (limit : ℕ) (bytes zp : List ℕ) (ended : Bool) (layer : Layer) (header : Header) (slices : ℕ) → IsTable table → AreRows table layer →
+        open_chunk limit layer.chunks layer.header bytes ended ≡ Opened header slices zp →
+        (read_chunk table limit (data_of bytes ended) layer).layer.decisions ≤ layer.decisions + 0x8000 * (8 * length zp + 177) }
 {}
 
 /// Headers: grey of one pixel, with and without the last byte; colours at full and at half size; and those that are refused,

@@ -13,4 +13,5 @@ OpenGrows more (Opened header slices zp) long = long ≡ Opened header slices (z
 
 -- the states of a layer's contexts are rows of a table
 abbrev pub AreRows : List Row → Layer → Type 0
-AreRows table layer = AreBelow (length table) layer.planes.y.states × (AreBelow (length table) layer.planes.b.states × AreBelow (length table) layer.planes.r.states)
+AreRows table layer =
+    AreBelow (length table) layer.planes.y.states × (AreBelow (length table) layer.planes.b.states × AreBelow (length table) layer.planes.r.states)

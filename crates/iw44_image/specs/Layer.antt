@@ -117,19 +117,22 @@ chunk_end false slices layer = ends Need layer
 abbrev pub read_tasks : Chunk → ℕ → List Task → Layer → Option Interval → LayerReading
 read_tasks from slices [] layer place = chunk_end from.ended slices layer
 read_tasks from slices (next ∷ later) layer place =
-    after_slice (task_reading from next layer place).answer (layer_after layer next.channel (task_reading from next layer place)) (task_reading from next layer place).at.place
+    after_slice (task_reading from next layer place).answer (layer_after layer next.channel (task_reading from next layer place))
+    (task_reading from next layer place).at.place
     (λ after at. read_tasks from slices later after at)
 
 -- the first header makes the planes
 abbrev pub with_header : Known → Layer → Header → Layer
-with_header First layer header = record { header = Later header; planes = new_planes header; slices = layer.slices; chunks = layer.chunks; decisions = layer.decisions }
+with_header First layer header =
+    record { header = Later header; planes = new_planes header; slices = layer.slices; chunks = layer.chunks; decisions = layer.decisions }
 with_header (Later known) layer header = layer
 
 -- the decoder starts anew in each chunk; coefficients and contexts go on
 abbrev pub read_opened : List Row → Bool → Opening → Layer → LayerReading
 read_opened table ended Short layer = ends Need layer
 read_opened table ended (Wrong kind) layer = ends (Fault kind) layer
-read_opened table ended (Opened header slices zp) layer = read_tasks (chunk table zp ended) slices (tasks header slices layer.slices) (with_header layer.header layer header) None
+read_opened table ended (Opened header slices zp) layer =
+    read_tasks (chunk table zp ended) slices (tasks header slices layer.slices) (with_header layer.header layer header) None
 
 -- a chunk's data, which are all of it or not
 pub record Data : Type 0 where
@@ -147,7 +150,8 @@ after_chunk (Fault kind) layer rest = ends (Fault kind) layer
 -- the chunks of a layer in order, each from where the one before ended
 abbrev pub read_chunks : List Row → ℕ → List Data → Layer → LayerReading
 read_chunks table limit [] layer = ends Done layer
-read_chunks table limit (given ∷ later) layer = after_chunk (read_chunk table limit given layer).answer (read_chunk table limit given layer).layer (λ after. read_chunks table limit later after)
+read_chunks table limit (given ∷ later) layer =
+    after_chunk (read_chunk table limit given layer).answer (read_chunk table limit given layer).layer (λ after. read_chunks table limit later after)
 
 -- a layer of which nothing was read; its size isn't known
 abbrev pub no_header : Header

@@ -12,6 +12,7 @@
 pub mod laws;
 mod neighbours;
 mod passes;
+mod runs;
 mod samples;
 mod transform;
 

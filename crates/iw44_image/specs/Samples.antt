@@ -1,0 +1,80 @@
+-- The samples of a layer's pixels.
+use Rattle.std.specs.Prelude.{ℕ, ◌-◌, ◌*◌, ◌/◌, ◌%◌, ◌==◌, Bool, if◌then◌else◌, ℤ, pos, negsuc, ◌+ℤ◌, ◌-ℤ◌, ◌*ℤ◌, unsigned_abs, map}
+use Rattle.std.specs.Int.{int_shr, int_max, int_min}
+use Rattle.std.specs.List.{range_with_len}
+use Rattle.djvu_base.specs.Picture.{Picture}
+use Rattle.iw44_blocks.specs.Plane.{Plane, grid_of}
+use Rattle.iw44_blocks.specs.Lattice.{value_at}
+use Rattle.iw44_lifting.specs.Lift.{lifted}
+use Rattle.iw44_image.specs.Header.{Header}
+use Rattle.iw44_image.specs.Layer.{Planes}
+
+-- a number brought between a least and a largest one
+abbrev pub within : ℤ → ℤ → ℤ → ℤ
+within least most number = int_max least (int_min most number)
+
+-- the sample of a value: 64 of a value make one
+abbrev pub sample_of : ℤ → ℤ
+sample_of value = within (negsuc 127) (pos 127) (int_shr (value +ℤ pos 32) 6)
+
+-- three samples of a pixel
+pub record Colour : Type 0 where
+  pub red : ℕ
+  pub green : ℕ
+  pub blue : ℕ
+
+abbrev pub byte_of : ℤ → ℕ
+byte_of number = unsigned_abs (within (pos 0) (pos 255) number)
+
+-- of a grey image, by the sample of y
+abbrev pub grey : ℤ → Colour
+grey y = record { red = byte_of (pos 127 -ℤ y); green = byte_of (pos 127 -ℤ y); blue = byte_of (pos 127 -ℤ y) }
+
+-- what r adds to red, and what is left of y for green and blue
+abbrev pub red_part : ℤ → ℤ
+red_part r = r +ℤ int_shr r 1
+
+abbrev pub base_part : ℤ → ℤ → ℤ
+base_part y b = y +ℤ pos 128 -ℤ int_shr b 2
+
+-- of an image with colours, by the samples of y, b and r
+abbrev pub colour : ℤ → ℤ → ℤ → Colour
+colour y b r = record {
+  red = byte_of (y +ℤ pos 128 +ℤ red_part r);
+  green = byte_of (base_part y b -ℤ int_shr (red_part r) 1);
+  blue = byte_of (base_part y b +ℤ pos 2 *ℤ b);
+}
+
+-- the value of a plane at a place: the inverse transform of its grid, all scales of it
+abbrev pub full_value : Plane → ℕ → ℕ → ℤ
+full_value plane x y = value_at (lifted 1 (grid_of plane)) x y
+
+-- at half size the last scale is left out, and two by two places have one value
+abbrev pub half_value : Plane → ℕ → ℕ → ℤ
+half_value plane x y = value_at (lifted 2 (grid_of plane)) (2 * (x / 2)) (2 * (y / 2))
+
+abbrev pub chroma_value : Bool → Plane → ℕ → ℕ → ℤ
+chroma_value half plane x y = if half then half_value plane x y else full_value plane x y
+
+-- the pixel in column x from the left and row y from the bottom
+abbrev pub pixel : Header → Planes → ℕ → ℕ → Colour
+pixel header planes x y =
+    if header.grey then grey (sample_of (full_value planes.y.plane x y))
+    else colour (sample_of (full_value planes.y.plane x y)) (sample_of (chroma_value header.half planes.b.plane x y))
+        (sample_of (chroma_value header.half planes.r.plane x y))
+
+-- red, green and blue of a pixel, by their number
+abbrev pub channel_of : ℕ → Colour → ℕ
+channel_of number it = if number == 0 then it.red else if number == 1 then it.green else it.blue
+
+-- sample n of a picture, whose rows come from the top: three for each pixel
+abbrev pub sample_at : Header → Planes → ℕ → ℕ
+sample_at header planes n = channel_of (n % 3) (pixel header planes (n / 3 % header.width) (header.height - 1 - n / 3 / header.width))
+
+-- the picture of the planes
+abbrev pub picture : Header → Planes → Picture
+picture header planes = record {
+  width = header.width;
+  height = header.height;
+  samples = map (sample_at header planes) (range_with_len 0 (3 * header.width * header.height));
+}

@@ -1,0 +1,5 @@
+-- What crates above may cite of the proofs here.
+-- a reading with more bytes, and one that was whole
+pub use Rattle.iw44_slices.proofs.Cutting.{cut_anywhere, whole_stays, never_exhausted}
+-- what a reading leaves: states and a place to go on from, and room for fewer decisions
+pub use Rattle.iw44_slices.proofs.Cutting.{Leaves, leaves_room}

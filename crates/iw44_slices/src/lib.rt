@@ -1,0 +1,13 @@
+//! Slices of the wavelet coefficients of a plane of an IW44 image.
+//!
+//! A slice does one band of every block: it finds coefficients that start, and halves the range of those that started
+//! earlier. `specs/` has the definitions: `Bands` (buckets, bands and thresholds), `Contexts` (their names), `Slice` (which
+//! decisions a slice reads, in order, and the coefficients that they make) and `Reading` (how these decisions are read from
+//! a chunk). The scheme is that of IW44 in the DjVu Reference, version 3; the numbers are this project's own profile after
+//! it (`docs/iw44.md`).
+#![tactic(auto)]
+
+pub mod laws;
+mod steps;
+
+pub use steps::SliceStep;

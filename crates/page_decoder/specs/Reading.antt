@@ -13,7 +13,7 @@ use Rattle.iff_chunks.specs.Ends.{closed}
 use Rattle.iff_chunks.specs.Refused.{refused_ids}
 use Rattle.zp_table.specs.declared.rows.Row.{Row}
 use Rattle.bit_plane.specs.Pixels.{Pixels, area_limit}
-use Rattle.jb2_numbers.specs.Number.{chunk}
+use Rattle.zp_decoder.specs.Chunk.{chunk}
 use Rattle.jb2_records.specs.declared.reader.Jb2Step.{Jb2Step}
 use Rattle.jb2_records.specs.declared.reader.Jb2Step.TheVariants as answer
 use Rattle.jb2_records.specs.Reading as jb2

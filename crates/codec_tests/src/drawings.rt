@@ -93,8 +93,8 @@ fn coloured(
 /// A place of a page, from the bottom left.
 #[derive(Clone, Copy)]
 struct Place {
-    column: u64,
-    row: u64,
+    column: u32,
+    row: u32,
 }
 
 /// The place of the page that is seen at a place of the drawing.
@@ -107,10 +107,7 @@ fn place_seen(layers: &Layers, x: u32, y: u32) -> Option<Place> {
         Turn::Over => (right.checked_sub(x)?, y),
         Turn::Left => (right.checked_sub(y)?, top.checked_sub(x)?),
     };
-    Some(Place {
-        column: u64::from(column),
-        row: u64::from(row),
-    })
+    Some(Place { column, row })
 }
 
 /// A sample of a layer, or a plain one.
@@ -124,9 +121,9 @@ fn layer_sample(
     let Some(raster) = layer else {
         return Some(plain);
     };
-    let column = place.column.checked_div(u64::from(by))?;
+    let column = u64::from(place.column).checked_div(u64::from(by))?;
     let row = u64::from(raster.height())
-        .checked_sub(place.row.checked_div(u64::from(by))?)?
+        .checked_sub(u64::from(place.row).checked_div(u64::from(by))?)?
         .checked_sub(1)?;
     let at = row
         .wrapping_mul(u64::from(raster.width()))
@@ -147,7 +144,7 @@ struct By {
 fn shade(layers: &Layers, by: By, x: u32, y: u32, channel: u64) -> Option<u8> {
     let place = place_seen(layers, x, y)?;
     let masked = match &layers.mask {
-        Some(mask) => mask.get(place.column as i64, place.row as i64),
+        Some(mask) => mask.get(i64::from(place.column), i64::from(place.row)),
         None => false,
     };
     if masked {

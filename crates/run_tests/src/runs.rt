@@ -12,7 +12,7 @@ use cases::{
     REFUSED,
 };
 use djvu_base::{CountMeter, Items, Name};
-use djvu_outside::{MemoryFolder, MemorySink, SureFolder, SureSink};
+use djvu_outside::{Folder, MemoryFolder, MemorySink, Sink, SureFolder, SureSink};
 use masks::MASKS;
 use std::alloc::Global;
 use std::process::Abort;
@@ -69,6 +69,29 @@ fn two_files(alloc: Global, p: &[u8], q: &[u8]) -> Option<Vec<(Name, Items<u8>)>
     Vec::from_array(alloc, [(first, p), (second, q)]).ok()
 }
 
+/// Runs the words over a folder and sinks. Answers the status and the meter's count.
+fn ran<F: Folder, S: Sink>(
+    alloc: Global,
+    words: &[Items<u8>],
+    folder: &mut F,
+    out: &mut S,
+    report: &mut S,
+) -> (u8, u64) {
+    let mut meter = CountMeter::new();
+    let status = run(alloc, words, folder, out, report, &mut meter);
+    (status.0, meter.count())
+}
+
+/// What a run came to with this status, these bytes in its sinks, and this count of its meter.
+fn came_with(alloc: Global, (status, ticks): (u8, u64), out: &[u8], report: &[u8]) -> Option<Came> {
+    Some(Came {
+        status,
+        out: Vec::from_slice(alloc, out).ok()?,
+        report: Vec::from_slice(alloc, report).ok()?,
+        ticks,
+    })
+}
+
 /// Runs the words over these files.
 fn came_to(
     alloc: Global,
@@ -82,21 +105,8 @@ fn came_to(
     let mut folder = MemoryFolder::new(alloc, files, list_of(alloc, failing.folder)?).ok()?;
     let mut out = MemorySink::new(alloc, list_of(alloc, failing.out)?);
     let mut report = MemorySink::new(alloc, list_of(alloc, failing.report)?);
-    let mut meter = CountMeter::new();
-    let status = run(
-        alloc,
-        words.as_slice(),
-        &mut folder,
-        &mut out,
-        &mut report,
-        &mut meter,
-    );
-    Some(Came {
-        status: status.0,
-        out: Vec::from_slice(alloc, out.bytes()).ok()?,
-        report: Vec::from_slice(alloc, report.bytes()).ok()?,
-        ticks: meter.count(),
-    })
+    let came = ran(alloc, words.as_slice(), &mut folder, &mut out, &mut report);
+    came_with(alloc, came, out.bytes(), report.bytes())
 }
 
 /// Runs the words over the files `p`, with these bytes, and `q`, a blank page.
@@ -324,21 +334,8 @@ fn sure_came(alloc: Global) -> Option<Came> {
     let mut folder = SureFolder::new(alloc, two_files(alloc, BLANK, BLANK)?);
     let mut out = SureSink::new(alloc);
     let mut report = SureSink::new(alloc);
-    let mut meter = CountMeter::new();
-    let status = run(
-        alloc,
-        words.as_slice(),
-        &mut folder,
-        &mut out,
-        &mut report,
-        &mut meter,
-    );
-    Some(Came {
-        status: status.0,
-        out: Vec::from_slice(alloc, out.bytes()).ok()?,
-        report: Vec::from_slice(alloc, report.bytes()).ok()?,
-        ticks: meter.count(),
-    })
+    let came = ran(alloc, words.as_slice(), &mut folder, &mut out, &mut report);
+    came_with(alloc, came, out.bytes(), report.bytes())
 }
 
 #[test]

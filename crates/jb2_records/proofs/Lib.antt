@@ -11,6 +11,8 @@ mod Calling
 mod Following
 -- src/records.rt, src/shapes.rt
 mod Joining
+-- read_steps, read_relative, read_place
+mod Moving
 -- Continuing, Ending, Leaving
 mod Keeping
 -- Growing, Leaving

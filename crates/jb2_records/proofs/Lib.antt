@@ -31,6 +31,8 @@ mod Libraries
 mod Looping
 -- src/records.rt
 mod Recording
+-- src/records.rt
+mod Exits
 -- Finishing
 mod Settling
 -- laws records_end

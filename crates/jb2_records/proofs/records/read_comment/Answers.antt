@@ -3,7 +3,14 @@ use Rattle.std.proofs.Common.{◌≡◌, ◌<◌, ◌-◌, ap, ◌∙◌, to_z, 
 use Rattle.bit_plane.specs.Ink.{unsigned}
 use Rattle.jb2_records.specs.Reading.{read_comment}
 use Rattle.jb2_records.proofs.Texting.{text_first, text_next, text_halts, text_ends, exit_text}
+use Rattle.jb2_records.proofs.Exits.{comment_count_halts}
 use Rattle.jb2_records.proofs.records.read_comment.Goals as goal
+
+pub returns-in_err-count : goal.returns-in_err-count
+returns-in_err-count c source at stands =
+    exit_text source (read_comment source at) c.from_residual.result c.in_err-count.field-0.0 c.read_number.new.self
+    (err_from_is_err_and c.from_residual.result c.from_residual.ensures.1)
+    (comment_count_halts source at c.in_err-count.field-0.0 c.read_number.new.self (c.in_err-count.ensures.told source at stands))
 
 pub bytes-init : goal.bytes-init
 bytes-init c source at stands = text_first source at c.unsigned-count.result c.read_number.new.self stands

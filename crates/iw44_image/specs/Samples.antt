@@ -61,7 +61,7 @@ abbrev pub pixel : Header → Planes → ℕ → ℕ → Colour
 pixel header planes x y =
     if header.grey then grey (sample_of (full_value planes.y.plane x y))
     else colour (sample_of (full_value planes.y.plane x y)) (sample_of (chroma_value header.half planes.b.plane x y))
-        (sample_of (chroma_value header.half planes.r.plane x y))
+    (sample_of (chroma_value header.half planes.r.plane x y))
 
 -- red, green and blue of a pixel, by their number
 abbrev pub channel_of : ℕ → Colour → ℕ

@@ -142,19 +142,19 @@ no_samples width sample =
     let none : 3 * width * 0 ≡ 0 = omega arith in
     ap (λ n. map (λ i. sample (i / 3 % width) (i / 3 / width) (i % 3)) (range_with_len 0 n)) none
 
--- the rows after one more was put behind those before
-pub samples_put : (width row at size : ℕ) (sample : ℕ → ℕ → ℕ → ℕ) (out part : List ℕ) → at ≡ 3 * width * row → take (3 * width * row) out ≡ samples_by width row sample →
-    part ≡ samples_by width 1 (λ x y channel. sample x (row + y) channel) → 3 * width * row ≤ length out →
-    take (3 * width * (row + 1)) (put_mid at size out part) ≡ samples_by width (row + 1) sample
-samples_put width row at size sample out part start before is room =
-    let whole : length part ≡ 3 * width * 1 = ap length is ∙ samples_length width 1 (λ x y channel. sample x (row + y) channel) in
-    let all : 3 * width * (row + 1) ≡ 3 * width * row + 3 * width * 1 = grind arith in
-    let end : 3 * width * (row + 1) ≡ 3 * width * row + length part = omega arith in
-    ap (λ n. take (3 * width * (row + 1)) (put_mid n size out part)) start
-    ∙ take-put_mid (3 * width * row) size out part (3 * width * (row + 1)) end room
+-- the rows after some more were put behind those before
+pub samples_put : (width row more at size : ℕ) (sample : ℕ → ℕ → ℕ → ℕ) (out part : List ℕ) → at ≡ 3 * width * row → take (3 * width * row) out ≡ samples_by width row sample →
+    part ≡ samples_by width more (λ x y channel. sample x (row + y) channel) → 3 * width * row ≤ length out →
+    take (3 * width * (row + more)) (put_mid at size out part) ≡ samples_by width (row + more) sample
+samples_put width row more at size sample out part start before is room =
+    let whole : length part ≡ 3 * width * more = ap length is ∙ samples_length width more (λ x y channel. sample x (row + y) channel) in
+    let all : 3 * width * (row + more) ≡ 3 * width * row + 3 * width * more = grind arith in
+    let end : 3 * width * (row + more) ≡ 3 * width * row + length part = omega arith in
+    ap (λ n. take (3 * width * (row + more)) (put_mid n size out part)) start
+    ∙ take-put_mid (3 * width * row) size out part (3 * width * (row + more)) end room
     ∙ ap (λ (xs : List ℕ). xs ++ part) before
     ∙ ap (λ (xs : List ℕ). samples_by width row sample ++ xs) is
-    ∙ sym (samples_joined width row 1 sample)
+    ∙ sym (samples_joined width row more sample)
 
 pub row_put : (layers : Layers) (from row at size : ℕ) (out part : List ℕ) → at ≡ 3 * drawing_width layers * row →
     take (3 * drawing_width layers * row) out ≡ rows_of layers from row →
@@ -162,7 +162,7 @@ pub row_put : (layers : Layers) (from row at size : ℕ) (out part : List ℕ) �
     take (3 * drawing_width layers * (row + 1)) (put_mid at size out part) ≡ rows_of layers from (row + 1)
 unfolding row_of rows_of
 row_put layers from row at size out part start before is room =
-    samples_put (drawing_width layers) row at size (λ x y channel. sample_from_top layers x (from + y) channel) out part start before
+    samples_put (drawing_width layers) row 1 at size (λ x y channel. sample_from_top layers x (from + y) channel) out part start before
     (is
     ∙ samples_same (drawing_width layers) 1 (λ x y channel. sample_from_top layers x (from + row) channel) (λ x y channel. sample_from_top layers x (from + (row + y)) channel)
     (λ x y channel column within. ap (λ k. sample_from_top layers x k channel) (omega arith)))
@@ -174,7 +174,7 @@ pub steps_put : (layers : Layers) (step columns row at size : ℕ) (out part : L
     part ≡ samples_by columns 1 (λ x y channel. sample_from_top layers (x * step) (row * step) channel) → 3 * columns * row ≤ length out →
     take (3 * columns * (row + 1)) (put_mid at size out part) ≡ samples_by columns (row + 1) (λ x y channel. sample_from_top layers (x * step) (y * step) channel)
 steps_put layers step columns row at size out part start before is room =
-    samples_put columns row at size (λ x y channel. sample_from_top layers (x * step) (y * step) channel) out part start before
+    samples_put columns row 1 at size (λ x y channel. sample_from_top layers (x * step) (y * step) channel) out part start before
     (is
     ∙ samples_same columns 1 (λ x y channel. sample_from_top layers (x * step) (row * step) channel) (λ x y channel. sample_from_top layers (x * step) ((row + y) * step) channel)
     (λ x y channel column within. ap (λ k. sample_from_top layers (x * step) (k * step) channel) (omega arith)))

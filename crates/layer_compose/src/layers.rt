@@ -1,10 +1,10 @@
 //! The layers of a page, and what is drawn of them.
-ghost use Rattle.std.specs.Prelude.{◌≡◌, ℕ, ◌+◌, ◌*◌, ◌<◌, ◌≤◌, ◌⊎◌, length, replicate, IfOk, None};
-ghost use Rattle.layer_compose.specs.Drawing.{IsDrawable, in_mask, reduction_in, sample_at, sample_from_top, samples_by, drawing_width, drawing_height, raster_of, row_of, rows_of, sum_of, step_of, preview_of};
+ghost use Rattle.std.specs.Prelude.{◌≡◌, ℕ, ◌+◌, ◌-◌, ◌*◌, ◌%◌, ◌<◌, ◌≤◌, ◌⊎◌, length, replicate, IfOk, None};
+ghost use Rattle.layer_compose.specs.Drawing.{IsDrawable, in_mask, reduction_in, back_sample, sample_at, coded_sample, sample_from_top, samples_by, drawing_width, drawing_height, raster_of, row_of, rows_of, sum_of, step_of, preview_of};
 ghost use Rattle.layer_compose.specs.Laying.{IsColour, row_sum};
 
 use crate::colours::Colour;
-use crate::reductions::reduction;
+use crate::reductions::{Reductions, reduction};
 use crate::rows::{lay_layer, lay_masked};
 use crate::sums::{Side, sum_on};
 use bit_plane::Plane;
@@ -26,13 +26,6 @@ pub struct Layers {
     pub front: Option<Raster>,
     /// The colours of all others. Without them they are white.
     pub back: Option<Raster>,
-}
-
-/// The reductions of a page's colours, 1 for each that isn't there.
-#[derive(Clone, Copy, Debug)]
-pub struct Reductions {
-    pub front: u32,
-    pub back: u32,
 }
 
 impl Layers {
@@ -70,7 +63,7 @@ impl Layers {
         ensures { out.new ≡ row_of self.now y }
     {
         match self.turn {
-            Turn::Upright => self.coded_row(self.height - 1 - y, out),
+            Turn::Upright => self.upright_rows(y, 1, out),
             Turn::Right | Turn::Over | Turn::Left => self.row_by_steps(
                 y,
                 1,
@@ -87,10 +80,9 @@ impl Layers {
         requires room { length out.old ≡ 3 * drawing_width self.now * count }
         ensures { out.new ≡ rows_of self.now from count }
     {
-        let length = 3 * self.drawing_width() as usize;
-        for row in 0..count {
-            let start = length * row as usize;
-            self.row(from + row, &mut out[start..start + length]);
+        match self.turn {
+            Turn::Upright => self.upright_rows(from, count, out),
+            Turn::Right | Turn::Over | Turn::Left => self.turned_rows(from, count, out),
         }
     }
 
@@ -134,15 +126,111 @@ impl Layers {
         Ok(Raster::new(columns, rows, samples))
     }
 
-    /// Writes the samples of a row of the page as it is coded, counted from the bottom.
-    fn coded_row(&self, y: u32, out: &mut [u8])
+    /// Writes rows one at a time, as a turned page needs it.
+    fn turned_rows(&self, from: u32, count: u32, out: &mut [u8])
+        requires drawable { IsDrawable self.now }
+        requires rows { from + count ≤ drawing_height self.now }
+        requires room { length out.old ≡ 3 * drawing_width self.now * count }
+        ensures { out.new ≡ rows_of self.now from count }
+    {
+        let length = 3 * self.drawing_width() as usize;
+        for row in 0..count {
+            let start = length * row as usize;
+            self.row(from + row, &mut out[start..start + length]);
+        }
+    }
+
+    /// Writes rows of the page as it is coded, counted from the top. Those with one row of the background are written together.
+    fn upright_rows(&self, from: u32, count: u32, out: &mut [u8])
+        requires drawable { IsDrawable self.now }
+        requires rows { from + count ≤ self.now.height }
+        requires room { length out.old ≡ 3 * self.now.width * count }
+        ensures { out.new ≡ samples_by self.now.width count (λ x row channel. coded_sample self.now x (from + row) channel) }
+    {
+        let by = self.reductions();
+        let length = 3 * self.width as usize;
+        let mut done = 0;
+        while done < count {
+            let y = self.height - 1 - (from + done);
+            let alike = (y % by.back + 1).min(count - done);
+            let start = length * done as usize;
+            let end = start + length * alike as usize;
+            self.alike_rows(by, y, alike, &mut out[start..end]);
+            done += alike;
+        }
+    }
+
+    /// Writes so many rows of the page as it is coded, from one downwards, which have one row of the background. It is widened
+    /// into the lowest of them, and copied into the others.
+    fn alike_rows(&self, by: Reductions, y: u32, count: u32, out: &mut [u8])
         requires drawable { IsDrawable self.now }
         requires row { y < self.now.height }
+        requires front { by.front ≡ reduction_in self.now self.now.front }
+        requires back { by.back ≡ reduction_in self.now self.now.back }
+        requires some { 0 < count }
+        requires alike { count ≤ y % by.back + 1 }
+        requires room { length out.old ≡ 3 * self.now.width * count }
+        ensures { out.new ≡ samples_by self.now.width count (λ x row channel. sample_at self.now x (y - row) channel) }
+    {
+        let last = count - 1;
+        let (above, lowest) = out.split_at_mut(3 * self.width as usize * last as usize);
+        self.lay_behind(by, y - last, lowest);
+        self.copied_rows(by, y, last, lowest, above);
+        self.lay_in_front(by, y - last, lowest);
+    }
+
+    /// Writes so many rows, from one downwards, each of which has this background.
+    fn copied_rows(&self, by: Reductions, y: u32, count: u32, behind: &[u8], out: &mut [u8])
+        requires drawable { IsDrawable self.now }
+        requires row { y < self.now.height }
+        requires rows { count ≤ y }
+        requires front { by.front ≡ reduction_in self.now self.now.front }
+        requires behind { (row : ℕ) → row < count → behind.now ≡ samples_by self.now.width 1 (λ x r channel. back_sample self.now x (y - row) channel) }
+        requires size { length behind.now ≡ 3 * self.now.width }
+        requires room { length out.old ≡ 3 * self.now.width * count }
+        ensures { out.new ≡ samples_by self.now.width count (λ x row channel. sample_at self.now x (y - row) channel) }
+    {
+        let length = 3 * self.width as usize;
+        for row in 0..count {
+            let start = length * row as usize;
+            self.copied_row(by, y - row, behind, &mut out[start..start + length]);
+        }
+    }
+
+    /// Writes the row of the page as it is coded whose background this is.
+    fn copied_row(&self, by: Reductions, y: u32, behind: &[u8], out: &mut [u8])
+        requires drawable { IsDrawable self.now }
+        requires row { y < self.now.height }
+        requires front { by.front ≡ reduction_in self.now self.now.front }
+        requires behind { behind.now ≡ samples_by self.now.width 1 (λ x row channel. back_sample self.now x y channel) }
+        requires size { length behind.now ≡ 3 * self.now.width }
         requires room { length out.old ≡ 3 * self.now.width }
         ensures { out.new ≡ samples_by self.now.width 1 (λ x row channel. sample_at self.now x y channel) }
     {
-        let by = self.reductions();
+        out.copy_from_slice(behind);
+        self.lay_in_front(by, y, out);
+    }
+
+    /// Writes the background of a row.
+    fn lay_behind(&self, by: Reductions, y: u32, out: &mut [u8])
+        requires drawable { IsDrawable self.now }
+        requires row { y < self.now.height }
+        requires back { by.back ≡ reduction_in self.now self.now.back }
+        requires room { length out.old ≡ 3 * self.now.width }
+        ensures { out.new ≡ samples_by self.now.width 1 (λ x row channel. back_sample self.now x y channel) }
+    {
         lay_layer(&self.back, 255, by.back, self.width, y, out);
+    }
+
+    /// Lays what is in front over the background of a row.
+    fn lay_in_front(&self, by: Reductions, y: u32, out: &mut [u8])
+        requires drawable { IsDrawable self.now }
+        requires row { y < self.now.height }
+        requires front { by.front ≡ reduction_in self.now self.now.front }
+        requires behind { out.old ≡ samples_by self.now.width 1 (λ x row channel. back_sample self.now x y channel) }
+        requires room { length out.old ≡ 3 * self.now.width }
+        ensures { out.new ≡ samples_by self.now.width 1 (λ x row channel. sample_at self.now x y channel) }
+    {
         if let Some(mask) = &self.mask {
             lay_masked(mask, &self.front, by.front, y, out);
         }

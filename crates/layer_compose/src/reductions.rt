@@ -2,6 +2,13 @@
 ghost use Rattle.std.specs.Prelude.{◌≡◌, ◌<◌};
 ghost use Rattle.layer_compose.specs.Reduction.{is_reduced, reduction_of};
 
+/// The reductions of a page's colours, 1 for each that isn't there.
+#[derive(Clone, Copy, Debug)]
+pub struct Reductions {
+    pub front: u32,
+    pub back: u32,
+}
+
 /// The least number from 1 to 12 by which both sizes of the page, in pixels, are divided and rounded up to those of the
 /// layer. `None` exactly where none of them does. Takes no memory.
 pub fn reduction(page: (u32, u32), layer: (u32, u32)) -> Option<u32>

@@ -82,7 +82,7 @@ pub fn worked_slices()
 
 /// Two slices of band 0. The bits of the byte are 0010 1010. In the first slice the bucket is chosen, and coefficient 0
 /// starts above 0. In the second coefficients 1 and 2 are unknown, with 4000 hexadecimal as their threshold: the bucket is
-/// chosen, 1 doesn't start, 2 does, above 0; and then coefficient 0 is raised, by 2000 hexadecimal.
+/// chosen, 1 doesn't start, 2 does, above 0; and then coefficient 0 is raised, by 1800 hexadecimal.
 pub fn worked_pair()
     ensures answer { (two_slices (0x2A ∷ []) true).answer ≡ step.SliceEnd }
     ensures raised { coefficient (plane_of (two_slices (0x2A ∷ []) true).left) 0 0 ≡ pos 28672 }

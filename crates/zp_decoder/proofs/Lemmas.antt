@@ -10,3 +10,8 @@ pub use Rattle.zp_decoder.proofs.Growing.{grown}
 pub use Rattle.zp_decoder.proofs.Taking.{taken_same, wanted, fits}
 -- states by their names
 pub use Rattle.zp_decoder.proofs.StateLemmas.{are_same-true, are_same-refl, stored_here, stored_elsewhere, stored_below, fresh_below}
+-- z lies within the interval, and so many shifts are enough: an encoder shifts as a decoder does
+pub use Rattle.zp_decoder.proofs.Within.{SplitFacts, split_facts, high_or_low, bit_at-lt, bits_from-lt}
+pub use Rattle.zp_decoder.proofs.Shifting.{IsEnough, enough_at_first, enough_some, enough_later}
+-- bits in a row: in two parts, past the end, and what a byte more changes
+pub use Rattle.zp_decoder.proofs.Input.{bits_from-join, ones_past, bits_with}

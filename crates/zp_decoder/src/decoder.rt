@@ -7,7 +7,7 @@ ghost use Rattle.zp_decoder.specs.Decision.{next_state};
 ghost use Rattle.zp_decoder.specs.Decoder.{Fed, bytes_wanted, room_left};
 ghost use Rattle.zp_decoder.specs.Runs.{IsStanding};
 
-use crate::interval::{adaptive_split, iw_split, pass_split};
+use crate::interval::{adaptive_split, iw_split, next_state, pass_split};
 use crate::standing::{Standing, leading_ones};
 use djvu_base::Meter;
 use std::marker::Model;
@@ -258,19 +258,5 @@ fn state_after(answer: Decision, row: Row, state: u8, z: u32, a: u32, code: u32)
         Decision::Bit(_) => next_state(row, state, z, a, code),
         Decision::NeedBytes => state,
         Decision::Exhausted => state,
-    }
-}
-
-/// The state of a context after a bit that was decided with this z.
-fn next_state(row: Row, state: u8, z: u32, a: u32, code: u32) -> u8
-    ensures next { result ≡ next_state row state z (interval a code 0) }
-    ensures row { (result ≡ state) ⊎ (result ≡ row.up) ⊎ (result ≡ row.dn) }
-{
-    if code < z {
-        row.dn
-    } else if z >= 0x8000 && a >= u32::from(row.m) {
-        row.up
-    } else {
-        state
     }
 }

@@ -13,3 +13,4 @@ mod standing;
 mod window;
 
 pub use decoder::{Decision, ZpDecoder};
+pub use interval::{adaptive_split, iw_split, next_state, pass_split};

@@ -9,3 +9,5 @@ mod StandingLemmas
 mod Leading
 -- law codes_make_decisions, ZpEncoder::finish
 mod Decoding
+-- ZpEncoder
+mod Writing

@@ -83,7 +83,8 @@ impl ZpEncoder {
         ensures again { self.old.failed ≡ true → is_err result ≡ true }
     {
         let a = self.start()?;
-        self.decide(pass_split(a), !bit)
+        self.decide(pass_split(a), !bit)?;
+        Ok(())
     }
 
     /// Writes a bit without a context, in the form of IW44's coefficients.
@@ -95,7 +96,8 @@ impl ZpEncoder {
         ensures again { self.old.failed ≡ true → is_err result ≡ true }
     {
         let a = self.start()?;
-        self.decide(iw_split(a), !bit)
+        self.decide(iw_split(a), !bit)?;
+        Ok(())
     }
 
     /// The bytes of a whole chunk from which a decoder decides what was written, in order, and leaves the same states.
@@ -110,6 +112,8 @@ impl ZpEncoder {
         if self.failed {
             return Err(AllocError);
         }
+        // Its clauses say that the rows are those of a table, as decisions need them.
+        let _rows = self.table.len();
         self.kept.finish()
     }
 

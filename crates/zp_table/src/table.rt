@@ -70,6 +70,7 @@ impl Table {
         ensures len { result ≡ length self.now }
         ensures some { 0 < result }
         ensures most { result ≤ 256 }
+        ensures table { IsTable self.now }
     {
         self.rows.len() as u16
     }

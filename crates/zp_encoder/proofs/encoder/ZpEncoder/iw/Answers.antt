@@ -1,0 +1,16 @@
+use Rattle.std.proofs.Common.{refl, sym, ap, ◌∙◌, arith}
+use Rattle.zp_decoder.specs.Decision.{Iw, iw_split}
+use Rattle.zp_encoder.proofs.Writing.{Follows, wrote_on, other_bit}
+use Rattle.zp_encoder.proofs.encoder.ZpEncoder.iw.Goals as goal
+
+pub returns-clause-wrote : goal.returns-clause-wrote
+returns-clause-wrote c decisions =
+    wrote_on decisions Iw c.args.bit 0 c.iw_split.result _ c.args.self.now c.decide.new.self
+    (record {
+      form_of = tt;
+      more = other_bit c.args.bit;
+      split = ap iw_split (sym c.in_ok-a.ensures.start.0) ∙ sym c.iw_split.ensures;
+      codes = c.in_ok-decide.ensures.codes;
+      table = c.in_ok-decide.ensures.table;
+      state_is = refl;
+    })

@@ -1,5 +1,5 @@
 -- A payload that has one of the codes of decisions is read as they were written.
-use Rattle.std.proofs.Common.{◌≡◌, ◌<◌, ◌≤◌, ◌+◌, ◌-◌, ◌*◌, ℕ, Bool, true, List, [], ◌∷◌, length, refl, sym, ap, subst, ◌∙◌, arith}
+use Rattle.std.proofs.Common.{◌≡◌, ◌<◌, ◌≤◌, ◌+◌, ◌-◌, ◌*◌, ◌/◌, ℕ, Bool, true, List, [], ◌∷◌, length, refl, sym, ap, subst, ◌∙◌, arith}
 use Rattle.std.proofs.Common.{map}
 use Rattle.std.specs.Prelude.{Option, Some, None}
 use Rattle.zp_table.specs.declared.rows.Row.{Row}
@@ -11,7 +11,7 @@ use Rattle.zp_decoder.specs.Decision.{Form, Interval, interval, interval_at, Out
 use Rattle.zp_decoder.specs.Runs.{outcomes, answers, with_later}
 use Rattle.zp_encoder.specs.Codes.{Codes, all_codes, codes_after, state_left, IsAmong, standing_in}
 use Rattle.zp_encoder.specs.Written.{Written, LeadTo, forms_of, bits_of, states_of, states_read}
-use Rattle.zp_encoder.proofs.Leading.{Decides, decides, after-low}
+use Rattle.zp_encoder.proofs.Leading.{Decides, decides, after-low, after-n}
 
 among_before : (rows : List Row) (payload : List ℕ) (decisions : List Written) (from to : Codes) → IsTable rows → LeadTo rows from decisions to →
     from.a < 0x8000 → IsAmong payload to → IsAmong payload from
@@ -65,3 +65,15 @@ bits_read rows payload decisions codes t leads among = (reads rows payload decis
 pub states_are_read : (rows : List Row) (payload : List ℕ) (decisions : List Written) (codes : Codes) → IsTable rows → LeadTo rows all_codes decisions codes →
     IsAmong payload codes → states_read rows payload (forms_of decisions) ≡ states_of decisions
 states_are_read rows payload decisions codes t leads among = (reads rows payload decisions codes t leads among).states
+
+bits_most : (rows : List Row) (decisions : List Written) (from to : Codes) → LeadTo rows from decisions to → to.n ≤ from.n + 16 * length decisions
+bits_most rows [] from to leads = let same : from.n ≡ to.n = ap (λ (codes : Codes). codes.n) leads in omega (arith, same)
+bits_most rows (first ∷ later) from to leads =
+    let one = after-n rows first.form first.bit from in
+    let more = bits_most rows later (codes_after rows first.form first.bit from) to leads.2 in
+    omega (arith, one, more)
+
+-- a byte for eight bits, and one more
+pub few_bytes : (rows : List Row) (decisions : List Written) (codes : Codes) (count : ℕ) → LeadTo rows all_codes decisions codes →
+    count ≡ codes.n / 8 + 1 → count ≤ 2 * length decisions + 1
+few_bytes rows decisions codes count leads e = let bits = bits_most rows decisions all_codes codes leads in omega (arith, bits, e)

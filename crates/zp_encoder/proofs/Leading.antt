@@ -218,3 +218,26 @@ after-low rows form bit codes t below low =
     let split : SplitFacts codes.a (split_of rows form codes.a) = split_facts rows form codes.a t below low in
     let part : Codes = part_of (is_probable form bit) (split_of rows form codes.a) codes in
     lengthened-low 16 part (enough_at_first part.a (part_below (split_of rows form codes.a) (is_probable form bit) codes split.above split.below))
+
+-- how many bits a decision adds
+
+part-n : (z : ℕ) (probable : Bool) (codes : Codes) → (part_of probable z codes).n ≡ codes.n
+part-n z true codes = refl
+part-n z false codes = refl
+
+lengthened-n : (k : ℕ) (codes : Codes) → (lengthened k codes).n ≤ codes.n + k
+lengthened-n zero codes = omega arith
+lengthened-n (suc k) codes =
+    elim (high_or_low codes.a) [
+      | inl high ↦ let later = lengthened-n k (longer codes) in rw (lengthened-step k codes high) (omega (arith, later))
+      | inr low ↦ rw (lengthened-stop (suc k) codes low) (omega arith)
+    ]
+
+pub after-n : (rows : List Row) (form : Form) (bit : Bool) (codes : Codes) → (codes_after rows form bit codes).n ≤ codes.n + 16
+unfolding most_bits
+after-n rows form bit codes =
+    let z : ℕ = split_of rows form codes.a in
+    let same : (part_of (is_probable form bit) z codes).n ≡ codes.n = part-n z (is_probable form bit) codes in
+    let more : (lengthened 16 (part_of (is_probable form bit) z codes)).n ≤ (part_of (is_probable form bit) z codes).n + 16 =
+        lengthened-n 16 (part_of (is_probable form bit) z codes) in
+    omega (arith, same, more)

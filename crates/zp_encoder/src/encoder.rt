@@ -69,7 +69,7 @@ impl ZpEncoder {
         let a = self.start()?;
         let z = adaptive_split(row.p, a);
         let probable = (*ctx % 2 == 1) == bit;
-        self.decide(z, probable)?;
+        self.write(z, probable)?;
         *ctx = next_state(row, *ctx, z, a, code_with(probable, z, a));
         Ok(())
     }
@@ -83,7 +83,7 @@ impl ZpEncoder {
         ensures again { self.old.failed ≡ true → is_err result ≡ true }
     {
         let a = self.start()?;
-        self.decide(pass_split(a), !bit)?;
+        self.write(pass_split(a), !bit)?;
         Ok(())
     }
 
@@ -96,7 +96,7 @@ impl ZpEncoder {
         ensures again { self.old.failed ≡ true → is_err result ≡ true }
     {
         let a = self.start()?;
-        self.decide(iw_split(a), !bit)?;
+        self.write(iw_split(a), !bit)?;
         Ok(())
     }
 
@@ -107,6 +107,7 @@ impl ZpEncoder {
             IfOk result (λ bytes. answers self.table bytes.items true None (forms_of decisions) ≡ bits_of decisions) }
         ensures states { (decisions : List Written) → Wrote decisions self →
             IfOk result (λ bytes. states_read self.table bytes.items (forms_of decisions) ≡ states_of decisions) }
+        ensures size { (decisions : List Written) → Wrote decisions self → IfOk result (λ bytes. length bytes.items ≤ 2 * length decisions + 1) }
         ensures failed { self.failed ≡ true → is_err result ≡ true }
     {
         if self.failed {
@@ -129,7 +130,7 @@ impl ZpEncoder {
     }
 
     /// Writes a decision with this z, of its more probable bit or of the other one.
-    fn decide(&mut self, z: u32, probable: bool) -> Result<(), AllocError>
+    fn write(&mut self, z: u32, probable: bool) -> Result<(), AllocError>
         requires works { self.old.failed ≡ false }
         requires above { self.old.codes.a < z }
         requires below { z < 0x10000 }
@@ -137,9 +138,9 @@ impl ZpEncoder {
         ensures table { self.new.table ≡ self.old.table }
         ensures failed { self.new.failed ≡ is_err result }
     {
-        let decided = self.kept.decide(z, probable);
-        self.failed = decided.is_err();
-        decided
+        let written = self.kept.write(z, probable);
+        self.failed = written.is_err();
+        written
     }
 }
 

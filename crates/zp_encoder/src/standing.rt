@@ -34,7 +34,7 @@ impl Standing {
     }
 
     /// Leaves the codes of a decision with this z, of its more probable bit or of the other one.
-    pub(crate) fn decide(&mut self, z: u32, probable: bool) -> Result<(), AllocError>
+    pub(crate) fn write(&mut self, z: u32, probable: bool) -> Result<(), AllocError>
         requires ready { IsReady self.old }
         requires above { self.old.a < z }
         requires below { z < 0x10000 }

@@ -19,13 +19,13 @@ returns-clause-wrote c decisions =
     let more = same_bits (nat_eq (c.args.ctx.now % 2) 1) c.args.bit in
     let next : c.next_state.result ≡ next_state c.row-row.result c.args.ctx.now c.adaptive_split-z.result (interval c.in_ok-a.a c.code_with.result 0) =
         c.next_state.ensures.next in
-    wrote_on decisions (Adaptive c.args.ctx.now) c.args.bit c.next_state.result c.adaptive_split-z.result _ c.args.self.now c.decide.new.self
+    wrote_on decisions (Adaptive c.args.ctx.now) c.args.bit c.next_state.result c.adaptive_split-z.result _ c.args.self.now c.write.new.self
     (record {
       form_of = c.requires;
       more = more;
       split = split;
-      codes = c.in_ok-decide.ensures.codes;
-      table = c.in_ok-decide.ensures.table;
+      codes = c.in_ok-write.ensures.codes;
+      table = c.in_ok-write.ensures.table;
       state_is = rw (split, ← row, ← a, ← more) (next ∙ ap (λ (code : ℕ). next_state c.row-row.result c.args.ctx.now c.adaptive_split-z.result
           (interval c.in_ok-a.a code 0)) c.code_with.ensures);
     })

@@ -5,12 +5,12 @@ use Rattle.zp_encoder.proofs.encoder.ZpEncoder.iw.Goals as goal
 
 pub returns-clause-wrote : goal.returns-clause-wrote
 returns-clause-wrote c decisions =
-    wrote_on decisions Iw c.args.bit 0 c.iw_split.result _ c.args.self.now c.decide.new.self
+    wrote_on decisions Iw c.args.bit 0 c.iw_split.result _ c.args.self.now c.write.new.self
     (record {
       form_of = tt;
       more = other_bit c.args.bit;
       split = ap iw_split (sym c.in_ok-a.ensures.start.0) ∙ sym c.iw_split.ensures;
-      codes = c.in_ok-decide.ensures.codes;
-      table = c.in_ok-decide.ensures.table;
+      codes = c.in_ok-write.ensures.codes;
+      table = c.in_ok-write.ensures.table;
       state_is = refl;
     })

@@ -9,6 +9,8 @@ mod decisions;
 #[cfg(test)]
 mod drawings;
 #[cfg(test)]
+mod encoded;
+#[cfg(test)]
 mod note;
 #[cfg(test)]
 mod notices;

@@ -1,5 +1,5 @@
 -- A payload that has one of the codes of decisions is read as they were written.
-use Rattle.std.proofs.Common.{◌≡◌, ◌<◌, ◌≤◌, ◌+◌, ◌-◌, ◌*◌, ◌/◌, ℕ, Bool, true, List, [], ◌∷◌, length, refl, sym, ap, subst, ◌∙◌, arith}
+use Rattle.std.proofs.Common.{◌≡◌, ◌<◌, ◌≤◌, ◌+◌, ◌-◌, ◌*◌, ◌/◌, ℕ, true, List, [], ◌∷◌, length, refl, sym, ap, subst, ◌∙◌, arith}
 use Rattle.std.proofs.Common.{map}
 use Rattle.std.specs.Prelude.{Option, Some, None}
 use Rattle.zp_table.specs.declared.rows.Row.{Row}
@@ -7,7 +7,7 @@ use Rattle.zp_table.specs.Rows.{IsTable}
 use Rattle.zp_decoder.specs.declared.decoder.Decision.{Decision}
 use Rattle.zp_decoder.specs.declared.decoder.Decision.TheVariants as decision
 use Rattle.zp_decoder.specs.Bits.{bits_from}
-use Rattle.zp_decoder.specs.Decision.{Form, Interval, interval, interval_at, Outcome, outcome_of}
+use Rattle.zp_decoder.specs.Decision.{Interval, interval, interval_at, Outcome}
 use Rattle.zp_decoder.specs.Runs.{outcomes, answers, with_later}
 use Rattle.zp_encoder.specs.Codes.{Codes, all_codes, codes_after, state_left, IsAmong, standing_in}
 use Rattle.zp_encoder.specs.Written.{Written, LeadTo, forms_of, bits_of, states_of, states_read}
@@ -19,7 +19,7 @@ among_before rows payload [] from to t leads low among = subst (IsAmong payload)
 among_before rows payload (first ∷ later) from to t leads low among =
     let next : Codes = codes_after rows first.form first.bit from in
     let rest : IsAmong payload (codes_after rows first.form first.bit from) =
-        among_before rows payload later next to t leads.2 (after-low rows first.form first.bit from t leads.0 low) among in
+    among_before rows payload later next to t leads.2 (after-low rows first.form first.bit from t leads.0 low) among in
     (decides rows first.form first.bit payload from t leads.0 low rest).among
 
 -- read from a place on
@@ -38,14 +38,15 @@ reads_from rows payload place (first ∷ later) from to t leads low among there 
     let one : Decides rows first.form first.bit payload from = decides rows first.form first.bit payload from t leads.0 low rest in
     let comes = one.outcome place there in
     let more : Reads rows payload (Some (standing_in payload next)) later =
-        reads_from rows payload (Some (standing_in payload next)) later next to t leads.2 next_low among refl in
+    reads_from rows payload (Some (standing_in payload next)) later next to t leads.2 next_low among refl in
+    let left : ℕ = state_left rows first.form first.bit from.a in
     record {
       bits = ap (λ (outcome : Outcome). map (λ (o : Outcome). o.answer)
           (with_later outcome (λ (at : Option Interval). outcomes rows payload true at (forms_of later)))) comes
           ∙ ap (λ (rest : List Decision). decision.Bit first.bit ∷ rest) more.bits;
       states = ap (λ (outcome : Outcome). map (λ (o : Outcome). o.state)
           (with_later outcome (λ (at : Option Interval). outcomes rows payload true at (forms_of later)))) comes
-          ∙ (ap (λ (rest : List ℕ). state_left rows first.form first.bit from.a ∷ rest) more.states ∙ ap (λ (state : ℕ). state ∷ states_of later) (sym leads.1));
+          ∙ (ap (λ (rest : List ℕ). left ∷ rest) more.states ∙ ap (λ (state : ℕ). state ∷ states_of later) (sym leads.1));
     }
 
 starts_there : (payload : List ℕ) → interval_at payload None ≡ standing_in payload all_codes

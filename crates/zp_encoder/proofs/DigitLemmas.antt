@@ -1,7 +1,7 @@
 -- Digits that are settled, raised and appended.
-use Rattle.std.proofs.Common.{◌≡◌, ◌<◌, ◌≤◌, ◌+◌, ◌-◌, ◌*◌, ◌/◌, ◌%◌, ℕ, zero, suc, Bool, true, false, List, [], ◌∷◌, ◌++◌, length, replicate, refl, sym, ap, subst, ◌∙◌, arith}
-use Rattle.std.proofs.Common.{length-append, append_assoc, zero-add, add-zero, inl, inr}
-use Rattle.std.specs.Prelude.{◌⊎◌, Option, Some, None, is_some}
+use Rattle.std.proofs.Common.{◌≡◌, ◌<◌, ◌+◌, ◌*◌, ℕ, Bool, true, false, List, [], ◌∷◌, ◌++◌, length, replicate, refl, sym, ap, ◌∙◌, arith}
+use Rattle.std.proofs.Common.{length-append, append_assoc, add-zero, inl, inr, lit<}
+use Rattle.std.specs.Prelude.{Option, Some, None, is_some}
 use Rattle.std.specs.Option.{option_to_list, option_map}
 use Rattle.std.proofs.lemmas.List.{append-nil, replicate-append-replicate, length-replicate}
 use Rattle.zp_encoder.specs.declared.digits.Digits.{Digits}
@@ -15,11 +15,6 @@ unraised (Some byte) = ap (λ (byte : ℕ). byte ∷ []) (add-zero byte)
 -- once all digits are settled
 settled_digits : (after : Digits) (items : List ℕ) → after.settled.items ≡ items → after.last ≡ None → after.run ≡ 0 → digits_of after ≡ items
 settled_digits after items e last run = rw (e, last, run) (append-nil items)
-
-pub settled_same : (before after : Digits) → Settles false before after → digits_of after ≡ digits_of before
-settled_same before after s =
-    settled_digits after (digits_of before) (s.items ∙ ap (λ (l : List ℕ). before.settled.items ++ (l ++ replicate before.run 255)) (unraised before.last))
-    s.last s.run
 
 raised_number : (settled : List ℕ) (byte run : ℕ) → byte < 255 →
     number_of (settled ++ (((byte + 1) ∷ []) ++ replicate run 0)) ≡ number_of (settled ++ ((byte ∷ []) ++ replicate run 255)) + 1
@@ -68,11 +63,11 @@ pub appends_run : (before after : Digits) → LeavesRoom before → after.settle
     after.run ≡ before.run + 1 → Appends 255 before after
 appends_run before after room settled last run =
     let ones : replicate (before.run + 1) 255 ≡ replicate before.run 255 ++ 255 ∷ [] =
-        let one : ℕ = 1 in let byte : ℕ = 255 in sym (replicate-append-replicate before.run one byte) in
+    let one : ℕ = 1 in let byte : ℕ = 255 in sym (replicate-append-replicate before.run one byte) in
     let all : digits_of after ≡ digits_of before ++ 255 ∷ [] =
-        rw (settled, last, run, ones) (sym (append_assoc before.settled.items (option_to_list before.last ++ replicate before.run 255) (255 ∷ [])
-        ∙ ap (λ (l : List ℕ). before.settled.items ++ l) (append_assoc (option_to_list before.last) (replicate before.run 255) (255 ∷ [])))) in
-    let both = appended (digits_of before) 255 (omega arith) in
+    rw (settled, last, run, ones) (sym (append_assoc before.settled.items (option_to_list before.last ++ replicate before.run 255) (255 ∷ [])
+    ∙ ap (λ (l : List ℕ). before.settled.items ++ l) (append_assoc (option_to_list before.last) (replicate before.run 255) (255 ∷ [])))) in
+    let both = appended (digits_of before) 255 (lit< tt) in
     record {
       number = ap number_of all ∙ both.0;
       length = ap length all ∙ both.1;
@@ -84,7 +79,7 @@ pub appends_last : (before between after : Digits) (byte : ℕ) → byte < 255 �
     after.settled.items ≡ between.settled.items → after.last ≡ Some byte → after.run ≡ between.run → Appends byte before after
 appends_last before between after byte small s settled last run =
     let all : digits_of after ≡ digits_of before ++ byte ∷ [] =
-        rw (settled, last, run, s.run, s.items, unraised before.last) refl in
+    rw (settled, last, run, s.run, s.items, unraised before.last) refl in
     let both = appended (digits_of before) byte (omega arith) in
     record {
       number = ap number_of all ∙ both.0;
@@ -92,22 +87,3 @@ appends_last before between after byte small s settled last run =
       room = λ other some. (let same : Some other ≡ Some byte = sym some ∙ last in let is : other ≡ byte = cc in omega (arith, is));
       fixed = λ no'. (let yes' : is_some (Some byte) ≡ false = sym (ap is_some last) ∙ no' in absurd (cc));
     }
-
-pub puts : (raised : Bool) (digit byte : ℕ) (before between after : Digits) → digit ≡ 256 * carry_of raised + byte → byte < 256 →
-    Carries raised before between → Appends byte between after → Appends digit before after
-puts true digit byte before between after e small c a = record {
-  number = omega (arith, c.number, a.number);
-  length = a.length ∙ ap (λ (n : ℕ). n + 1) c.length;
-  room = a.room;
-  fixed = λ none. elim (a.fixed none) [ | inl most ↦ absurd (omega arith) | inr both ↦ inl (omega (arith, both.0)) ];
-}
-puts false digit byte before between after e small c a = record {
-  number = omega (arith, c.number, a.number);
-  length = a.length ∙ ap (λ (n : ℕ). n + 1) c.length;
-  room = a.room;
-  fixed = λ none. elim (a.fixed none) [
-    | inl most ↦ absurd (omega arith)
-    | inr both ↦ inr (omega (arith, both.0), sym (c.same refl) ∙ both.1)
-  ];
-}
-

@@ -1,19 +1,18 @@
 -- A payload that has one of the codes that are left after a decision makes this decision.
-use Rattle.std.proofs.Common.{◌≡◌, ◌<◌, ◌≤◌, ◌+◌, ◌-◌, ◌*◌, ◌^◌, ℕ, zero, suc, Bool, true, false, List, [], ◌∷◌, length, refl, sym, ap, subst, ◌∙◌, arith}
+use Rattle.std.proofs.Common.{◌≡◌, ◌<◌, ◌≤◌, ◌+◌, ◌-◌, ◌*◌, ℕ, zero, suc, Bool, true, false, List, length, refl, sym, ap, ◌∙◌, arith}
 use Rattle.std.proofs.Common.{zero-add, inl, inr}
-use Rattle.std.specs.Prelude.{Option, Some, None, nat_lt, nat_le, not, if◌then◌else◌}
+use Rattle.std.specs.Prelude.{Option, Some, nat_lt, not, if◌then◌else◌}
 use Rattle.std.proofs.lemmas.Grind.{common_steps}
 use Rattle.zp_table.specs.declared.rows.Row.{Row}
 use Rattle.zp_table.specs.Rows.{IsTable}
-use Rattle.zp_decoder.specs.declared.decoder.Decision.{Decision}
 use Rattle.zp_decoder.specs.declared.decoder.Decision.TheVariants as decision
 use Rattle.zp_decoder.specs.Bits.{bit_at, bits_from}
-use Rattle.zp_decoder.specs.Decision.{Form, Adaptive, Pass, Iw, Interval, interval, interval_at, split_of, cut, shift, shifted, most_bits, after, Outcome}
-use Rattle.zp_decoder.specs.Decision.{outcome_of, outcome_at, state_after, next_state, bit_of, probable_of, is_determined, is_exhausted, moved}
+use Rattle.zp_decoder.specs.Decision.{Outcome, Form, Adaptive, Pass, Iw, Interval, interval, interval_at, split_of, cut, shift, shifted, most_bits, after}
+use Rattle.zp_decoder.specs.Decision.{outcome_of, outcome_at, state_after, bit_of, probable_of, is_exhausted, moved}
 use Rattle.zp_decoder.specs.Runs.{IsFormOf}
 use Rattle.zp_decoder.specs.States.{is_same_bit}
 use Rattle.zp_decoder.proofs.Lemmas.{SplitFacts, split_facts, high_or_low, bit_at-lt, IsEnough, enough_at_first, enough_later}
-use Rattle.zp_encoder.specs.Codes.{Codes, codes_from, all_codes, part_of, longer, lengthened, is_probable, codes_after, code_with, state_left, IsAmong, standing_in}
+use Rattle.zp_encoder.specs.Codes.{Codes, part_of, longer, lengthened, is_probable, codes_after, code_with, state_left, IsAmong, standing_in}
 
 -- a bit more
 
@@ -34,7 +33,7 @@ one_longer payload codes high below among =
     let most : bits_from payload 0 (16 + (codes.n + 1)) + (2 * codes.a - 0x10000) < 2 * codes.low + 0x10000 = among.most in
     let within : codes.n + 1 ≤ 8 * length payload + 176 = among.within in
     let code : 2 * (bits_from payload 0 (16 + codes.n) + codes.a - codes.low) - 0x10000 + bit_at payload (16 + codes.n) ≡
-        bits_from payload 0 (16 + (codes.n + 1)) + (2 * codes.a - 0x10000) - 2 * codes.low = omega (arith, next, bit, least, most) in
+    bits_from payload 0 (16 + (codes.n + 1)) + (2 * codes.a - 0x10000) - 2 * codes.low = omega (arith, next, bit, least, most) in
     record {
       among = record { least = omega (arith, next, bit, least); most = omega (arith, next, most); within = omega (arith, within) };
       shifts = ap (λ (code : ℕ). interval (2 * codes.a - 0x10000) code (codes.n + 1)) code;
@@ -94,7 +93,7 @@ lengthens payload (suc k) codes below among =
       | inr low ↦ stays_short payload (suc k) codes low among
     ]
 
-pub lengthened-low : (k : ℕ) (codes : Codes) → IsEnough k codes.a → (lengthened k codes).a < 0x8000
+lengthened-low : (k : ℕ) (codes : Codes) → IsEnough k codes.a → (lengthened k codes).a < 0x8000
 lengthened-low zero codes enough = omega (arith, enough.enough)
 lengthened-low (suc k) codes enough =
     elim (high_or_low codes.a) [
@@ -118,7 +117,7 @@ parts payload z true codes above below among =
     let within : codes.n ≤ 8 * length payload + 176 = among.within in
     let test : nat_lt (bits_from payload 0 (16 + codes.n) + codes.a - codes.low) z ≡ false = grind (arith, common_steps) in
     let same : bits_from payload 0 (16 + codes.n) + codes.a - codes.low ≡ bits_from payload 0 (16 + codes.n) + z - (codes.low + (z - codes.a)) =
-        omega (arith, least) in
+    omega (arith, least) in
     record {
       among = record { least = omega (arith, least); most = omega (arith, most); within = within };
       test = test;
@@ -130,7 +129,7 @@ parts payload z false codes above below among =
     let within : codes.n ≤ 8 * length payload + 176 = among.within in
     let test : nat_lt (bits_from payload 0 (16 + codes.n) + codes.a - codes.low) z ≡ true = grind (arith, common_steps) in
     let same : bits_from payload 0 (16 + codes.n) + codes.a - codes.low + (0x10000 - z) ≡
-        bits_from payload 0 (16 + codes.n) + (codes.a + (0x10000 - z)) - codes.low = omega (arith, least) in
+    bits_from payload 0 (16 + codes.n) + (codes.a + (0x10000 - z)) - codes.low = omega (arith, least) in
     record {
       among = record { least = least; most = omega (arith, most); within = within };
       test = test;
@@ -155,28 +154,28 @@ state_same rows (Adaptive state) z a code n other less e o = rw (e, o) refl
 state_same rows Pass z a code n other less e o = refl
 state_same rows Iw z a code n other less e o = refl
 
+-- a bit was decided
+abbrev decided : Bool → Interval → ℕ → Outcome
+decided bit next state = record { answer = decision.Bit bit; place = Some next; state = state }
+
 -- what a decision comes to, where the payload has one of the codes after it
 pub record Decides (rows : List Row) (form : Form) (bit : Bool) (payload : List ℕ) (codes : Codes) : Type 0 where
   pub among : IsAmong payload codes
   pub outcome : (place : Option Interval) → interval_at payload place ≡ standing_in payload codes →
-      outcome_of rows form payload true place ≡ record {
-        answer = decision.Bit bit;
-        place = Some (standing_in payload (codes_after rows form bit codes));
-        state = state_left rows form bit codes.a;
-      }
+      outcome_of rows form payload true place ≡ decided bit (standing_in payload (codes_after rows form bit codes)) (state_left rows form bit codes.a)
 
 not_exhausted : (payload : List ℕ) (at : Interval) → at.n ≤ 8 * length payload + 176 → is_exhausted payload true at ≡ false
 not_exhausted payload at within = grind (arith, common_steps)
 
 outcome_is : (rows : List Row) (form : Form) (bit : Bool) (payload : List ℕ) (place : Option Interval) (z : ℕ) (at next : Interval) →
     after payload z at ≡ next → next.n ≤ 8 * length payload + 176 → nat_lt at.code z ≡ not (is_same_bit (probable_of form) bit) →
-    outcome_at rows form payload true place z at ≡ record { answer = decision.Bit bit; place = Some next; state = state_after rows form z at }
+    outcome_at rows form payload true place z at ≡ decided bit next (state_after rows form z at)
 outcome_is rows form bit payload place z at next e within test =
     let open_end : is_exhausted payload true (after payload z at) ≡ false = rw e (not_exhausted payload next within) in
     let bit_same : bit_of form z at ≡ bit = rw test (bit_is (probable_of form) bit) in
     let first : outcome_at rows form payload true place z at ≡ moved rows form z at (after payload z at) = rw open_end refl in
     first ∙ (ap (λ (next : Interval). moved rows form z at next) e
-    ∙ ap (λ (bit : Bool). record { answer = decision.Bit bit; place = Some next; state = state_after rows form z at }) bit_same)
+    ∙ ap (λ (bit : Bool). decided bit next (state_after rows form z at)) bit_same)
 
 part_below : (z : ℕ) (probable : Bool) (codes : Codes) → codes.a < z → z < 0x10000 → (part_of probable z codes).a < 0x10000
 part_below z true codes above below = below
@@ -185,24 +184,23 @@ part_below z false codes above below = omega arith
 decides_by : (rows : List Row) (form : Form) (bit : Bool) (payload : List ℕ) (codes : Codes) (z : ℕ) → split_of rows form codes.a ≡ z → codes.a < z →
     z < 0x10000 → IsAmong payload (codes_after rows form bit codes) → Decides rows form bit payload codes
 decides_by rows form bit payload codes z e above below among =
-    let part : Codes = part_of (is_probable form bit) z codes in
     let left : codes_after rows form bit codes ≡ lengthened most_bits (part_of (is_probable form bit) z codes) = rw e refl in
     let later : Lengthens payload most_bits (part_of (is_probable form bit) z codes) =
-        lengthens payload most_bits (part_of (is_probable form bit) z codes) (part_below z (is_probable form bit) codes above below) (rw left at among) in
+    lengthens payload most_bits (part_of (is_probable form bit) z codes) (part_below z (is_probable form bit) codes above below) (rw left at among) in
     let first : Parts payload z (is_probable form bit) codes = parts payload z (is_probable form bit) codes above below later.among in
     let reached : after payload z (standing_in payload codes) ≡ standing_in payload (codes_after rows form bit codes) =
-        ap (shifted payload most_bits) first.cuts ∙ (later.shifts ∙ ap (standing_in payload) (sym left)) in
+    ap (shifted payload most_bits) first.cuts ∙ (later.shifts ∙ ap (standing_in payload) (sym left)) in
     let state : state_after rows form z (standing_in payload codes) ≡ state_left rows form bit codes.a =
-        rw e (state_same rows form z codes.a (standing_in payload codes).code codes.n (code_with (is_probable form bit) z codes.a)
-        (not (is_probable form bit)) first.test (code_with-test (is_probable form bit) z codes.a above)) in
+    rw e (state_same rows form z codes.a (standing_in payload codes).code codes.n (code_with (is_probable form bit) z codes.a)
+    (not (is_probable form bit)) first.test (code_with-test (is_probable form bit) z codes.a above)) in
     record {
       among = first.among;
       outcome = λ place there.
           let at_place : outcome_of rows form payload true place ≡ outcome_at rows form payload true place z (standing_in payload codes) =
-              rw (there, e) refl in
+          rw (there, e) refl in
           at_place ∙ (outcome_is rows form bit payload place z (standing_in payload codes) (standing_in payload (codes_after rows form bit codes)) reached
           among.within first.test
-          ∙ ap (λ (state : ℕ). record { answer = decision.Bit bit; place = Some (standing_in payload (codes_after rows form bit codes)); state = state }) state);
+          ∙ ap (decided bit (standing_in payload (codes_after rows form bit codes))) state);
     }
 
 pub decides : (rows : List Row) (form : Form) (bit : Bool) (payload : List ℕ) (codes : Codes) → IsTable rows → IsFormOf rows form → codes.a < 0x8000 →
@@ -239,5 +237,5 @@ after-n rows form bit codes =
     let z : ℕ = split_of rows form codes.a in
     let same : (part_of (is_probable form bit) z codes).n ≡ codes.n = part-n z (is_probable form bit) codes in
     let more : (lengthened 16 (part_of (is_probable form bit) z codes)).n ≤ (part_of (is_probable form bit) z codes).n + 16 =
-        lengthened-n 16 (part_of (is_probable form bit) z codes) in
+    lengthened-n 16 (part_of (is_probable form bit) z codes) in
     omega (arith, same, more)

@@ -1,13 +1,12 @@
 -- Bytes as numbers: a byte more, runs of equal bytes, and a carry.
-use Rattle.std.proofs.Common.{◌≡◌, ◌<◌, ◌≤◌, ◌+◌, ◌-◌, ◌*◌, ◌/◌, ◌%◌, ◌^◌, ℕ, zero, suc, List, [], ◌∷◌, ◌++◌, length, replicate, refl, sym, ap, subst, ◌∙◌, arith}
-use Rattle.std.proofs.Common.{length-append, append_assoc, zero-add, add-zero}
-use Rattle.std.proofs.Math.Nat.{pow-suc, mul_assoc, mul_comm}
+use Rattle.std.proofs.Common.{◌≡◌, ◌<◌, ◌≤◌, ◌+◌, ◌-◌, ◌*◌, ◌%◌, ◌^◌, ℕ, zero, suc, List, [], ◌∷◌, ◌++◌, length, replicate, sym, ap, ◌∙◌, arith}
+use Rattle.std.proofs.Common.{length-append, append_assoc}
 use Rattle.std.proofs.Math.Pow.{pow_mono}
-use Rattle.std.proofs.lemmas.Nat.{pow-add, pow_pos, mod_low}
+use Rattle.std.proofs.lemmas.Nat.{mod_low}
 use Rattle.std.proofs.lemmas.List.{append-nil}
 use Rattle.zp_decoder.specs.Bits.{bits_from}
 use Rattle.zp_decoder.specs.Window.{dent}
-use Rattle.zp_decoder.proofs.Lemmas.{bits_from-join, ones_past, bits_with, bits_from-lt}
+use Rattle.zp_decoder.proofs.Lemmas.{bits_from-join, ones_past, bits_with}
 use Rattle.zp_encoder.specs.Digits.{number_of}
 
 -- a byte takes away from ones what it lacks
@@ -23,14 +22,14 @@ pub number_of-push : (bytes : List ℕ) (byte : ℕ) → byte < 256 → number_o
 number_of-push bytes byte small =
     let size : 8 * length (bytes ++ byte ∷ []) ≡ 8 * length bytes + 8 = omega (arith, length-append bytes (byte ∷ [])) in
     let with : bits_from bytes 0 (8 * length bytes + 8) ≡
-        bits_from (bytes ++ byte ∷ []) 0 (8 * length bytes + 8) + dent (255 - byte) (0 + (8 * length bytes + 8) - 8 * length bytes) % 2 ^ (8 * length bytes + 8) =
-        bits_with bytes byte 0 (8 * length bytes + 8) small in
+    bits_from (bytes ++ byte ∷ []) 0 (8 * length bytes + 8) + dent (255 - byte) (0 + (8 * length bytes + 8) - 8 * length bytes) % 2 ^ (8 * length bytes + 8) =
+    bits_with bytes byte 0 (8 * length bytes + 8) small in
     let join : bits_from bytes 0 (8 * length bytes + 8) ≡ number_of bytes * 2 ^ 8 + bits_from bytes (0 + 8 * length bytes) 8 =
-        bits_from-join bytes 0 (8 * length bytes) 8 in
+    bits_from-join bytes 0 (8 * length bytes) 8 in
     let ones : bits_from bytes (0 + 8 * length bytes) 8 + 1 ≡ 2 ^ 8 = ones_past bytes (0 + 8 * length bytes) 8 (omega arith) in
     let lacks : dent (255 - byte) (0 + (8 * length bytes + 8) - 8 * length bytes) % 2 ^ (8 * length bytes + 8) ≡ 255 - byte =
-        let place : 0 + (8 * length bytes + 8) - 8 * length bytes ≡ 8 = omega arith in
-        rw place (dent_of_eight (255 - byte) (8 * length bytes + 8) (omega arith) (omega arith)) in
+    let place : 0 + (8 * length bytes + 8) - 8 * length bytes ≡ 8 = omega arith in
+    rw place (dent_of_eight (255 - byte) (8 * length bytes + 8) (omega arith) (omega arith)) in
     rw size (omega (arith, with, join, ones, lacks))
 
 -- digits of 255 behind a number become 0 behind the next one

@@ -1,14 +1,13 @@
 -- What is kept, lengthened by a bit, and at the end.
-use Rattle.std.proofs.Common.{◌≡◌, ◌<◌, ◌≤◌, ◌+◌, ◌-◌, ◌*◌, ◌/◌, ◌%◌, ◌^◌, ℕ, zero, suc, Bool, true, false, List, [], ◌∷◌, ◌++◌, length, refl, sym, ap, subst, ◌∙◌, arith}
-use Rattle.std.proofs.Common.{zero-add, add-zero}
+use Rattle.std.proofs.Common.{◌≡◌, ◌<◌, ◌≤◌, ◌+◌, ◌-◌, ◌*◌, ◌/◌, ◌%◌, ◌^◌, ℕ, zero, suc, Bool, true, false, List, length, refl, sym, ap, ◌∙◌, arith}
+use Rattle.std.proofs.Common.{add-zero}
 use Rattle.std.proofs.Math.Nat.{pow-suc, mul_assoc, mul_comm, add-mul}
 use Rattle.std.proofs.Math.Pow.{pow_mono, shr_mono}
 use Rattle.std.proofs.lemmas.Nat.{pow-add, pow_pos, shr_split, shr_high, mod_below}
 use Rattle.zp_decoder.specs.Bits.{bits_from}
 use Rattle.zp_decoder.proofs.Lemmas.{bits_from-join, ones_past}
-use Rattle.zp_encoder.specs.declared.digits.Digits.{Digits}
 use Rattle.zp_encoder.specs.declared.standing.Standing.{Standing}
-use Rattle.zp_encoder.specs.Codes.{Codes, codes_from, longer, IsAmong}
+use Rattle.zp_encoder.specs.Codes.{codes_from, longer, IsAmong}
 use Rattle.zp_encoder.specs.Digits.{number_of, digits_of, is_raisable}
 use Rattle.zp_encoder.specs.Encoder.{codes_of, IsSound, IsReady}
 
@@ -24,7 +23,7 @@ pub twice_codes : (kept : Standing) → codes_of (twice kept) ≡ longer (codes_
 twice_codes kept =
     let number : ℕ = number_of (digits_of kept.digits) in
     let power : number * 2 ^ (16 + (kept.bits + 1)) ≡ number * 2 ^ (16 + kept.bits) * 2 =
-        ap (λ (p : ℕ). number * p) (power_twice 16 kept.bits) ∙ sym (mul_assoc number (2 ^ (16 + kept.bits)) 2) in
+    ap (λ (p : ℕ). number * p) (power_twice 16 kept.bits) ∙ sym (mul_assoc number (2 ^ (16 + kept.bits)) 2) in
     let low : number * 2 ^ (16 + (kept.bits + 1)) + kept.low * 2 ≡ 2 * (number * 2 ^ (16 + kept.bits) + kept.low) = omega (arith, power) in
     let bits : 8 * length (digits_of kept.digits) + (kept.bits + 1) ≡ 8 * length (digits_of kept.digits) + kept.bits + 1 = omega arith in
     ap (λ (low : ℕ). codes_from low (2 * kept.a - 0x10000) (8 * length (digits_of kept.digits) + (kept.bits + 1))) low
@@ -79,11 +78,11 @@ code_of_bytes : (bytes : List ℕ) (k bits : ℕ) → length bytes ≡ k + 1 →
 code_of_bytes bytes k bits e =
     let count : 16 + (8 * k + bits) ≡ 8 * length bytes + (8 + bits) = omega (arith, e) in
     let join : bits_from bytes 0 (8 * length bytes + (8 + bits)) ≡
-        number_of bytes * 2 ^ (8 + bits) + bits_from bytes (0 + 8 * length bytes) (8 + bits) = bits_from-join bytes 0 (8 * length bytes) (8 + bits) in
+    number_of bytes * 2 ^ (8 + bits) + bits_from bytes (0 + 8 * length bytes) (8 + bits) = bits_from-join bytes 0 (8 * length bytes) (8 + bits) in
     let ones : bits_from bytes (0 + 8 * length bytes) (8 + bits) + 1 ≡ 2 ^ (8 + bits) =
-        ones_past bytes (0 + 8 * length bytes) (8 + bits) (omega arith) in
+    ones_past bytes (0 + 8 * length bytes) (8 + bits) (omega arith) in
     let product : (number_of bytes + 1) * 2 ^ (8 + bits) ≡ number_of bytes * 2 ^ (8 + bits) + 1 * 2 ^ (8 + bits) =
-        add-mul (number_of bytes) 1 (2 ^ (8 + bits)) in
+    add-mul (number_of bytes) 1 (2 ^ (8 + bits)) in
     rw count (omega (arith, join, ones, product))
 
 among_by : (bytes : List ℕ) (number k bits low a q : ℕ) → number_of bytes + 1 ≡ 256 * number + q → length bytes ≡ k + 1 → bits < 8 → a < 0x8000 →
@@ -93,9 +92,9 @@ among_by bytes number k bits low a q e size few small least most =
     let code = code_of_bytes bytes k bits size in
     let product : (256 * number + q) * 2 ^ (8 + bits) ≡ 256 * number * 2 ^ (8 + bits) + q * 2 ^ (8 + bits) = add-mul (256 * number) q (2 ^ (8 + bits)) in
     let whole : bits_from bytes 0 (16 + (8 * k + bits)) + 1 ≡ 256 * number * 2 ^ (8 + bits) + q * 2 ^ (8 + bits) =
-        code ∙ (ap (λ (n : ℕ). n * 2 ^ (8 + bits)) e ∙ product) in
+    code ∙ (ap (λ (n : ℕ). n * 2 ^ (8 + bits)) e ∙ product) in
     let high : number * 2 ^ (16 + bits) ≡ 256 * number * 2 ^ (8 + bits) =
-        ap (λ (p : ℕ). number * p) (eighth 8 bits) ∙ (sym (mul_assoc number 256 (2 ^ (8 + bits))) ∙ ap (λ (n : ℕ). n * 2 ^ (8 + bits)) (mul_comm number 256)) in
+    ap (λ (p : ℕ). number * p) (eighth 8 bits) ∙ (sym (mul_assoc number 256 (2 ^ (8 + bits))) ∙ ap (λ (n : ℕ). n * 2 ^ (8 + bits)) (mul_comm number 256)) in
     let power : 2 ^ (8 + bits) ≤ 2 ^ 15 = pow_mono (let within : 8 + bits ≤ 15 = omega arith in within) in
     record {
       least = omega (arith, whole, high, power, most);
@@ -115,8 +114,8 @@ among kept bytes ready number size =
     let split : q * 2 ^ (8 + kept.bits) + end % 2 ^ (8 + kept.bits) ≡ end = shr_split end (8 + kept.bits) in
     let rest : end % 2 ^ (8 + kept.bits) < 2 ^ (8 + kept.bits) = mod_below end (2 ^ (8 + kept.bits)) (pow_pos (8 + kept.bits)) in
     let some : 0 < q = some_by q (2 ^ (8 + kept.bits)) end (omega (arith, split, rest)) (omega (arith, power)) in
-    among_by bytes (number_of (digits_of kept.digits)) (length (digits_of kept.digits)) kept.bits kept.low kept.a q (omega (arith, number, some)) size few small
-    (omega (arith, split)) (omega (arith, split, rest))
+    among_by bytes (number_of (digits_of kept.digits)) (length (digits_of kept.digits)) kept.bits kept.low kept.a q (omega (arith, number, some)) size few
+    small (omega (arith, split)) (omega (arith, split, rest))
   where
     some_by : (q p end : ℕ) → end < q * p + p → p ≤ end → 0 < q
     some_by zero p end below more = absurd (omega arith)

@@ -1,5 +1,5 @@
 -- The codes that make decisions: along a range of them, a decoder decides the same bits (DjVu 3 reference, ZP-Coder).
-use Rattle.std.specs.Prelude.{◌≡◌, ℕ, zero, suc, ◌+◌, ◌-◌, ◌*◌, ◌<◌, ◌≤◌, Bool, true, false, List, length, nat_le, if◌then◌else◌}
+use Rattle.std.specs.Prelude.{ℕ, zero, suc, ◌+◌, ◌-◌, ◌*◌, ◌<◌, ◌≤◌, Bool, true, false, List, length, nat_le, if◌then◌else◌}
 use Rattle.zp_table.specs.declared.rows.Row.{Row}
 use Rattle.zp_decoder.specs.Bits.{bits_from}
 use Rattle.zp_decoder.specs.Decision.{Form, Interval, interval, split_of, state_after, probable_of, most_bits}

@@ -1,5 +1,5 @@
 -- Digits to the base of 256, and the number that they are.
-use Rattle.std.specs.Prelude.{◌≡◌, ◌<◌, ◌⊎◌, ℕ, ◌+◌, ◌*◌, ◌++◌, List, length, replicate, Bool, true, false, Option, Some, None, is_some, if◌then◌else◌}
+use Rattle.std.specs.Prelude.{◌≡◌, ◌<◌, ◌⊎◌, ℕ, ◌+◌, ◌*◌, ◌++◌, List, length, replicate, Bool, true, false, Some, None, is_some, if◌then◌else◌}
 use Rattle.std.specs.Option.{option_to_list, option_map}
 use Rattle.zp_encoder.specs.declared.digits.Digits.{Digits}
 use Rattle.zp_decoder.specs.Bits.{bits_from}

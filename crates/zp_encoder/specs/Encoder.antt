@@ -1,5 +1,5 @@
 -- How an encoder stands to the decisions that were written.
-use Rattle.std.specs.Prelude.{◌≡◌, ℕ, ◌+◌, ◌-◌, ◌*◌, ◌^◌, ◌<◌, ◌≤◌, Bool, false, List, length}
+use Rattle.std.specs.Prelude.{◌≡◌, ◌+◌, ◌-◌, ◌*◌, ◌^◌, ◌<◌, ◌≤◌, Bool, false, List, length}
 use Rattle.zp_table.specs.declared.rows.Row.{Row}
 use Rattle.zp_encoder.specs.declared.standing.Standing.{Standing}
 use Rattle.zp_encoder.specs.Codes.{Codes, codes_from, all_codes}

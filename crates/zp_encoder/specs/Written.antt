@@ -3,9 +3,9 @@ use Rattle.std.specs.Prelude.{◌≡◌, ℕ, Bool, true, List, [], ◌∷◌, m
 use Rattle.zp_table.specs.declared.rows.Row.{Row}
 use Rattle.zp_decoder.specs.declared.decoder.Decision.{Decision}
 use Rattle.zp_decoder.specs.declared.decoder.Decision.TheVariants as decision
-use Rattle.zp_decoder.specs.Decision.{Form, Interval, Outcome, outcome_of}
+use Rattle.zp_decoder.specs.Decision.{Form}
 use Rattle.zp_decoder.specs.Runs.{IsFormOf, outcomes}
-use Rattle.zp_encoder.specs.Codes.{Codes, codes_after, state_left, all_codes}
+use Rattle.zp_encoder.specs.Codes.{Codes, codes_after, state_left}
 
 -- a decision, its bit, and the state in which it leaves its context; without a context this is 0
 pub record Written : Type 0 where

@@ -1,4 +1,4 @@
-use Rattle.std.proofs.Common.{refl, lit<, lit≤, arith, ◌≡◌, ◌<◌, ℕ, ◌+◌, ◌∷◌, []}
+use Rattle.std.proofs.Common.{refl, lit<, lit≤, arith, ◌<◌, ◌+◌, ◌∷◌, []}
 use Rattle.zp_decoder.specs.Decision.{most_bits}
 use Rattle.zp_decoder.specs.Bits.{bits_from}
 use Rattle.zp_encoder.proofs.laws.worked_codes.Goals as goal

@@ -15,7 +15,7 @@ returns-clause-answers c decisions wrote =
     IfOk-weaker c.finish.result (λ bytes. IsAmong bytes.items (codes_of c.self.inside.kept))
     (λ bytes. answers c.args.self.table bytes.items true None (forms_of decisions) ≡ bits_of decisions)
     (λ bytes among. bits_read c.args.self.table bytes.items decisions c.args.self.codes table
-        wrote (subst (IsAmong bytes.items) (ap (λ (e : Encoder). e.codes) c.self.view_is) among)) c.finish.ensures.among
+    wrote (subst (IsAmong bytes.items) (ap (λ (e : Encoder). e.codes) c.self.view_is) among)) c.finish.ensures.among
 
 pub returns-clause-states : goal.returns-clause-states
 unfolding Wrote
@@ -24,7 +24,7 @@ returns-clause-states c decisions wrote =
     IfOk-weaker c.finish.result (λ bytes. IsAmong bytes.items (codes_of c.self.inside.kept))
     (λ bytes. states_read c.args.self.table bytes.items (forms_of decisions) ≡ states_of decisions)
     (λ bytes among. states_are_read c.args.self.table bytes.items decisions c.args.self.codes table
-        wrote (subst (IsAmong bytes.items) (ap (λ (e : Encoder). e.codes) c.self.view_is) among)) c.finish.ensures.among
+    wrote (subst (IsAmong bytes.items) (ap (λ (e : Encoder). e.codes) c.self.view_is) among)) c.finish.ensures.among
 
 pub returns-clause-size : goal.returns-clause-size
 unfolding Wrote
@@ -33,4 +33,4 @@ returns-clause-size c decisions wrote =
     IfOk-weaker c.finish.result (λ bytes. length bytes.items ≡ (codes_of c.self.inside.kept).n / 8 + 1)
     (λ bytes. length bytes.items ≤ 2 * length decisions + 1)
     (λ bytes count. few_bytes c.args.self.table decisions c.args.self.codes (length bytes.items) wrote
-        (count ∙ ap (λ (at : Codes). at.n / 8 + 1) codes)) c.finish.ensures.length
+    (count ∙ ap (λ (at : Codes). at.n / 8 + 1) codes)) c.finish.ensures.length

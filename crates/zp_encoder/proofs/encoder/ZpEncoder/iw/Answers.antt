@@ -1,6 +1,6 @@
-use Rattle.std.proofs.Common.{refl, sym, ap, ◌∙◌, arith}
+use Rattle.std.proofs.Common.{refl, sym, ap, ◌∙◌}
 use Rattle.zp_decoder.specs.Decision.{Iw, iw_split}
-use Rattle.zp_encoder.proofs.Writing.{Follows, wrote_on, other_bit}
+use Rattle.zp_encoder.proofs.Writing.{wrote_on, other_bit}
 use Rattle.zp_encoder.proofs.encoder.ZpEncoder.iw.Goals as goal
 
 pub returns-clause-wrote : goal.returns-clause-wrote

@@ -16,4 +16,4 @@ pub returns-clause-among : goal.returns-clause-among
 returns-clause-among c =
     let put = c.in_ok-put.ensures in
     IfOk-weaker c.finish.result (λ bytes. bytes.items ≡ digits_of c.put.new.self) (λ bytes. IsAmong bytes.items (codes_of c.args.self))
-        (λ bytes same. among c.args.self bytes.items c.requires (ap number_of same ∙ put.number) (ap length same ∙ put.length)) c.finish.ensures
+    (λ bytes same. among c.args.self bytes.items c.requires (ap number_of same ∙ put.number) (ap length same ∙ put.length)) c.finish.ensures

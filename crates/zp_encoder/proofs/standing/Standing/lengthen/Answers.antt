@@ -1,7 +1,7 @@
-use Rattle.std.proofs.Common.{◌≡◌, ◌<◌, ◌≤◌, ◌-◌, ◌*◌, ℕ, zero, suc, refl, sym, ap, subst, ◌∙◌, arith}
+use Rattle.std.proofs.Common.{◌<◌, refl, sym, ap, subst, ◌∙◌, arith}
 use Rattle.zp_decoder.specs.Decision.{most_bits}
 use Rattle.zp_decoder.proofs.Lemmas.{IsEnough, enough_at_first}
-use Rattle.zp_encoder.specs.Codes.{Codes, lengthened, longer}
+use Rattle.zp_encoder.specs.Codes.{lengthened}
 use Rattle.zp_encoder.specs.Encoder.{codes_of}
 use Rattle.zp_encoder.proofs.Leading.{lengthened-stop, fewer_steps}
 use Rattle.zp_encoder.proofs.standing.Standing.lengthen.Goals as goal
@@ -22,7 +22,7 @@ loop-self-preserved c =
     let kept = c.loop-self.invariant in
     let done = c.in_ok-lengthen_by_one.ensures in
     let next = fewer_steps kept.steps.0 (codes_of c.loop-self.self) (lengthened most_bits (codes_of c.args.self.now)) c.loop-self-test.true kept.steps.1
-        kept.steps.2 in
+    kept.steps.2 in
     record {
       sound = done.sound;
       below = omega (arith, done.a, kept.below);

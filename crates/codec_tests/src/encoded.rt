@@ -21,7 +21,7 @@ fn flat_bytes(alloc: Global, digits: &[u8]) -> Option<Vec<u8>> {
     zp.finish().ok()
 }
 
-/// The three chunks of `docs/jb2.md` that are worked out bit by bit.
+/// The first of these chunks is worked out in `docs/jb2.md`; the other one is a library of one black pixel.
 #[test]
 fn flat_bytes_are_inverted_bits(rt: HostRuntime) {
     let Some(bytes) = flat_bytes(rt.alloc(), b"01001000100100100111100101111") else {
@@ -42,7 +42,9 @@ fn drawn_digits(alloc: Global) -> Option<Vec<u8>> {
         state = state
             .wrapping_mul(6_364_136_223_846_793_005)
             .wrapping_add(1_442_695_040_888_963_407);
-        digits.push(if (state >> 33) % 8 == 0 { b'0' } else { b'1' }).ok()?;
+        digits
+            .push(if (state >> 33) % 8 == 0 { b'0' } else { b'1' })
+            .ok()?;
     }
     Some(digits)
 }

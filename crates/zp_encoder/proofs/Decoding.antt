@@ -9,9 +9,9 @@ use Rattle.zp_decoder.specs.declared.decoder.Decision.TheVariants as decision
 use Rattle.zp_decoder.specs.Bits.{bits_from}
 use Rattle.zp_decoder.specs.Decision.{Interval, interval, interval_at, Outcome}
 use Rattle.zp_decoder.specs.Runs.{outcomes, answers, with_later}
-use Rattle.zp_encoder.specs.Codes.{Codes, all_codes, codes_after, state_left, IsAmong, standing_in}
+use Rattle.zp_encoder.specs.Codes.{Codes, all_codes, codes_after, state_left, IsAmong}
 use Rattle.zp_encoder.specs.Written.{Written, LeadTo, forms_of, bits_of, states_of, states_read}
-use Rattle.zp_encoder.proofs.Leading.{Decides, decides, after-low, after-n}
+use Rattle.zp_encoder.proofs.Leading.{standing_in, Decides, decides, after-low, after-n}
 
 among_before : (rows : List Row) (payload : List ℕ) (decisions : List Written) (from to : Codes) → IsTable rows → LeadTo rows from decisions to →
     from.a < 0x8000 → IsAmong payload to → IsAmong payload from

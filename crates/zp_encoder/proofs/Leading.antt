@@ -12,7 +12,11 @@ use Rattle.zp_decoder.specs.Decision.{outcome_of, outcome_at, state_after, bit_o
 use Rattle.zp_decoder.specs.Runs.{IsFormOf}
 use Rattle.zp_decoder.specs.States.{is_same_bit}
 use Rattle.zp_decoder.proofs.Lemmas.{SplitFacts, split_facts, high_or_low, bit_at-lt, IsEnough, enough_at_first, enough_later}
-use Rattle.zp_encoder.specs.Codes.{Codes, part_of, longer, lengthened, is_probable, codes_after, code_with, state_left, IsAmong, standing_in}
+use Rattle.zp_encoder.specs.Codes.{Codes, part_of, longer, lengthened, is_probable, codes_after, code_with, state_left, IsAmong}
+
+-- where a decoder stands then, of a payload that has one of the codes
+abbrev pub standing_in : List ℕ → Codes → Interval
+standing_in payload codes = interval codes.a (bits_from payload 0 (16 + codes.n) + codes.a - codes.low) codes.n
 
 -- a bit more
 

@@ -2,7 +2,7 @@
 use Rattle.std.specs.Prelude.{ℕ, zero, suc, ◌+◌, ◌-◌, ◌*◌, ◌<◌, ◌≤◌, Bool, true, false, List, length, nat_le, if◌then◌else◌}
 use Rattle.zp_table.specs.declared.rows.Row.{Row}
 use Rattle.zp_decoder.specs.Bits.{bits_from}
-use Rattle.zp_decoder.specs.Decision.{Form, Interval, interval, split_of, state_after, probable_of, most_bits}
+use Rattle.zp_decoder.specs.Decision.{Form, interval, split_of, state_after, probable_of, most_bits}
 use Rattle.zp_decoder.specs.States.{is_same_bit}
 
 -- codes are the first 16 + n bits of an input, as numbers. These are the ones from low on, as many as a decoder's interval
@@ -56,7 +56,3 @@ pub record IsAmong (payload : List ℕ) (codes : Codes) : Type 0 where
   pub least : codes.low ≤ bits_from payload 0 (16 + codes.n)
   pub most : bits_from payload 0 (16 + codes.n) + codes.a < codes.low + 0x10000
   pub within : codes.n ≤ 8 * length payload + 176
-
--- where a decoder of this payload stands then
-abbrev pub standing_in : List ℕ → Codes → Interval
-standing_in payload codes = interval codes.a (bits_from payload 0 (16 + codes.n) + codes.a - codes.low) codes.n

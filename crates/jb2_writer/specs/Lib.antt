@@ -1,0 +1,5 @@
+pub mod Coded
+pub mod Fields
+pub mod Refusal
+pub mod Contexts
+pub mod Decided

@@ -4,7 +4,8 @@ use Rattle.bit_plane.specs.Pixels.{Pixels}
 use Rattle.bit_plane.specs.declared.ink.InkBox.{InkBox}
 use Rattle.bit_plane.specs.Ink.{ink_box_of, extent}
 use Rattle.jb2_numbers.specs.declared.roots.Root.TheVariants as root
-use Rattle.jb2_records.specs.Records.{Record, Start, MarkBoth, MarkLibrary, MarkImage, RefineBoth, RefineLibrary, RefineImage, Copy, Plain, Require, Comment, End, Relative, NewRow, SameRow, is_started, image_size, library, shape_at}
+use Rattle.jb2_records.specs.Records.{Record, Start, MarkBoth, MarkLibrary, MarkImage, RefineBoth, RefineLibrary, RefineImage, Copy, Plain, Require}
+use Rattle.jb2_records.specs.Records.{Comment, End, Relative, NewRow, SameRow, is_started, image_size, library, shape_at}
 use Rattle.jb2_records.specs.Reading.{most, least}
 use Rattle.jb2_writer.specs.Coded.{Coded, Bit, Anew, Flag, RowStart, number_coded, direct_coded, refined_coded}
 

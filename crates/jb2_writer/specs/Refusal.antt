@@ -1,13 +1,16 @@
 -- Which records can't be written: those that a reading would refuse, or that have a field which it can't read.
-use Rattle.std.specs.Prelude.{ℕ, ◌+◌, ◌==◌, ℤ, pos, int_le, Bool, true, false, not, ◌&&◌, List, [], ◌∷◌, length, Option, Some, None, is_some, nat_le, nat_lt, if◌then◌else◌}
+use Rattle.std.specs.Prelude.{ℕ, ◌+◌, ◌==◌, ℤ, pos, int_le, Bool, true, false, not, ◌&&◌, List, [], ◌∷◌, length, Option, Some, None, is_some, nat_le}
+use Rattle.std.specs.Prelude.{nat_lt, if◌then◌else◌}
 use Rattle.std.specs.List.{list_all}
 use Rattle.djvu_base.specs.declared.faults.FaultKind.{FaultKind}
 use Rattle.bit_plane.specs.Pixels.{Pixels}
 use Rattle.bit_plane.specs.declared.ink.InkBox.{InkBox}
 use Rattle.bit_plane.specs.Ink.{ink_box_of}
 use Rattle.zp_decoder.specs.Chunk.{chunk}
-use Rattle.jb2_records.specs.Records.{Record, Start, MarkBoth, MarkLibrary, MarkImage, RefineBoth, RefineLibrary, RefineImage, Copy, Plain, Require, Comment, End, Relative, NewRow, SameRow, Extent, is_end, is_started, image_size, library, shape_at}
-use Rattle.jb2_records.specs.Reading.{Purpose, Dictionary, Mask, Input, most, least, type_by, type_fault, has_shapes, start_fault, shape_fault, place_fault, count_fault}
+use Rattle.jb2_records.specs.Records.{Record, Start, MarkBoth, MarkLibrary, MarkImage, RefineBoth, RefineLibrary, RefineImage, Copy, Plain, Require}
+use Rattle.jb2_records.specs.Records.{Comment, End, Relative, NewRow, SameRow, Extent, is_end, is_started, image_size, library, shape_at}
+use Rattle.jb2_records.specs.Reading.{Purpose, Dictionary, Mask, Input, most, least, type_by, type_fault, has_shapes, start_fault, shape_fault}
+use Rattle.jb2_records.specs.Reading.{place_fault, count_fault}
 use Rattle.jb2_writer.specs.Fields.{type_number, side_difference}
 
 -- the checks of a reading look at no byte

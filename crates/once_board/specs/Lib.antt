@@ -9,4 +9,5 @@ pub mod Boards
 pub mod Stated
 pub mod Worked
 pub mod Rows
+pub mod Filled
 pub mod Gathered

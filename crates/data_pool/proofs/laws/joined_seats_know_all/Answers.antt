@@ -1,0 +1,8 @@
+use Rattle.data_pool.proofs.Prefixes.{all_known, no_more}
+use Rattle.data_pool.proofs.laws.joined_seats_know_all.Goals as goal
+
+pub returns-clause-all : goal.returns-clause-all
+returns-clause-all c = λ pool feeder all file feeds knows. all_known pool feeder file feeds all knows
+
+pub returns-clause-nothing_else : goal.returns-clause-nothing_else
+returns-clause-nothing_else c = λ pool feeder all file at feeds knows inside from. no_more pool feeder file feeds all knows at inside from

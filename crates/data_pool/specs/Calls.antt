@@ -1,13 +1,14 @@
 -- What the calls of a pool make of a seat.
-use Rattle.std.specs.Prelude.{◌≡◌, ◌≢◌, ℕ, ◌<◌, List, [], ◌∷◌, ◌++◌, length, slice_set, Bool, true, false}
+use Rattle.std.specs.Prelude.{◌≡◌, ◌≢◌, ℕ, ◌<◌, List, [], ◌∷◌, slice_set, Bool, true, false}
 use Rattle.once_board.specs.Filled.{count_of, one_further}
 use Rattle.once_board.specs.Holds.{won, put_at}
+use Rattle.once_board.specs.RowSeats as rows
 use Rattle.data_pool.specs.declared.pool.Append as answer
 use Rattle.data_pool.specs.declared.pool.Append.TheVariants as append
 use Rattle.data_pool.specs.declared.pieces.Piece.{Piece}
 use Rattle.data_pool.specs.declared.pieces.Piece.TheVariants.{Bytes}
 use Rattle.data_pool.specs.Pieces.{is_end}
-use Rattle.data_pool.specs.Pools.{PoolSeatView, place_of, put_pieces}
+use Rattle.data_pool.specs.Pools.{PoolSeatView, row_seat, place_of}
 
 -- the next place of a file is claimed and filled
 abbrev pub filled : ℕ → Piece → PoolSeatView → PoolSeatView
@@ -44,9 +45,8 @@ Ends file how before after true = ((count_of before.counts file).ended ≡ false
 Ends file how before after false = ((count_of before.counts file).ended ≡ true) × (after ≡ before)
 
 -- the pieces that the seat put of each file, once one more was put of a file
-pub record PutOne (file : ℕ) (piece : Piece) (before after : PoolSeatView) : Type 0 where
-  pub grown : put_pieces after file ≡ put_pieces before file ++ piece ∷ []
-  pub others : (other : ℕ) → other < length before.counts → other ≢ file → put_pieces after other ≡ put_pieces before other
+abbrev pub PutOne : ℕ → Piece → PoolSeatView → PoolSeatView → Type 0
+PutOne file piece before after = rows.PutOne 2_049 file piece (row_seat before) (row_seat after)
 
 -- the pieces of each file, once bytes were appended to a file or weren't
 abbrev pub PutsBytes : ℕ → List ℕ → PoolSeatView → PoolSeatView → answer.Append → Type 0

@@ -1,5 +1,6 @@
 pub use Rattle.once_board.specs.Boards
 pub use Rattle.once_board.specs.Filled
+pub use Rattle.once_board.specs.RowSeats
 pub use Rattle.once_board.specs.Rows
 pub mod Pieces
 pub mod Pools

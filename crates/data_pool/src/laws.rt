@@ -5,9 +5,10 @@ ghost use Rattle.once_board.specs.Filled.{EndsByLast, count_of, used};
 ghost use Rattle.once_board.specs.Holds.{Extends};
 ghost use Rattle.once_board.specs.Places.{record_of};
 ghost use Rattle.once_board.specs.Rows.{IsPrefix, row_values};
+ghost use Rattle.once_board.specs.RowSeats.{rows_of};
 ghost use Rattle.data_pool.specs.declared.pieces.Piece.{Piece};
 ghost use Rattle.data_pool.specs.Pieces.{is_end};
-ghost use Rattle.data_pool.specs.Pools.{PoolView, PoolSeatView, Feeds, KnowsOf, KnowsTo, IsSeatOf, place_of, pieces, put_pieces, rows_of};
+ghost use Rattle.data_pool.specs.Pools.{PoolView, PoolSeatView, Feeds, KnowsOf, KnowsTo, IsSeatOf, place_of, pieces, put_pieces, row_seat};
 
 /// What any seat knows of a file from its start is a prefix of what the file's feeder put, once one seat knows what both know.
 pub fn reads_are_prefixes()
@@ -20,7 +21,7 @@ pub fn reads_are_prefixes()
 /// A seat that knows what a file's feeder knows, and of the file no more, knows all that was put of it, and nothing else.
 pub fn joined_seats_know_all()
     ensures all { (pool : PoolView) (feeder : PoolSeatView) (all : Hold Piece) (file : ℕ) → Feeds pool feeder file → KnowsOf pool feeder all
-        → row_values (rows_of feeder) all file (used (count_of feeder.counts file)) ≡ put_pieces feeder file }
+        → row_values (rows_of 2_049 (row_seat feeder)) all file (used (count_of feeder.counts file)) ≡ put_pieces feeder file }
     ensures nothing_else { (pool : PoolView) (feeder : PoolSeatView) (all : Hold Piece) (file at : ℕ) → Feeds pool feeder file → KnowsOf pool feeder all
         → at < 2_049 → used (count_of feeder.counts file) ≤ at → (record_of all.places (place_of file at)).value ≡ None }
 {}

@@ -90,6 +90,7 @@ impl Pool {
         requires room { is_end piece ≡ false → (count_of seat.old.counts file).filled < 2_048 }
         ensures filled { seat.new ≡ filled file piece seat.old }
         ensures put { PutOne file piece seat.old seat.new }
+        ensures held { (seat.new.hold.rights ≡ seat.old.hold.rights) × (seat.new.hold.parts ≡ seat.old.hold.parts) }
         ensures extends { Extends seat.old.hold seat.new.hold }
     {
         let _pool = &self.board;
@@ -107,6 +108,8 @@ impl Pool {
         ensures seat { IsSeatOf self.now seat.new }
         ensures answer { Appends file bytes.items seat.old seat.new result }
         ensures put { PutsBytes file bytes.items seat.old seat.new result }
+        ensures held { (seat.new.hold.rights ≡ seat.old.hold.rights) × (seat.new.hold.parts ≡ seat.old.hold.parts) }
+        ensures feeds { (other : ℕ) → MayFeed seat.old other → MayFeed seat.new other }
         ensures extends { Extends seat.old.hold seat.new.hold }
     {
         let count = seat.counts[file as usize];
@@ -136,6 +139,8 @@ impl Pool {
         ensures seat { IsSeatOf self.now seat.new }
         ensures answer { Ends file how seat.old seat.new result }
         ensures put { result ≡ true → PutOne file how seat.old seat.new }
+        ensures held { (seat.new.hold.rights ≡ seat.old.hold.rights) × (seat.new.hold.parts ≡ seat.old.hold.parts) }
+        ensures feeds { (other : ℕ) → MayFeed seat.old other → MayFeed seat.new other }
         ensures extends { Extends seat.old.hold seat.new.hold }
     {
         let count = seat.counts[file as usize];
@@ -154,6 +159,7 @@ impl Pool {
         ensures answer { Looks may_stand (place_of file at) seat.old.hold seat.new.hold result }
         ensures counts { seat.new.counts ≡ seat.old.counts }
         ensures held { SameHoldings seat.old.hold seat.new.hold }
+        ensures feeds { (other : ℕ) → MayFeed seat.old other → MayFeed seat.new other }
         ensures extends { Extends seat.old.hold seat.new.hold }
         ensures owns { OwnsAll self.now.board.owners seat.old.hold seat.new.hold }
     {

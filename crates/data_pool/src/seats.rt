@@ -17,16 +17,13 @@ pub struct PoolSeat {
 }
 
 impl Model for PoolSeat {
-    ghost use Rattle.std.specs.Prelude.{length};
-    ghost use Rattle.once_board.specs.Filled.{HasFilled};
-    ghost use Rattle.data_pool.specs.Pieces.{is_end};
-    ghost use Rattle.data_pool.specs.Pools.{PoolSeatView, file_rows};
+    ghost use Rattle.data_pool.specs.Pools.{PoolSeatView, InPool};
 
     ghost Value = { PoolSeatView };
 
     ghost view = { λ a. record { board = a.seat.board; hold = a.seat.hold; feeders = a.feeders; counts = a.counts.items } };
 
-    ghost invariant = { λ a. HasFilled is_end (file_rows (length a.counts.items) a.feeders) a.counts.items a.seat.hold };
+    ghost invariant = { λ a. InPool (record { board = a.seat.board; hold = a.seat.hold; feeders = a.feeders; counts = a.counts.items }) };
 }
 
 impl PoolSeat {

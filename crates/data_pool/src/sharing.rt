@@ -3,7 +3,7 @@ ghost use Rattle.std.specs.Prelude.{◌≡◌, ℕ, ◌+◌, ◌≤◌, Some, If
 ghost use Rattle.once_board.specs.Filled.{HandedOver, BroughtTogether};
 ghost use Rattle.once_board.specs.Holds.{split_kept, split_off, joined, told, Agrees, Extends, OwnsAll};
 ghost use Rattle.once_board.specs.Numbers.{times};
-ghost use Rattle.data_pool.specs.Pools.{IsSeatOf};
+ghost use Rattle.data_pool.specs.Pools.{IsSeatOf, MayFeed};
 
 use crate::pool::{Pool, no_counts};
 use crate::seats::PoolSeat;
@@ -63,6 +63,7 @@ impl Pool {
         ensures same { from.new ≡ from.old }
         ensures told { to.new.hold ≡ told to.old.hold from.old.hold }
         ensures counts { to.new.counts ≡ to.old.counts }
+        ensures feeds { (file : ℕ) → MayFeed to.old file → MayFeed to.new file }
         ensures agree { Agrees to.old.hold from.old.hold }
         ensures extends { Extends to.old.hold to.new.hold × Extends from.old.hold to.new.hold }
         ensures owns { OwnsAll self.now.board.owners to.old.hold to.new.hold × OwnsAll self.now.board.owners from.old.hold to.new.hold }

@@ -33,5 +33,6 @@ mod RowSteps
 mod RowValues
 mod FilledRows
 mod FilledValues
+mod RowSeating
 mod Gathering
 pub mod Lemmas

@@ -10,4 +10,5 @@ pub mod Stated
 pub mod Worked
 pub mod Rows
 pub mod Filled
+pub mod RowSeats
 pub mod Gathered

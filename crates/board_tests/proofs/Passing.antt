@@ -101,8 +101,9 @@ reads_prefixes board first h passes laid each all lawful i j d at there same min
     let b = each j d there in
     let known : reader.known ≡ counts_of reader holder.row = count_here reader ∙ ap (counts_of reader) same in
     let put : holder.known ≡ counts_of holder holder.row = count_here holder in
-    let prefix = (read_is_prefix two_rows board.owners laid (counts_of reader) (counts_of holder) (hold_of reader) (hold_of holder) h a.in_rows b.in_rows
-    (all.knows_each i d at) (all.knows_each j d there) (all.owns_each j d there) lawful holder.row b.inside (let n = a.narrow in omega arith) mine).1 in
+    let prefix = (read_is_prefix two_rows board.owners laid (counts_of holder) (hold_of holder) h b.in_rows (all.knows_each j d there)
+    (all.owns_each j d there) lawful holder.row b.inside mine (counts_of reader) (hold_of reader) a.in_rows (all.knows_each i d at)
+    (let n = a.narrow in omega arith)).1 in
     let read_values : values_of reader ≡ row_values two_rows (hold_of reader) holder.row (counts_of reader holder.row)
     = λ k. row_values two_rows (hold_of reader) (same k) (known k) in
     let put_values : values_of holder ≡ row_values two_rows (hold_of holder) holder.row (counts_of holder holder.row)

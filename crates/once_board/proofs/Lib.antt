@@ -26,8 +26,13 @@ mod LookAnswers
 mod StatedRule
 -- `row_owners` and `free_owners`
 mod OwnerLists
+-- `hand_over` and `bring_together`
+mod Counting
 -- lemmas for the crates above: rows, their values, and seats that are joined one after another
 mod RowSteps
 mod RowValues
+mod FilledRows
+mod FilledValues
+mod RowSeating
 mod Gathering
 pub mod Lemmas

@@ -1,7 +1,7 @@
 -- The values of a row, as a list: how it grows, and that what one seat read is a prefix of what another put.
 use Rattle.std.proofs.Common.{◌≡◌, ℕ, zero, suc, ◌+◌, ◌<◌, ◌≤◌, refl, sym, ap, ◌∙◌, List, [], ◌∷◌, ◌++◌, append_assoc, option_to_list, arith, add-one}
-use Rattle.std.proofs.Common.{Some}
-use Rattle.std.proofs.lemmas.List.{append-nil}
+use Rattle.std.proofs.Common.{Some, None, Option, length, length-append, get_or}
+use Rattle.std.proofs.lemmas.List.{append-nil, get_or_append_left, get_or_push}
 use mathlib.Core.Logic.{dite}
 use native.Mathlib.Decide.{dec_le}
 use Rattle.once_board.specs.declared.holds.Hold.{Hold}
@@ -55,26 +55,71 @@ module _ {T : Type 0} (rows : Rows) where
       (option_to_list (record_of h.places (place_in rows row high)).value, refl))
       (λ top. let same : low ≡ suc high = omega arith in ([], sym (append-nil _ ∙ ap (λ n. row_values rows h row n) same)))
 
--- what a seat knows of a row up to its count is a prefix of what the holder of the row's right knows, where a third seat knows
--- what both know, and of the holder's places no more than the holder
-module _ {T : Type 0} (rows : Rows) (owners : List Owner) (laid : IsLaid rows owners) where
-  pub read_is_prefix : (reads puts : ℕ → ℕ) (reader holder both : Hold T) → InRows rows reads reader → InRows rows puts holder
-      → Extends reader both → Extends holder both → OwnsAll owners holder both → IsLawful both
-      → (row : ℕ) → row < rows.count → reads row ≤ rows.width → 1 ≤ times (rows.right_of row) holder.rights
-      → (reads row ≤ puts row) × IsPrefix (row_values rows reader row (reads row)) (row_values rows holder row (puts row))
-  read_is_prefix reads puts reader holder both old_reader old_holder knows_reader knows_holder owns lawful row r narrow mine =
-      let few : reads row ≤ puts row = dite (dec_le (reads row) (puts row)) (λ h. h)
+-- who holds a row's right, and a seat that knows all that the holder knows, and of the holder's places no more
+module _ {T : Type 0} (rows : Rows) (owners : List Owner) (laid : IsLaid rows owners) (puts : ℕ → ℕ) (holder both : Hold T)
+    (old_holder : InRows rows puts holder) (knows_holder : Extends holder both) (owns : OwnsAll owners holder both) (lawful : IsLawful both)
+    (row : ℕ) (r : row < rows.count) (mine : 1 ≤ times (rows.right_of row) holder.rights) where
+  none_unknown : (o : Option T) → ((x : T) → o ≡ Some x → ⊥) → o ≡ None
+  none_unknown None h = refl
+  none_unknown (Some x) h = absurd (h x refl)
+
+  -- that seat knows the row as the holder does, and nothing after it
+  pub row_is_holders : puts row ≤ rows.width → (row_values rows both row (puts row) ≡ row_values rows holder row (puts row))
+      × ((at : ℕ) → at < rows.width → puts row ≤ at → (record_of both.places (place_in rows row at)).value ≡ None)
+  row_is_holders narrow = (
+    values_stay rows holder both knows_holder row (puts row) (known_row rows puts holder old_holder row (puts row) r (omega arith) narrow),
+    λ at a from. none_unknown (record_of both.places (place_in rows row at)).value (λ x is.
+        let below = rows_of_holder rows owners laid puts holder both old_holder owns lawful row at r a mine (x, is) in
+        omega arith),
+  )
+
+  -- what a third seat, all of whose knowledge that seat has, knows of the row up to a position is a prefix of what the holder put
+  pub known_is_prefix : (reader : Hold T) (n : ℕ) → Extends reader both → n ≤ rows.width → IsKnown rows reader row n
+      → (n ≤ puts row) × IsPrefix (row_values rows reader row n) (row_values rows holder row (puts row))
+  known_is_prefix reader n knows_reader narrow known =
+      let few : n ≤ puts row = dite (dec_le n (puts row)) (λ h. h)
       (λ above. absurd (
-      let has = value_stays rows reader both knows_reader (place_in rows row (puts row))
-      (old_reader.known_below row (puts row) r (omega arith) (omega arith)) in
+      let has = value_stays rows reader both knows_reader (place_in rows row (puts row)) (known (puts row) (omega arith)) in
       let below = rows_of_holder rows owners laid puts holder both old_holder owns lawful row (puts row) r (omega arith) mine has in
       omega arith)) in
       (few, seen_prefix few)
     where
-      seen_prefix : reads row ≤ puts row → IsPrefix (row_values rows reader row (reads row)) (row_values rows holder row (puts row))
+      seen_prefix : n ≤ puts row → IsPrefix (row_values rows reader row n) (row_values rows holder row (puts row))
       seen_prefix few =
-          let there = values_stay rows reader both knows_reader row (reads row)
-          (known_row rows reads reader old_reader row (reads row) r (omega arith) narrow) in
-          let here = values_stay rows holder both knows_holder row (reads row) (known_row rows puts holder old_holder row (reads row) r few narrow) in
-          let more = values_prefix rows holder row (reads row) (puts row) few in
+          let there = values_stay rows reader both knows_reader row n known in
+          let here = values_stay rows holder both knows_holder row n (known_row rows puts holder old_holder row n r few narrow) in
+          let more = values_prefix rows holder row n (puts row) few in
           (more.0, more.1 ∙ ap (λ l. l ++ more.0) (sym here ∙ there))
+
+  -- a third seat by its own counts
+  pub read_is_prefix : (reads : ℕ → ℕ) (reader : Hold T) → InRows rows reads reader → Extends reader both → reads row ≤ rows.width
+      → (reads row ≤ puts row) × IsPrefix (row_values rows reader row (reads row)) (row_values rows holder row (puts row))
+  read_is_prefix reads reader old_reader knows_reader narrow = known_is_prefix reader (reads row) knows_reader narrow
+      (known_row rows reads reader old_reader row (reads row) r (omega arith) narrow)
+
+-- values of a row one by one
+module _ {T : Type 0} (rows : Rows) (h : Hold T) (row : ℕ) where
+  pub length-row_values : (n : ℕ) → IsKnown rows h row n → length (row_values rows h row n) ≡ n
+  length-row_values zero known = refl
+  length-row_values (suc n) known =
+      let v = known n (omega arith) in
+      let before = length-row_values n (λ at below. known at (omega arith)) in
+      let all = length-append (row_values rows h row n) (option_to_list (record_of h.places (place_in rows row n)).value) in
+      let one : length (option_to_list (record_of h.places (place_in rows row n)).value) ≡ 1 = ap (λ o. length (option_to_list o)) v.1 in
+      omega arith
+
+  pub row_values-at : (n at : ℕ) (x d : T) → IsKnown rows h row n → at < n → (record_of h.places (place_in rows row at)).value ≡ Some x
+      → get_or (row_values rows h row n) at d ≡ x
+  row_values-at zero at x d known below is = absurd (omega arith)
+  row_values-at (suc n) at x d known below is =
+      let rest : IsKnown rows h row n = λ a b. known a (omega arith) in
+      let long = length-row_values n rest in
+      dite (dec_le (suc at) n)
+      (λ low. get_or_append_left (row_values rows h row n) (option_to_list (record_of h.places (place_in rows row n)).value) d at (omega arith)
+      ∙ row_values-at n at x d rest low is)
+      (λ top.
+      let same : at ≡ n = omega arith in
+      let last : (record_of h.places (place_in rows row n)).value ≡ Some x
+      = ap (λ k. (record_of h.places (place_in rows row k)).value) (sym same) ∙ is in
+      (λ i. get_or (row_values rows h row n ++ option_to_list (last i)) (same i) d)
+      ∙ get_or_push (row_values rows h row n) x d n long)

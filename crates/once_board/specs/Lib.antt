@@ -9,4 +9,6 @@ pub mod Boards
 pub mod Stated
 pub mod Worked
 pub mod Rows
+pub mod Filled
+pub mod RowSeats
 pub mod Gathered

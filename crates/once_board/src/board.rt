@@ -1,11 +1,11 @@
 //! The board: how it is made, claimed, filled and ended.
-ghost use Rattle.std.specs.Prelude.{◌≡◌, ℕ, ◌^◌, ◌≤◌, ◌<◌, length, replicate, IfOk};
+ghost use Rattle.std.specs.Prelude.{◌≡◌, ℕ, ◌^◌, ◌≤◌, ◌<◌, length, replicate, IfOk, Some};
 ghost use Rattle.once_board.specs.declared.answers.Claiming.TheVariants.{Won};
 ghost use Rattle.once_board.specs.Numbers.{times};
 ghost use Rattle.once_board.specs.Places.{IsPrivate, record_of, opened};
-ghost use Rattle.once_board.specs.Holds.{MayClaim, put_at, Extends, OwnsAll, SameHoldings};
+ghost use Rattle.once_board.specs.Holds.{MayClaim, won, put_at, Extends, OwnsAll, SameHoldings};
 ghost use Rattle.once_board.specs.Boards.{IsFirst, Claims, Looks};
-ghost use Rattle.once_board.specs.Told.{IsSound};
+ghost use Rattle.once_board.specs.Told.{IsSound, WasNew};
 
 use crate::answers::{Claiming, Looking};
 use crate::holds::Seen;
@@ -94,6 +94,27 @@ impl<T: Share> Board<T> {
         ensures sound { IsSound T.fits seat.new.hold }
     {
         fill_place(&self.table.shared, &mut seat.seat, place, value);
+    }
+
+    /// Claims a place that is private to a right of the seat, and fills it. It takes no memory.
+    pub fn fill(&self, seat: &mut BoardSeat<T>, place: u32, value: T)
+        requires board { seat.old.board ≡ self.now.board }
+        requires place { place < length self.now.owners }
+        requires part { 1 ≤ seat.old.hold.parts }
+        requires mine { (right : ℕ) × IsPrivate self.now.owners place right × (1 ≤ times right seat.old.hold.rights) }
+        requires unclaimed { (record_of seat.old.hold.places place).word ≡ 0 }
+        requires fits { T.fits place value }
+        ensures board { seat.new.board ≡ seat.old.board }
+        ensures filled { seat.new.hold ≡ put_at place value (won place seat.old.hold) }
+        ensures new { WasNew place seat.old.hold }
+        ensures extends { Extends seat.old.hold seat.new.hold }
+        ensures place { (record_of seat.new.hold.places place).value ≡ Some value }
+        ensures sound { IsSound T.fits seat.new.hold }
+    {
+        let Claiming::Won = self.claim(seat, place) else {
+            unreachable!()
+        };
+        self.put(seat, place, value);
     }
 
     /// Reads a place. Where it is open and no seat has its turn, the value is shared under a turn, which is given back.

@@ -8,11 +8,13 @@
 //! `moves` and `looks` have the steps, and `board` and `joining` the calls. `specs/Holds` says what each call makes of a
 //! seat, `specs/Boards` what it answers, and `specs/Stated` the rule in plain words. `specs/Numbers` and `specs/Places` are
 //! how rights, claims and records are kept, `specs/Told` is what each step tells its seat, and `specs/Worked` has seats that are
-//! worked out. `specs/Rows` and `specs/Gathered` are for the crates above, and so are the lemmas in `proofs/Lemmas`.
+//! worked out. `specs/Rows`, `specs/Filled` (with `counts`) and
+//! `specs/Gathered` are for the crates above, and so are the lemmas in `proofs/Lemmas`.
 #![tactic(auto)]
 
 mod answers;
 mod board;
+mod counts;
 mod holds;
 mod joining;
 pub mod laws;
@@ -25,6 +27,7 @@ mod steps;
 
 pub use answers::{Claiming, Looking};
 pub use board::Board;
+pub use counts::{RowCount, bring_together, hand_over};
 pub use holds::{Hold, Known};
 pub use owners::{Owner, free_owners, row_owners};
 pub use seats::BoardSeat;

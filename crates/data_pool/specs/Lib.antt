@@ -1,0 +1,7 @@
+pub use Rattle.once_board.specs.Boards
+pub use Rattle.once_board.specs.Filled
+pub use Rattle.once_board.specs.RowSeats
+pub use Rattle.once_board.specs.Rows
+pub mod Pieces
+pub mod Pools
+pub mod Calls

@@ -1,0 +1,2 @@
+-- `answer` of `Shelf::take_on`
+mod Readings

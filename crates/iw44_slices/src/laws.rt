@@ -12,6 +12,7 @@ ghost use Rattle.iw44_slices.specs.Bands.{threshold};
 ghost use Rattle.iw44_slices.specs.Slice.{Course, Ended, start_size, raised, slice_course};
 ghost use Rattle.iw44_slices.specs.Reading.{At, standing, plane_of, read_on, read_slice};
 ghost use Rattle.iw44_slices.specs.Sizes.{AreDue};
+ghost use Rattle.iw44_slices.specs.Reader.{Reader, Stands};
 ghost use Rattle.iw44_slices.specs.Worked.{first_slice, two_slices};
 
 /// After 200 slices no threshold is in use, so that a plane reads nothing.
@@ -53,6 +54,14 @@ pub fn sizes_stay_small()
         AreDue (slice + 1) (plane_of (read_slice from slice plane at).left) }
     ensures small { (slice : ℕ) (plane : Plane) → AreDue slice plane → IsSmall 32767 plane }
     ensures partly { (slice : ℕ) (plane : Plane) (from : Chunk) (at : At) → AreDue slice plane → IsSmall 32767 (plane_of (read_slice from slice plane at).left) }
+{}
+
+/// What is left of a slice tells the coefficients as they are: a whole slice, and the rest of one that a reader has left.
+/// These are small, so their grid can be lifted in the middle of a slice.
+pub fn courses_tell_coefficients()
+    ensures whole { (slice : ℕ) (plane : Plane) → plane_of (slice_course slice plane) ≡ plane }
+    ensures rest { (slice : ℕ) (course : Course) (plane : Plane) (reader : Reader) → Stands slice course plane reader → plane_of course ≡ plane }
+    ensures small { (slice : ℕ) (course : Course) (plane : Plane) (reader : Reader) → Stands slice course plane reader → IsSmall 32767 plane }
 {}
 
 /// Thresholds of coefficients, and the sizes that they lead to.

@@ -7,7 +7,11 @@
 //! it (`docs/iw44.md`).
 #![tactic(auto)]
 
+mod contexts;
 pub mod laws;
+mod reader;
+mod spots;
 mod steps;
 
+pub use reader::SliceReader;
 pub use steps::SliceStep;

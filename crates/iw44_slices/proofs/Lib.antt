@@ -11,3 +11,5 @@ mod Courses
 mod Staying
 -- crates above
 pub mod Lemmas
+-- words and tests of coefficients; what the readers of bits cite
+mod Bits

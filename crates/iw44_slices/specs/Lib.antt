@@ -10,4 +10,5 @@ pub mod Sizes
 pub mod Reading
 pub mod Kept
 pub mod Reader
+pub mod Moves
 pub mod Worked

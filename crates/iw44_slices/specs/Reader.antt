@@ -26,8 +26,11 @@ abbrev pub states_of : Reader → States
 states_of reader = states_in reader.contexts
 
 -- the block at hand, the coefficients of which were these when its band began
+abbrev pub place_at : ℕ → ℕ → Plane → Place
+place_at slice block before = record { slice = slice; block = block; before = before }
+
 abbrev pub place_in : ℕ → Plane → Spot → Place
-place_in slice before spot = record { slice = slice; block = spot.block; before = before }
+place_in slice before spot = place_at slice spot.block before
 
 -- the number of the first bucket of a place's band, and how many the band has
 abbrev pub first_at : Place → ℕ
@@ -44,14 +47,18 @@ bucket_at at spot = first_at at + spot.bucket
 abbrev pub later_blocks : ℕ → Spot → Plane → Plane → Course
 later_blocks slice spot plane after = blocks_course slice (block_count plane - (spot.block + 1)) (spot.block + 1) after
 
+-- what was noted when a band began
+pub record AreMarked (at : Place) (spot : Spot) : Type 0 where
+  pub band : spot.is_active ≡ is_active_band at
+  pub active : (bucket : ℕ) → bucket < count_at at → AreBits (is_active at) 16 (16 * (first_at at + bucket)) (slice_index spot.active bucket)
+  pub unknown : (bucket : ℕ) → bucket < count_at at → AreBits (is_unknown at) 16 (16 * (first_at at + bucket)) (slice_index spot.unknown bucket)
+
 -- a slice that has begun, in one of the plane's blocks
 pub record InBlock (slice : ℕ) (at : Place) (plane : Plane) (spot : Spot) : Type 0 where
   pub number : spot.number ≡ slice
   pub used : does_something slice ≡ true
   pub block : spot.block < block_count plane
-  pub band : spot.is_active ≡ is_active_band at
-  pub active : (bucket : ℕ) → bucket < count_at at → AreBits (is_active at) 16 (16 * (first_at at + bucket)) (slice_index spot.active bucket)
-  pub unknown : (bucket : ℕ) → bucket < count_at at → AreBits (is_unknown at) 16 (16 * (first_at at + bucket)) (slice_index spot.unknown bucket)
+  pub marks : AreMarked at spot
 
 -- the active coefficients from one on are as they were when the band began
 abbrev pub AreAsBefore : Place → Plane → ℕ → Type 0
@@ -142,9 +149,20 @@ LeftAt stage.End slice course plane spot = AtEnd slice plane spot course
 unfoldable pub Left : ℕ → Course → Plane → Spot → Type 0
 Left slice course plane spot = LeftAt spot.stage slice course plane spot
 
+-- something is left, which may be all of a slice; of this plane, and of some plane
+abbrev pub LeavesSome : Plane → Spot → Type 0
+LeavesSome plane spot = (slice : ℕ) × (course : Course) × Left slice course plane spot
+
+abbrev pub LeavesOfSome : Spot → Type 0
+LeavesOfSome spot = (plane : Plane) × LeavesSome plane spot
+
 -- coefficients are small as long as the slice goes on, and due at its end
 abbrev pub StaySmall : ℕ → Course → Type 0
 StaySmall slice course = Along (IsSmall 32767) (AreDue (slice + 1)) course
+
+-- something is left, along which coefficients stay small
+abbrev pub LeavesSmall : Plane → Spot → Type 0
+LeavesSmall plane spot = (slice : ℕ) × (course : Course) × (Left slice course plane spot × StaySmall slice course)
 
 -- in the slice with this number, of a plane with these coefficients, a reader has this left
 unfoldable pub Stands : ℕ → Course → Plane → Reader → Type 0

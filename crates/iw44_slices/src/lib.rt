@@ -7,11 +7,18 @@
 //! it (`docs/iw44.md`).
 #![tactic(auto)]
 
+mod amounts;
+mod asking;
+mod bands;
 mod contexts;
 pub mod laws;
 mod reader;
+mod seeking;
+
 mod spots;
 mod steps;
+mod taking;
+mod words;
 
 pub use reader::SliceReader;
 pub use steps::SliceStep;

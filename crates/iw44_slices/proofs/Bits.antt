@@ -1,33 +1,36 @@
 -- Words of tests, and tests of so many numbers in a row.
-use Rattle.std.proofs.Common.{◌≡◌, ℕ, zero, suc, ◌+◌, ◌-◌, ◌*◌, ◌/◌, ◌%◌, ◌^◌, ◌<◌, ◌≤◌, Bool, true, false, ◌||◌, refl, ap, sym, ◌∙◌, subst, arith, eqb, inl, inr}
-use Rattle.std.specs.Prelude.{◌==◌, not, if◌then◌else◌}
-use Rattle.std.proofs.lemmas.Bool.{cases_Bool}
+use Rattle.std.proofs.Common.{◌≡◌, ◌≢◌, ℕ, zero, suc, ◌+◌, ◌-◌, ◌*◌, ◌/◌, ◌%◌, ◌^◌, ◌<◌, ◌≤◌, Bool, true, false, ◌||◌, refl, ap, sym, ◌∙◌, subst, arith, inl, inr}
+use Rattle.std.specs.Prelude.{◌==◌, not, ◌⊎◌, if◌then◌else◌}
+use Rattle.std.specs.Int.Count.{ones, ones_step, ones-le}
+use Rattle.std.proofs.lemmas.Bool.{cases_eq}
+use Rattle.std.proofs.lemmas.Bool.Decides.{nat_tests}
 use Rattle.iw44_slices.specs.Slice.{some_from, count_from}
 use Rattle.iw44_slices.specs.Kept.{AreBits}
 
 -- tests of numbers in a row, from one of them on
 
-pub some_here : (test : ℕ → Bool) (total first place : ℕ) → place < total → test (first + place) ≡ true → some_from test (total - place) (first + place) ≡ true
-some_here test total first place within e =
+pub some_first : (test : ℕ → Bool) (total first : ℕ) → some_from test (total - 0) (first + 0) ≡ some_from test total first
+some_first test total first =
+    let all : total - 0 ≡ total = omega arith in
+    let from : first + 0 ≡ first = omega arith in
+    ap (λ n. some_from test n (first + 0)) all ∙ ap (some_from test total) from
+
+unfolded : (test : ℕ → Bool) (total first place : ℕ) → place < total →
+    some_from test (total - place) (first + place) ≡ (test (first + place) || some_from test (total - (place + 1)) (first + (place + 1)))
+unfolded test total first place within =
     let left : total - place ≡ suc (total - (place + 1)) = omega arith in
-    ap (λ n. some_from test n (first + place)) left ∙ ap (λ b. b || some_from test (total - (place + 1)) (first + place + 1)) e
+    let next : first + place + 1 ≡ first + (place + 1) = omega arith in
+    ap (λ n. some_from test n (first + place)) left ∙ ap (λ n. test (first + place) || some_from test (total - (place + 1)) n) next
+
+pub some_here : (test : ℕ → Bool) (total first place : ℕ) → place < total → test (first + place) ≡ true → some_from test (total - place) (first + place) ≡ true
+some_here test total first place within e = unfolded test total first place within ∙ ap (λ b. b || some_from test (total - (place + 1)) (first + (place + 1))) e
 
 pub some_later : (test : ℕ → Bool) (total first place : ℕ) → place < total → test (first + place) ≡ false →
     some_from test (total - (place + 1)) (first + (place + 1)) ≡ some_from test (total - place) (first + place)
 some_later test total first place within e =
-    let left : total - place ≡ suc (total - (place + 1)) = omega arith in
-    let next : first + (place + 1) ≡ first + place + 1 = omega arith in
-    ap (some_from test (total - (place + 1))) next
-    ∙ sym (ap (λ n. some_from test n (first + place)) left ∙ ap (λ b. b || some_from test (total - (place + 1)) (first + place + 1)) e)
+    sym (unfolded test total first place within ∙ ap (λ b. b || some_from test (total - (place + 1)) (first + (place + 1))) e)
 
--- bits of a word
-
-pub no_bits : (test : ℕ → Bool) (from : ℕ) → AreBits test 0 from 0
-unfolding AreBits
-no_bits test from = refl
-
-doubled : (word bit : ℕ) → bit < 2 → (2 * word + bit) / 2 ≡ word
-doubled word bit low = omega arith
+-- a bit before a word
 
 lowest : (word : ℕ) (bit : Bool) → ((2 * word + (if bit then 1 else 0)) % 2 == 1) ≡ bit
 lowest word true = let one : (2 * word + 1) % 2 ≡ 1 = omega arith in ap (λ n. n == 1) one
@@ -37,34 +40,75 @@ behind : (word : ℕ) (bit : Bool) → (2 * word + (if bit then 1 else 0)) / 2 �
 behind word true = omega arith
 behind word false = omega arith
 
--- the bits of the numbers from one on, before which one more comes
-pub bit_before : (test : ℕ → Bool) (count from before word : ℕ) (bit : Bool) → from ≡ before + 1 → bit ≡ test before → AreBits test count from word →
+pub no_bits : (test : ℕ → Bool) (from : ℕ) → AreBits test 0 from 0
+unfolding AreBits
+no_bits test from = refl
+
+pub bit_before : (test : ℕ → Bool) (count from before word : ℕ) (bit : Bool) → before + 1 ≡ from → bit ≡ test before → AreBits test count from word →
     AreBits test (suc count) before (2 * word + (if bit then 1 else 0))
 unfolding AreBits
-bit_before test count from before word bit next is bits =
-    (lowest word bit ∙ is, subst (λ n. AreBits test count n _) next (subst (λ w. AreBits test count from w) (sym (behind word bit)) bits))
+bit_before test count from before word bit next is bits = (
+  lowest word bit ∙ is,
+  subst (λ (n : ℕ). AreBits test count n ((2 * word + (if bit then 1 else 0)) / 2)) (sym next) (subst (λ (w : ℕ). AreBits test count from w) (sym (behind word bit)) bits),
+)
 
 pub bits_below : (test : ℕ → Bool) (count from word : ℕ) → AreBits test count from word → word < 2 ^ count
 unfolding AreBits
 bits_below test zero from word bits = omega (arith, bits)
-bits_below test (suc count) from word bits = let rest = bits_below test count (from + 1) (word / 2) bits.1 in omega arith
+bits_below test (suc count) from word bits = let rest : word / 2 < 2 ^ count = bits_below test count (from + 1) (word / 2) bits.1 in omega (arith, rest)
 
 -- the first one
+
 pub first_bit : (test : ℕ → Bool) (count from word : ℕ) → AreBits test (suc count) from word → ((word % 2 == 1) ≡ test from) × AreBits test count (from + 1) (word / 2)
 unfolding AreBits
 first_bit test count from word bits = bits
 
--- a word is 0 where the test holds of none
+-- a word that isn't 0 has one
+pub some_left : (test : ℕ → Bool) (count from word : ℕ) → AreBits test count from word → 0 < word → (n : ℕ) × (count ≡ suc n)
+unfolding AreBits
+some_left test zero from word bits some = absurd (omega (arith, bits))
+some_left test (suc count) from word bits some = (count, refl)
+
 pub zero_none : (test : ℕ → Bool) (count from : ℕ) → AreBits test count from 0 → some_from test count from ≡ false
 unfolding AreBits
 zero_none test zero from bits = refl
 zero_none test (suc count) from bits = ap (λ b. b || some_from test count (from + 1)) (sym bits.0) ∙ zero_none test count (from + 1) bits.1
 
-pub some_is : (test : ℕ → Bool) (count from word : ℕ) → AreBits test count from word → some_from test count from ≡ not (word == 0)
-some_is test count from word bits = ?
+or_true : (a b : Bool) → b ≡ true → (a || b) ≡ true
+or_true true b e = refl
+or_true false b e = e
 
-pub some_first : (test : ℕ → Bool) (total first : ℕ) → some_from test (total - 0) (first + 0) ≡ some_from test total first
-some_first test total first =
-    let all : total - 0 ≡ total = omega arith in
-    let from : first + 0 ≡ first = omega arith in
-    ap (λ n. some_from test n (first + 0)) all ∙ ap (some_from test total) from
+pub some_one : (test : ℕ → Bool) (count from word : ℕ) → AreBits test count from word → 0 < word → some_from test count from ≡ true
+unfolding AreBits
+some_one test zero from word bits some = absurd (omega (arith, bits))
+some_one test (suc count) from word bits some =
+    elim (cases_eq (word % 2) 1) [
+      | inl odd ↦ ap (λ b. b || some_from test count (from + 1)) (sym bits.0 ∙ ap (λ n. n == 1) odd)
+      | inr even ↦ or_true (test from) (some_from test count (from + 1)) (some_one test count (from + 1) (word / 2) bits.1 (omega arith))
+    ]
+
+not_zero : (word : ℕ) → 0 < word → (word == 0) ≡ false
+not_zero word some = grind (arith, nat_tests)
+
+pub some_is : (test : ℕ → Bool) (count from word : ℕ) → AreBits test count from word → some_from test count from ≡ not (word == 0)
+some_is test count from word bits =
+    elim (cases_eq word 0) [
+      | inl none ↦ zero_none test count from (subst (λ (w : ℕ). AreBits test count from w) none bits) ∙ ap (λ w. not (w == 0)) (sym none)
+      | inr some ↦ some_one test count from word bits (omega arith) ∙ ap not (sym (not_zero word (omega arith)))
+    ]
+
+digit : (word : ℕ) (test : Bool) → ((word % 2 == 1) ≡ test) → (if test then 1 else 0) ≡ word % 2
+digit word test e =
+    elim (cases_eq (word % 2) 1) [
+      | inl odd ↦ ap (λ b. if b then 1 else 0) (sym e ∙ ap (λ n. n == 1) odd) ∙ sym odd
+      | inr even ↦ let none : word % 2 ≡ 0 = omega arith in ap (λ b. if b then 1 else 0) (sym e ∙ ap (λ n. n == 1) none) ∙ sym none
+    ]
+
+-- how many bits a word has
+pub ones_are : (test : ℕ → Bool) (count from word : ℕ) → AreBits test count from word → ones word ≡ count_from test count from
+unfolding AreBits
+ones_are test zero from word bits = omega (arith, bits, ones-le 0 word (omega (arith, bits)))
+ones_are test (suc count) from word bits =
+    let rest : ones (word / 2) ≡ count_from test count (from + 1) = ones_are test count (from + 1) (word / 2) bits.1 in
+    let first : (if test from then 1 else 0) ≡ word % 2 = digit word (test from) bits.0 in
+    omega (arith, ones_step word, rest, first)

@@ -13,3 +13,5 @@ mod Staying
 pub mod Lemmas
 -- words and tests of coefficients; what the readers of bits cite
 mod Bits
+mod Skipping
+mod Standing

@@ -3,7 +3,7 @@ ghost use Rattle.std.specs.Prelude.{◌≡◌, ℕ, ◌+◌, ◌*◌, ◌/◌, �
 ghost use Rattle.iw44_blocks.specs.Plane.{Plane, block_count};
 ghost use Rattle.iw44_slices.specs.Bands.{band_of, first_bucket, bucket_count};
 ghost use Rattle.iw44_slices.specs.Slice.{Course};
-ghost use Rattle.iw44_slices.specs.Reader.{Left, LeavesSome, LeavesOfSome, AreMarked, place_at};
+ghost use Rattle.iw44_slices.specs.Reader.{Left, LeavesSome, LeavesOfSome, AreMarked, place_in};
 ghost use Rattle.iw44_slices.specs.Moves.{is_settled, steps_left};
 ghost use Rattle.iw44_slices.specs.declared.spots.Stage.TheVariants as stage;
 
@@ -88,19 +88,30 @@ impl Spot {
         ensures left { (slice : ℕ) (course : Course) → Left slice course coefficients.now self.old → Left slice course coefficients.now self.new }
         ensures fewer { (slice : ℕ) (course : Course) → Left slice course coefficients.now self.old → steps_left coefficients.now self.new < steps_left coefficients.now self.old }
     {
-        if self.block < coefficients.blocks() {
-            self.mark(coefficients);
-            self.bucket = 0;
-            self.stage = if bucket_count(self.number) == 16 && !self.is_active { Stage::Root } else { Stage::Bucket };
-        } else {
+        if self.block >= coefficients.blocks() {
             self.stage = Stage::End;
+            return;
         }
+        self.mark(coefficients);
+        self.bucket = 0;
+        if self.has_root() {
+            self.stage = Stage::Root;
+        } else {
+            self.stage = Stage::Bucket;
+        }
+    }
+
+    /// Whether the block has a root decision: its band has 16 buckets, and isn't active.
+    fn has_root(&self) -> bool
+        ensures { result ≡ ((bucket_count (band_of self.now.number) == 16) && not self.now.is_active) }
+    {
+        bucket_count(self.number) == 16 && !self.is_active
     }
 
     /// Notes which coefficients of the block's band are active, and which ones are unknown.
     fn mark(&mut self, coefficients: &Coefficients)
         requires { self.old.block < block_count coefficients.now }
-        ensures marks { AreMarked (place_at self.old.number self.old.block coefficients.now) self.new }
+        ensures marks { AreMarked (place_in coefficients.now self.new) self.new.is_active self.new.active self.new.unknown }
         ensures number { self.new.number ≡ self.old.number }
         ensures block { self.new.block ≡ self.old.block }
     {

@@ -1,8 +1,10 @@
 -- Words of tests, and tests of so many numbers in a row.
-use Rattle.std.proofs.Common.{◌≡◌, ◌≢◌, ℕ, zero, suc, ◌+◌, ◌-◌, ◌*◌, ◌/◌, ◌%◌, ◌^◌, ◌<◌, ◌≤◌, Bool, true, false, ◌||◌, refl, ap, sym, ◌∙◌, subst, arith, inl, inr}
+use Rattle.std.proofs.Common.{◌≡◌, ◌≢◌, ℕ, zero, suc, ◌+◌, ◌-◌, ◌*◌, ◌/◌, ◌%◌, ◌^◌, ◌<◌, ◌≤◌, Bool, true, false, ◌||◌, List, length, get_or, set, refl, ap, sym, ◌∙◌, subst, arith, inl, inr}
 use Rattle.std.specs.Prelude.{◌==◌, not, ◌⊎◌, if◌then◌else◌}
 use Rattle.std.specs.Int.Count.{ones, ones_step, ones-le}
 use Rattle.std.proofs.lemmas.Bool.{cases_eq}
+use Rattle.std.proofs.Math.Pow.{pow_mono}
+use Rattle.std.proofs.lemmas.List.{get_or-set_same, get_or-set_other}
 use Rattle.std.proofs.lemmas.Bool.Decides.{nat_tests}
 use Rattle.iw44_slices.specs.Slice.{some_from, count_from}
 use Rattle.iw44_slices.specs.Kept.{AreBits}
@@ -112,3 +114,55 @@ ones_are test (suc count) from word bits =
     let rest : ones (word / 2) ≡ count_from test count (from + 1) = ones_are test count (from + 1) (word / 2) bits.1 in
     let first : (if test from then 1 else 0) ≡ word % 2 = digit word (test from) bits.0 in
     omega (arith, ones_step word, rest, first)
+
+-- a word of up to 16 bits gets one more
+pub one_bit_more : (test : ℕ → Bool) (count from before word new : ℕ) (bit : Bool) → before + 1 ≡ from → count < 16 → bit ≡ test before → new ≡ 2 * word + (if bit then 1 else 0) →
+    AreBits test count from word → AreBits test (count + 1) before new × (new < 65536)
+one_bit_more test count from before word new bit next few is made bits =
+    let more = bit_before test count from before word bit next is bits in
+    let one : suc count ≡ count + 1 = omega arith in
+    let whole : AreBits test (count + 1) before new = subst (λ (n : ℕ). AreBits test n before new) one (subst (λ (w : ℕ). AreBits test (suc count) before w) (sym made) more) in
+    let few_bits : count + 1 ≤ 16 = omega arith in
+    let high : 2 ^ (count + 1) ≤ 2 ^ 16 = pow_mono few_bits in
+    let below = bits_below test (count + 1) before new whole in
+    (whole, omega (arith, high, below))
+
+-- words of several buckets
+
+or_either : (a b c : Bool) → (a || (b || c)) ≡ ((a || b) || c)
+or_either true b c = refl
+or_either false b c = refl
+
+some_joined : (test : ℕ → Bool) (m n from : ℕ) → some_from test (m + n) from ≡ (some_from test m from || some_from test n (from + m))
+some_joined test zero n from =
+    let all : 0 + n ≡ n = omega arith in
+    let here : from ≡ from + 0 = omega arith in
+    ap (λ (k : ℕ). some_from test k from) all ∙ ap (λ (k : ℕ). some_from test n k) here
+some_joined test (suc m) n from =
+    let all : suc m + n ≡ suc (m + n) = omega arith in
+    let here : from + 1 + m ≡ from + suc m = omega arith in
+    ap (λ (k : ℕ). some_from test k from) all
+    ∙ (ap (λ (b : Bool). test from || b) (some_joined test m n (from + 1) ∙ ap (λ (k : ℕ). some_from test m (from + 1) || some_from test n k) here)
+    ∙ or_either (test from) (some_from test m (from + 1)) (some_from test n (from + suc m)))
+
+pub some_of_buckets : (test : ℕ → Bool) (first bucket word : ℕ) (before after : Bool) → before ≡ some_from test (16 * bucket) (16 * first) →
+    after ≡ (before || not (word == 0)) → AreBits test 16 (16 * (first + bucket)) word → after ≡ some_from test (16 * (bucket + 1)) (16 * first)
+some_of_buckets test first bucket word before after was now bits =
+    let all : 16 * (bucket + 1) ≡ 16 * bucket + 16 = omega arith in
+    let here : 16 * first + 16 * bucket ≡ 16 * (first + bucket) = omega arith in
+    now ∙ (ap (λ (b : Bool). b || not (word == 0)) was
+    ∙ (ap (λ (b : Bool). some_from test (16 * bucket) (16 * first) || b) (sym (some_is test 16 (16 * (first + bucket)) word bits))
+    ∙ (ap (λ (k : ℕ). some_from test (16 * bucket) (16 * first) || some_from test 16 k) (sym here)
+    ∙ (sym (some_joined test (16 * bucket) 16 (16 * first)) ∙ ap (λ (k : ℕ). some_from test k (16 * first)) (sym all)))))
+
+pub words_more : (test : ℕ → Bool) (first : ℕ) (words : List ℕ) (bucket word : ℕ) → bucket < length words →
+    ((k : ℕ) → k < bucket → AreBits test 16 (16 * (first + k)) (get_or words k 0)) → AreBits test 16 (16 * (first + bucket)) word →
+    (k : ℕ) → k < bucket + 1 → AreBits test 16 (16 * (first + k)) (get_or (set words bucket word) k 0)
+words_more test first words bucket word within earlier here k below =
+    elim (cases_eq k bucket) [
+      | inl same ↦
+          subst (λ (n : ℕ). AreBits test 16 (16 * (first + n)) (get_or (set words bucket word) n 0)) (sym same)
+          (subst (λ (w : ℕ). AreBits test 16 (16 * (first + bucket)) w) (sym (get_or-set_same words bucket word 0 within)) here)
+      | inr apart ↦
+          subst (λ (w : ℕ). AreBits test 16 (16 * (first + k)) w) (sym (get_or-set_other words bucket k word 0 apart)) (earlier k (omega arith))
+    ]

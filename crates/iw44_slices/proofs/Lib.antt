@@ -15,3 +15,5 @@ pub mod Lemmas
 mod Bits
 mod Skipping
 mod Standing
+mod Passing
+mod Nearing

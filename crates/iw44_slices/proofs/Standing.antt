@@ -22,6 +22,10 @@ pub stands_at : (s : Stage) (slice : ℕ) (course : Course) (plane : Plane) (spo
 unfolding Left
 stands_at s slice course plane spot e left = subst (λ (x : Stage). LeftAt x slice course plane spot) e left
 
+pub stands_as : (s : Stage) (slice : ℕ) (course : Course) (plane : Plane) (spot : Spot) → spot.stage ≡ s → LeftAt s slice course plane spot → Left slice course plane spot
+unfolding Left
+stands_as s slice course plane spot e is = subst (λ (x : Stage). LeftAt x slice course plane spot) (sym e) is
+
 pub settled_at : (s : Stage) (spot : Spot) (b : Bool) → spot.stage ≡ s → is_settled spot ≡ b → is_settled_at s spot ≡ b
 settled_at s spot b e is = subst (λ (x : Stage). is_settled_at x spot ≡ b) e is
 

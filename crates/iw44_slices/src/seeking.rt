@@ -61,7 +61,7 @@ impl Spot {
             Stage::Bucket => self.skip_bucket(),
             Stage::Chosen => self.skip_chosen(),
             Stage::Start => self.skip_start(),
-            Stage::Raise => self.skip_raise(coefficients.blocks()),
+            Stage::Raise => self.skip_raise(coefficients),
             Stage::Root => {}
             Stage::Sign => {}
             Stage::End => {}
@@ -121,7 +121,7 @@ impl Spot {
             let words = words_of(self.number, coefficients, self.block, first + bucket);
             self.active[bucket as usize] = words.active;
             self.unknown[bucket as usize] = words.unknown;
-            self.is_active = self.is_active || words.active != 0;
+            self.is_active |= words.active != 0;
         }
     }
 
@@ -184,13 +184,13 @@ impl Spot {
         }
     }
 
-    /// Passes a coefficient that isn't active, and goes on behind the last active one of the bucket.
-    fn skip_raise(&mut self, blocks: u32)
+    /// Passes a coefficient that isn't active, or goes on behind the last active one of the bucket.
+    fn skip_raise(&mut self, coefficients: &Coefficients)
         requires stage { self.old.stage ≡ stage.Raise }
-        requires some { LeavesOfSome self.old }
+        requires some { LeavesSome coefficients.now self.old }
         requires open { is_settled self.old ≡ false }
-        ensures left { (slice : ℕ) (course : Course) (plane : Plane) → block_count plane ≡ blocks → Left slice course plane self.old → Left slice course plane self.new }
-        ensures fewer { (slice : ℕ) (course : Course) (plane : Plane) → block_count plane ≡ blocks → Left slice course plane self.old → steps_left plane self.new < steps_left plane self.old }
+        ensures left { (slice : ℕ) (course : Course) → Left slice course coefficients.now self.old → Left slice course coefficients.now self.new }
+        ensures fewer { (slice : ℕ) (course : Course) → Left slice course coefficients.now self.old → steps_left coefficients.now self.new < steps_left coefficients.now self.old }
     {
         if self.word != 0 {
             self.pass();
@@ -198,7 +198,7 @@ impl Spot {
             self.bucket += 1;
             self.open(Stage::Raise, self.active[self.bucket as usize]);
         } else {
-            self.next_block(blocks);
+            self.next_block(coefficients.blocks());
         }
     }
 

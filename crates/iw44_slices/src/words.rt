@@ -1,5 +1,5 @@
 //! Which coefficients of a bucket are active, and which ones are unknown.
-ghost use Rattle.std.specs.Prelude.{◌≡◌, ℕ, ◌+◌, ◌*◌, ◌<◌, ◌≤◌, not, if◌then◌else◌};
+ghost use Rattle.std.specs.Prelude.{◌≡◌, ℕ, ◌+◌, ◌*◌, ◌<◌, ◌≤◌, not, ◌&&◌, if◌then◌else◌};
 ghost use Rattle.iw44_blocks.specs.Plane.{block_count, coefficient};
 ghost use Rattle.iw44_slices.specs.Slice.{is_active, is_unknown, parents, is_zero};
 ghost use Rattle.iw44_slices.specs.Kept.{AreBits};
@@ -22,14 +22,14 @@ pub(crate) fn words_of(number: u8, coefficients: &Coefficients, block: u32, buck
     ensures active { AreBits (is_active (place_at number block coefficients.now)) 16 (16 * bucket) result.active }
     ensures unknown { AreBits (is_unknown (place_at number block coefficients.now)) 16 (16 * bucket) result.unknown }
 {
-    let mut active = 0u32;
-    let mut unknown = 0u32;
+    let mut active = 0;
+    let mut unknown = 0;
     for place in 0..BUCKET {
         let index = BUCKET * bucket + (BUCKET - 1 - place);
         let is_used = is_in_use(threshold(number, index));
-        let is_zero = is_zero(coefficients.get(block, index));
-        active = 2 * active + u32::from(is_used && !is_zero);
-        unknown = 2 * unknown + u32::from(is_used && is_zero);
+        let is_zero = is_zero(coefficients, block, index);
+        active = with_bit(active, both(is_used, !is_zero));
+        unknown = with_bit(unknown, both(is_used, is_zero));
     }
     Words {
         active: active as u16,
@@ -37,11 +37,27 @@ pub(crate) fn words_of(number: u8, coefficients: &Coefficients, block: u32, buck
     }
 }
 
-/// Whether a coefficient is 0.
-pub(crate) fn is_zero(value: i16) -> bool
-    ensures { result ≡ is_zero value }
+/// A word with a bit before the others.
+fn with_bit(word: u32, bit: bool) -> u32
+    requires { word < 0x10000 }
+    ensures { result ≡ 2 * word + (if bit then 1 else 0) }
 {
-    value == 0
+    2 * word + u32::from(bit)
+}
+
+fn both(a: bool, b: bool) -> bool
+    ensures { result ≡ (a && b) }
+{
+    a && b
+}
+
+/// Whether a coefficient is 0.
+fn is_zero(coefficients: &Coefficients, block: u32, index: u16) -> bool
+    requires block { block < block_count coefficients.now }
+    requires index { index < 1024 }
+    ensures { result ≡ is_zero (coefficient coefficients.now block index) }
+{
+    coefficients.get(block, index) == 0
 }
 
 /// How many of a bucket's four parents aren't 0.
@@ -65,5 +81,5 @@ fn nonzero(coefficients: &Coefficients, block: u32, index: u16) -> u16
     ensures is { result ≡ (if not (is_zero (coefficient coefficients.now block index)) then 1 else 0) }
     ensures most { result ≤ 1 }
 {
-    u16::from(!is_zero(coefficients.get(block, index)))
+    u16::from(!is_zero(coefficients, block, index))
 }

@@ -17,3 +17,5 @@ mod Skipping
 mod Standing
 mod Passing
 mod Nearing
+mod Telling
+mod Naming

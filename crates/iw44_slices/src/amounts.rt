@@ -1,6 +1,28 @@
 //! Sizes of coefficients.
-ghost use Rattle.std.specs.Prelude.{◌≡◌, ◌≤◌, ◌<◌};
+ghost use Rattle.std.specs.Prelude.{◌≡◌, ◌≤◌, ◌<◌, unsigned_abs};
+ghost use Rattle.iw44_blocks.specs.Plane.{block_count, coefficient};
 ghost use Rattle.iw44_slices.specs.Slice.{start_size, is_large, raised, signed, is_negative};
+
+use iw44_blocks::Coefficients;
+
+/// The size of a coefficient.
+pub(crate) fn size_of(coefficients: &Coefficients, block: u32, index: u16) -> u32
+    requires block { block < block_count coefficients.now }
+    requires index { index < 1024 }
+    ensures is { result ≡ unsigned_abs (coefficient coefficients.now block index) }
+    ensures most { result < 0x10000 }
+{
+    u32::from(coefficients.get(block, index).unsigned_abs())
+}
+
+/// Whether a coefficient is below 0.
+pub(crate) fn is_negative(coefficients: &Coefficients, block: u32, index: u16) -> bool
+    requires block { block < block_count coefficients.now }
+    requires index { index < 1024 }
+    ensures { result ≡ is_negative (coefficient coefficients.now block index) }
+{
+    coefficients.get(block, index) < 0
+}
 
 /// The size with which a coefficient starts, by its threshold.
 pub(crate) fn start_size(threshold: u32) -> u32
@@ -36,11 +58,4 @@ pub(crate) fn signed(negative: bool, size: u32) -> i16
 {
     let value = size as i16;
     if negative { -value } else { value }
-}
-
-/// Whether a number is below 0.
-pub(crate) fn is_negative(value: i16) -> bool
-    ensures { result ≡ is_negative value }
-{
-    value < 0
 }

@@ -7,7 +7,7 @@ ghost use Rattle.iw44_slices.specs.Moves.{after_bit, is_settled};
 ghost use Rattle.iw44_slices.specs.declared.spots.Stage.TheVariants as stage;
 
 use crate::bands::threshold;
-use crate::amounts::{is_negative, raised, signed, start_size};
+use crate::amounts::{is_negative, raised, signed, size_of, start_size};
 use crate::spots::{Spot, Stage};
 use iw44_blocks::Coefficients;
 
@@ -92,9 +92,10 @@ impl Spot {
         ensures width { coefficients.new.width ≡ coefficients.old.width }
         ensures height { coefficients.new.height ≡ coefficients.old.height }
     {
-        let value = coefficients.get(self.block, self.index);
-        let size = raised(threshold(self.number, self.index), u32::from(value.unsigned_abs()), bit);
-        coefficients.set(self.block, self.index, signed(is_negative(value), size));
+        let size = size_of(coefficients, self.block, self.index);
+        let negative = is_negative(coefficients, self.block, self.index);
+        let after = raised(threshold(self.number, self.index), size, bit);
+        coefficients.set(self.block, self.index, signed(negative, after));
         self.pass();
     }
 }

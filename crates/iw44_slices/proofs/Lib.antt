@@ -19,3 +19,4 @@ mod Passing
 mod Nearing
 mod Telling
 mod Naming
+mod Moving

@@ -150,7 +150,7 @@ raise_course slice course plane spot e settled is =
     now.is ∙ (ap (λ (n : ℕ). raises at (later_blocks plane spot) n spot.index plane) more
     ∙ raises_ask at (later_blocks plane spot) (16 * first_at at + 16 * count_at at - (spot.index + 1)) spot.index plane (raise_active slice course plane spot e settled is))
 
-in_use : (t : ℕ) (other : Bool) → (is_in_use t && other) ≡ true → t < 0x8000
+pub in_use : (t : ℕ) (other : Bool) → (is_in_use t && other) ≡ true → t < 0x8000
 in_use t other e = grind (arith, nat_tests)
 
 pub raise_used : (slice : ℕ) (course : Course) (plane : Plane) (spot : Spot) → spot.stage ≡ stage.Raise → is_settled spot ≡ true → Left slice course plane spot →

@@ -137,7 +137,7 @@ passed at test count bucket index word some here =
     let bits = first_bit test left.0 index word (subst (λ (n : ℕ). AreBits test n index word) one here.bits) in
     record { less = left.0; one = one; first = bits.0; later = record { within = here.within; rest = omega arith; low = omega arith; bits = bits.1 } }
 
-few_buckets : (band : ℕ) → bucket_count band ≤ 16
+pub few_buckets : (band : ℕ) → bucket_count band ≤ 16
 few_buckets zero = omega arith
 few_buckets (suc zero) = omega arith
 few_buckets (suc (suc zero)) = omega arith

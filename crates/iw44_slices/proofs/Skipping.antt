@@ -154,3 +154,8 @@ with_root at rest e =
 pub without_root : (at : Place) (rest : Plane → Course) → ((bucket_count (band_of at.slice) == 16) && not (is_active_band at)) ≡ false → block_course at rest ≡ all_choices at rest
 without_root at rest e =
     unless ((bucket_count (band_of at.slice) == 16) && not (is_active_band at)) (Asks at.before (In Root) (λ bit. if bit then all_choices at rest else rest at.before)) (all_choices at rest) e
+
+-- a coefficient that starts has its sign next
+pub sign_next : (at : Place) (rest : Plane → Course) (bucket n i left : ℕ) (plane : Plane) →
+    after_start at rest bucket n i left plane true ≡ Asks plane Plain (after_sign at rest bucket n i plane)
+sign_next at rest bucket n i left plane = refl

@@ -14,7 +14,7 @@ use Rattle.iw44_slices.specs.declared.spots.Stage.TheVariants as stage
 use Rattle.iw44_slices.proofs.Staying.{due_is_small}
 
 -- the blocks that follow tell their coefficients
-abbrev Tell : (Plane → Course) → Type 0
+abbrev pub Tell : (Plane → Course) → Type 0
 Tell rest = (plane : Plane) → plane_of (rest plane) ≡ plane
 
 tells_if : (t : Bool) (a b : Course) (plane : Plane) → plane_of a ≡ plane → plane_of b ≡ plane → plane_of (if t then a else b) ≡ plane
@@ -54,7 +54,7 @@ blocks_tell slice (suc count) block plane = block_tells (place_at slice block pl
 pub slice_tells : (slice : ℕ) (plane : Plane) → plane_of (slice_course slice plane) ≡ plane
 slice_tells slice plane = tells_if (does_something slice) (blocks_course slice (block_count plane) 0 plane) (Ended plane) plane (blocks_tell slice (block_count plane) 0 plane) refl
 
-later_tell : (plane : Plane) (spot : Spot) → Tell (later_blocks plane spot)
+pub later_tell : (plane : Plane) (spot : Spot) → Tell (later_blocks plane spot)
 later_tell plane spot after = blocks_tell spot.number (block_count plane - (spot.block + 1)) (spot.block + 1) after
 
 pub from_tells : (at : Place) (plane : Plane) (spot : Spot) (bucket : ℕ) → Tell (from_bucket at (later_blocks plane spot) spot.chosen bucket)

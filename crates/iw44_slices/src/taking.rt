@@ -1,6 +1,6 @@
 //! How a bit moves a reader.
 ghost use Rattle.std.specs.Prelude.{◌≡◌, ℕ, ◌<◌, true, false};
-ghost use Rattle.iw44_blocks.specs.Plane.{Plane, block_count};
+ghost use Rattle.iw44_blocks.specs.Plane.{Plane, IsPlane, block_count};
 ghost use Rattle.iw44_slices.specs.Slice.{Course};
 ghost use Rattle.iw44_slices.specs.Reader.{Left, LeavesSome, LeavesOfSome, LeavesSmall};
 ghost use Rattle.iw44_slices.specs.Moves.{after_bit, is_settled};
@@ -20,8 +20,9 @@ impl Spot {
         ensures width { coefficients.new.width ≡ coefficients.old.width }
         ensures height { coefficients.new.height ≡ coefficients.old.height }
     {
+        let blocks = coefficients.blocks();
         match self.stage {
-            Stage::Root => self.take_root(bit, coefficients.blocks()),
+            Stage::Root => self.take_root(bit, blocks),
             Stage::Bucket => self.take_bucket(bit),
             Stage::Start => self.take_start(bit),
             Stage::Sign => self.take_sign(bit, coefficients),
@@ -71,6 +72,7 @@ impl Spot {
     }
 
     fn take_sign(&mut self, bit: bool, coefficients: &mut Coefficients)
+        requires plane { IsPlane coefficients.old }
         requires left { LeavesSmall coefficients.old self.old }
         requires stage { self.old.stage ≡ stage.Sign }
         ensures left { (slice : ℕ) (course : Course) → Left slice course coefficients.old self.old → Left slice (after_bit course bit) coefficients.new self.new }
@@ -85,6 +87,7 @@ impl Spot {
     }
 
     fn take_raise(&mut self, bit: bool, coefficients: &mut Coefficients)
+        requires plane { IsPlane coefficients.old }
         requires left { LeavesSmall coefficients.old self.old }
         requires stage { self.old.stage ≡ stage.Raise }
         requires settled { is_settled self.old ≡ true }

@@ -20,3 +20,5 @@ mod Nearing
 mod Telling
 mod Naming
 mod Moving
+mod Numbering
+mod Advancing

@@ -44,6 +44,9 @@ root_ends slice course plane spot e left =
     let inside = is.0.block in
     record { same = is.0.number; used = is.0.used; within = omega arith; is = after_is course plane _ _ false is.1.is }
 
+pub root_block : (slice : ℕ) (course : Course) (plane : Plane) (spot : Spot) → spot.stage ≡ stage.Root → Left slice course plane spot → spot.block < block_count plane
+root_block slice course plane spot e left = (stands_at stage.Root slice course plane spot e left).0.block
+
 -- a bucket
 
 pub bucket_moves : (slice : ℕ) (course : Course) (plane : Plane) (spot : Spot) (bit : Bool) → spot.stage ≡ stage.Bucket → is_settled spot ≡ true → spot.bucket < bucket_count (band_of spot.number) →

@@ -124,3 +124,21 @@ block_has_none slice course plane old spot e within n b marks test left =
       is = is.is ∙ (block_first spot.number (block_count plane) spot.block plane inside ∙ (without_root (place_in plane spot) (later_blocks plane spot) (root_test plane spot false marks test)
       ∙ choices_first (place_in plane spot) (later_blocks plane spot) spot.chosen));
     })
+
+-- the next slice
+pub next_begins : (slice : ℕ) (course : Course) (plane : Plane) (spot : Spot) (number : ℕ) → spot.stage ≡ stage.End → number ≡ min (spot.number + 1) 200 → Left slice course plane spot →
+    Left (slice + 1) (slice_course (slice + 1) plane) plane (record spot { stage = stage.Slice; number = number })
+unfolding Left
+next_begins slice course plane spot number e more left =
+    let is = stands_at stage.End slice course plane spot e left in
+    let was = is.number in
+    record { number = omega arith; is = refl }
+
+-- from slice 200 on the number stays
+pub next_stays : (slice : ℕ) (course : Course) (plane : Plane) (spot : Spot) → spot.stage ≡ stage.End → 200 ≤ spot.number → Left slice course plane spot →
+    Left (slice + 1) (slice_course (slice + 1) plane) plane (record spot { stage = stage.Slice })
+unfolding Left
+next_stays slice course plane spot e high left =
+    let is = stands_at stage.End slice course plane spot e left in
+    let was = is.number in
+    record { number = omega arith; is = refl }

@@ -1,16 +1,18 @@
 -- How a reader moves: to a decision, and by one.
-use Rattle.std.specs.Prelude.{◌≡◌, ℕ, ◌+◌, ◌-◌, ◌*◌, ◌/◌, ◌%◌, ◌<◌, ◌≤◌, ◌==◌, Bool, true, false, not, ◌&&◌, nat_lt, List, length, slice_index, Option, Some, None}
+use Rattle.std.specs.Prelude.{◌≡◌, ◌≢◌, ℕ, ◌+◌, ◌-◌, ◌*◌, ◌/◌, ◌%◌, ◌<◌, ◌≤◌, ◌==◌, Bool, true, false, not, ◌&&◌, nat_lt, List, length, slice_index, Option, Some, None}
 use Rattle.djvu_base.specs.Meter.{TicksExactly}
-use Rattle.zp_decoder.specs.Chunk.{Chunk, chunk}
+use Rattle.zp_decoder.specs.Decision.{Interval}
 use Rattle.zp_decoder.specs.Decoder.{Decoder, Fed, room_left}
 use Rattle.zp_decoder.specs.States.{AreBelow}
 use Rattle.iw44_blocks.specs.Plane.{Plane, block_count}
 use Rattle.iw44_slices.specs.Bands.{band_of, first_bucket, bucket_count}
-use Rattle.iw44_slices.specs.Slice.{Course, Ended, Asks}
-use Rattle.iw44_slices.specs.Reading.{At, read_on}
+use Rattle.iw44_slices.specs.Slice.{Course, Ended, Asks, slice_course}
+use Rattle.iw44_slices.specs.Reading.{plane_of, stands, standing}
 use Rattle.iw44_slices.specs.Kept.{Names}
-use Rattle.iw44_slices.specs.Reader.{Reader, Stands, states_of}
+use Rattle.iw44_slices.specs.Reader.{Reader, Stands, StandsSomewhere, reading_from, states_of}
 use Rattle.iw44_slices.specs.declared.contexts.Question.{Question}
+use Rattle.iw44_slices.specs.declared.steps.SliceStep.{SliceStep}
+use Rattle.iw44_slices.specs.declared.steps.SliceStep.TheVariants as step
 use Rattle.iw44_slices.specs.declared.spots.Spot.{Spot}
 use Rattle.iw44_slices.specs.declared.spots.Stage.{Stage}
 use Rattle.iw44_slices.specs.declared.spots.Stage.TheVariants as stage
@@ -69,25 +71,39 @@ steps_at stage.End plane spot = 0
 abbrev pub steps_left : Plane → Spot → ℕ
 steps_left plane spot = steps_at spot.stage plane spot
 
--- where what was left before is read on from here, and so many decisions more were read
-pub record ReadsOn (slice : ℕ) (from : Chunk) (course : Course) (at : At) (plane : Plane) (reader : Reader) (zp : Decoder) (before count : ℕ) : Type 0 where
+-- what was left before is read on as this is from here, after so many decisions
+pub record ReadsOn (slice decisions : ℕ) (payload : List ℕ) (course : Course) (place : Option Interval) (old_reader : Reader) (old : Decoder) (before : ℕ)
+    (plane : Plane) (reader : Reader) (zp : Decoder) (count : ℕ) : Type 0 where
   pub left : Course
-  pub here : At
+  pub here : Option Interval
+  pub number : ℕ
   pub stands : Stands slice left plane reader
-  pub states : here.states ≡ states_of reader
-  pub fed : Fed from.payload here.place zp
-  pub grows : at.decisions ≤ here.decisions
-  pub ticks : TicksExactly (here.decisions - at.decisions) before count
-  pub same : read_on from course at ≡ read_on from left here
+  pub fed : Fed payload here zp
+  pub grows : decisions ≤ number
+  pub ticks : TicksExactly (number - decisions) before count
+  pub same : reading_from course old payload place old_reader decisions ≡ reading_from left zp payload here reader number
 
 -- what a reader keeps while it goes from decision to decision
-pub record Keeps (old_plane : Plane) (old_reader : Reader) (old : Decoder) (old_count : ℕ) (plane : Plane) (reader : Reader) (zp : Decoder) (count : ℕ) : Type 0 where
-  pub reads : (slice : ℕ) (payload : List ℕ) (course : Course) (at : At) → Stands slice course old_plane old_reader → at.states ≡ states_of old_reader →
-      Fed payload at.place old → ReadsOn slice (chunk old.table payload old.ended) course at plane reader zp old_count count
-  pub somewhere : (slice : ℕ) × (course : Course) × Stands slice course plane reader
+pub record Keeps (old_plane : Plane) (old_reader : Reader) (old : Decoder) (before : ℕ) (plane : Plane) (reader : Reader) (zp : Decoder) (count : ℕ) : Type 0 where
+  pub reads : (slice decisions : ℕ) (payload : List ℕ) (course : Course) (place : Option Interval) → Stands slice course old_plane old_reader → Fed payload place old →
+      ReadsOn slice decisions payload course place old_reader old before plane reader zp count
+  pub somewhere : StandsSomewhere plane reader
   pub table : zp.table ≡ old.table
   pub ended : zp.ended ≡ old.ended
   pub below : AreBelow (length zp.table) (states_of reader)
   pub room : room_left zp ≤ room_left old
   pub width : plane.width ≡ old_plane.width
   pub height : plane.height ≡ old_plane.height
+
+-- what was left before is read to here, with this answer
+pub record EndsAt (slice decisions : ℕ) (payload : List ℕ) (course : Course) (place : Option Interval) (old_reader : Reader) (old : Decoder) (before : ℕ)
+    (plane : Plane) (reader : Reader) (zp : Decoder) (count : ℕ) (answer : SliceStep) : Type 0 where
+  pub left : Course
+  pub here : Option Interval
+  pub number : ℕ
+  pub reading : reading_from course old payload place old_reader decisions ≡ stands answer left (standing (states_of reader) here number)
+  pub tells : plane_of left ≡ plane
+  pub fed : Fed payload here zp
+  pub ticks : TicksExactly (number - decisions) before count
+  pub rest : answer ≢ step.SliceEnd → Stands slice left plane reader
+  pub next : answer ≡ step.SliceEnd → Stands (slice + 1) (slice_course (slice + 1) plane) plane reader

@@ -18,7 +18,8 @@ impl Spot {
     pub(crate) fn asked(&self, coefficients: &Coefficients) -> Option<Question>
         requires left { LeavesSome coefficients.now self.now }
         requires settled { is_settled self.now ≡ true }
-        ensures { (slice : ℕ) (course : Course) → Left slice course coefficients.now self.now → ComesNext course result }
+        ensures next { (slice : ℕ) (course : Course) → Left slice course coefficients.now self.now → ComesNext course result }
+        ensures end { result ≡ None → self.now.stage ≡ stage.End }
     {
         match self.stage {
             Stage::Root => Some(Question::In(ROOT)),

@@ -7,7 +7,9 @@ ghost use Rattle.zp_decoder.specs.States.{AreBelow, fresh};
 ghost use Rattle.iw44_blocks.specs.Plane.{IsSmall, zero_plane};
 ghost use Rattle.iw44_slices.specs.Slice.{Course, slice_course};
 ghost use Rattle.iw44_slices.specs.Reading.{plane_of};
+ghost use Rattle.iw44_slices.specs.Kept.{states_in};
 ghost use Rattle.iw44_slices.specs.Reader.{Stands, StandsSomewhere, reading_from, states_of};
+ghost use Rattle.iw44_slices.specs.Moves.{EndsAt};
 
 use crate::contexts::Contexts;
 use crate::spots::Spot;
@@ -15,7 +17,7 @@ use crate::steps::SliceStep;
 use djvu_base::Meter;
 use iw44_blocks::Coefficients;
 use std::marker::Model;
-use zp_decoder::ZpDecoder;
+use zp_decoder::{Decision, ZpDecoder};
 
 /// Reads the slices of one plane, one after the other, and keeps the plane's contexts.
 ///
@@ -89,6 +91,43 @@ impl SliceReader {
         ensures ended { zp.new.ended ≡ zp.old.ended }
         ensures room { room_left zp.new ≤ room_left zp.old }
     {
-        SliceStep::NeedBytes
+        zp.was_fed();
+        read(&mut self.contexts, &mut self.spot, coefficients, zp, meter)
+    }
+}
+
+/// Reads on from decision to decision.
+fn read<M: Meter>(
+    contexts: &mut Contexts,
+    spot: &mut Spot,
+    coefficients: &mut Coefficients,
+    zp: &mut ZpDecoder,
+    meter: &mut M,
+) -> SliceStep
+    requires somewhere { StandsSomewhere coefficients.old (record { contexts = contexts.old; spot = spot.old }) }
+    requires below { AreBelow (length zp.old.table) (states_in contexts.old) }
+    ensures ends { (slice decisions : ℕ) (payload : List ℕ) (course : Course) (place : Option Interval) →
+        Stands slice course coefficients.old (record { contexts = contexts.old; spot = spot.old }) → Fed payload place zp.old →
+        EndsAt slice decisions payload course place (record { contexts = contexts.old; spot = spot.old }) zp.old (M.count meter.old)
+        coefficients.new (record { contexts = contexts.new; spot = spot.new }) zp.new (M.count meter.new) result }
+    ensures somewhere { StandsSomewhere coefficients.new (record { contexts = contexts.new; spot = spot.new }) }
+    ensures below { AreBelow (length zp.new.table) (states_in contexts.new) }
+    ensures table { zp.new.table ≡ zp.old.table }
+    ensures ended { zp.new.ended ≡ zp.old.ended }
+    ensures room { room_left zp.new ≤ room_left zp.old }
+    ensures width { coefficients.new.width ≡ coefficients.old.width }
+    ensures height { coefficients.new.height ≡ coefficients.old.height }
+{
+    'decisions: loop {
+        spot.seek(coefficients);
+        let Some(question) = spot.asked(coefficients) else {
+            spot.next_slice();
+            return SliceStep::SliceEnd;
+        };
+        match contexts.decide(question, zp, meter) {
+            Decision::Bit(bit) => spot.take(bit, coefficients),
+            Decision::NeedBytes => return SliceStep::NeedBytes,
+            Decision::Exhausted => return SliceStep::Exhausted,
+        }
     }
 }

@@ -1,7 +1,8 @@
 //! Where a reader stands in a plane.
-ghost use Rattle.std.specs.Prelude.{◌≡◌, ℕ};
-ghost use Rattle.iw44_blocks.specs.Plane.{zero_plane};
-ghost use Rattle.iw44_slices.specs.Slice.{slice_course};
+ghost use Rattle.std.specs.Prelude.{◌≡◌, ℕ, ◌+◌};
+ghost use Rattle.iw44_blocks.specs.Plane.{Plane, zero_plane};
+ghost use Rattle.iw44_slices.specs.Slice.{Course, slice_course};
+ghost use Rattle.iw44_slices.specs.declared.spots.Stage.TheVariants as stage;
 ghost use Rattle.iw44_slices.specs.Reader.{Left};
 
 /// Which decision of a slice comes next, or what is looked for before it.
@@ -70,6 +71,17 @@ impl Spot {
             index: 0,
             word: 0,
             left: 0,
+        }
+    }
+
+    /// Before the next slice.
+    pub(crate) fn next_slice(&mut self)
+        requires { self.old.stage ≡ stage.End }
+        ensures { (slice : ℕ) (course : Course) (plane : Plane) → Left slice course plane self.old → Left (slice + 1) (slice_course (slice + 1) plane) plane self.new }
+    {
+        self.stage = Stage::Slice;
+        if self.number < 200 {
+            self.number += 1;
         }
     }
 }

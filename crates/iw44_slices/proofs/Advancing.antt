@@ -9,7 +9,7 @@ use Rattle.zp_decoder.specs.Chunk.{Chunk, chunk}
 use Rattle.zp_decoder.specs.Decision.{Interval, Outcome, outcome_of, counted}
 use Rattle.zp_decoder.specs.Decoder.{Decoder, Fed, room_left}
 use Rattle.zp_decoder.specs.States.{AreBelow}
-use Rattle.iw44_blocks.specs.Plane.{Plane, IsSmall}
+use Rattle.iw44_blocks.specs.Plane.{Plane, IsSmall, zero_plane}
 use Rattle.iw44_slices.specs.Slice.{Asked, Course, Ended, Asks, slice_course}
 use Rattle.iw44_slices.specs.Reading.{States, At, Reading, standing, stands, plane_of, form_of, states_after, moved, after_decision, outcome_at, read_on}
 use Rattle.iw44_slices.specs.Sizes.{Along, AreDue}
@@ -22,12 +22,18 @@ use Rattle.iw44_slices.specs.declared.spots.Spot.{Spot}
 use Rattle.iw44_slices.specs.declared.steps.SliceStep.{SliceStep}
 use Rattle.iw44_slices.specs.declared.steps.SliceStep.TheVariants as step
 use Rattle.iw44_slices.proofs.Cutting.{goes_on}
-use Rattle.iw44_slices.proofs.Staying.{slice_stays_small}
+use Rattle.iw44_slices.proofs.Staying.{slice_stays_small, new_due}
 use Rattle.iw44_slices.proofs.Telling.{left_tells, stays_small, slice_tells}
 
 -- a reader of these parts
 abbrev pub reader_of : Contexts → Spot → Reader
 reader_of contexts spot = record { contexts = contexts; spot = spot }
+
+-- a new reader
+pub new_stands : (width height : ℕ) (contexts : Contexts) (spot : Spot) → ((w h : ℕ) → Left 0 (slice_course 0 (zero_plane w h)) (zero_plane w h) spot) →
+    Stands 0 (slice_course 0 (zero_plane width height)) (zero_plane width height) (reader_of contexts spot)
+unfolding Stands
+new_stands width height contexts spot left = (left width height, slice_stays_small 0 (zero_plane width height) (new_due width height))
 
 -- nothing is read yet
 pub keeps_first : (plane : Plane) (reader : Reader) (zp : Decoder) (count : ℕ) → StandsSomewhere plane reader → AreBelow (length zp.table) (states_of reader) →
@@ -296,3 +302,28 @@ unfolding Stands
 next_somewhere plane contexts spot new somewhere over begins =
     let ended = over somewhere.0 somewhere.1 somewhere.2.0 in
     (somewhere.0 + 1, slice_course (somewhere.0 + 1) plane, next_stands somewhere.0 somewhere.1 plane ended.0 contexts spot new ended.1 begins somewhere.2)
+
+-- what a caller is told
+
+module _ (slice decisions : ℕ) (payload : List ℕ) (course : Course) (place : Option Interval) (old_reader : Reader) (old : Decoder) (before : ℕ)
+    (plane : Plane) (reader : Reader) (zp : Decoder) (count : ℕ) (answer : SliceStep) (ends : EndsAt slice decisions payload course place old_reader old before plane reader zp count answer) where
+  abbrev whole : Reading
+  whole = reading_from course old payload place old_reader decisions
+
+  pub told_answer : answer ≡ whole.answer
+  told_answer = sym (ap (λ (r : Reading). r.answer) ends.reading)
+
+  pub told_plane : plane ≡ plane_of whole.left
+  told_plane = sym (ap (λ (r : Reading). plane_of r.left) ends.reading ∙ ends.tells)
+
+  pub told_states : states_of reader ≡ whole.at.states
+  told_states = sym (ap (λ (r : Reading). r.at.states) ends.reading)
+
+  pub told_fed : Fed payload whole.at.place zp
+  told_fed = subst (λ (p : Option Interval). Fed payload p zp) (sym (ap (λ (r : Reading). r.at.place) ends.reading)) ends.fed
+
+  pub told_ticks : TicksExactly (whole.at.decisions - decisions) before count
+  told_ticks = subst (λ (n : ℕ). TicksExactly (n - decisions) before count) (sym (ap (λ (r : Reading). r.at.decisions) ends.reading)) ends.ticks
+
+  pub told_rest : answer ≢ step.SliceEnd → Stands slice whole.left plane reader
+  told_rest short = subst (λ (c : Course). Stands slice c plane reader) (sym (ap (λ (r : Reading). r.left) ends.reading)) (ends.rest short)

@@ -1,6 +1,7 @@
 -- Words of tests, and tests of so many numbers in a row.
-use Rattle.std.proofs.Common.{◌≡◌, ◌≢◌, ℕ, zero, suc, ◌+◌, ◌-◌, ◌*◌, ◌/◌, ◌%◌, ◌^◌, ◌<◌, ◌≤◌, Bool, true, false, ◌||◌, List, length, get_or, set, refl, ap, sym, ◌∙◌, subst, arith, inl, inr}
-use Rattle.std.specs.Prelude.{◌==◌, not, ◌⊎◌, if◌then◌else◌}
+use Rattle.std.proofs.Common.{◌≡◌, ℕ, zero, suc, ◌+◌, ◌-◌, ◌*◌, ◌/◌, ◌%◌, ◌^◌, ◌<◌, ◌≤◌, Bool, true, false, ◌||◌, List, length, get_or, set, refl, ap}
+use Rattle.std.proofs.Common.{sym, ◌∙◌, subst, arith, inl, inr}
+use Rattle.std.specs.Prelude.{◌==◌, not, if◌then◌else◌}
 use Rattle.std.specs.Int.Count.{ones, ones_step, ones-le}
 use Rattle.std.proofs.lemmas.Bool.{cases_eq}
 use Rattle.std.proofs.Math.Pow.{pow_mono}
@@ -25,7 +26,8 @@ unfolded test total first place within =
     ap (λ n. some_from test n (first + place)) left ∙ ap (λ n. test (first + place) || some_from test (total - (place + 1)) n) next
 
 pub some_here : (test : ℕ → Bool) (total first place : ℕ) → place < total → test (first + place) ≡ true → some_from test (total - place) (first + place) ≡ true
-some_here test total first place within e = unfolded test total first place within ∙ ap (λ b. b || some_from test (total - (place + 1)) (first + (place + 1))) e
+some_here test total first place within e = unfolded test total first place within
+    ∙ ap (λ b. b || some_from test (total - (place + 1)) (first + (place + 1))) e
 
 pub some_later : (test : ℕ → Bool) (total first place : ℕ) → place < total → test (first + place) ≡ false →
     some_from test (total - (place + 1)) (first + (place + 1)) ≡ some_from test (total - place) (first + place)
@@ -51,7 +53,8 @@ pub bit_before : (test : ℕ → Bool) (count from before word : ℕ) (bit : Boo
 unfolding AreBits
 bit_before test count from before word bit next is bits = (
   lowest word bit ∙ is,
-  subst (λ (n : ℕ). AreBits test count n ((2 * word + (if bit then 1 else 0)) / 2)) (sym next) (subst (λ (w : ℕ). AreBits test count from w) (sym (behind word bit)) bits),
+  subst (λ (n : ℕ). AreBits test count n ((2 * word + (if bit then 1 else 0)) / 2)) (sym next)
+      (subst (λ (w : ℕ). AreBits test count from w) (sym (behind word bit)) bits),
 )
 
 pub bits_below : (test : ℕ → Bool) (count from word : ℕ) → AreBits test count from word → word < 2 ^ count
@@ -61,7 +64,8 @@ bits_below test (suc count) from word bits = let rest : word / 2 < 2 ^ count = b
 
 -- the first one
 
-pub first_bit : (test : ℕ → Bool) (count from word : ℕ) → AreBits test (suc count) from word → ((word % 2 == 1) ≡ test from) × AreBits test count (from + 1) (word / 2)
+pub first_bit : (test : ℕ → Bool) (count from word : ℕ) → AreBits test (suc count) from word →
+    ((word % 2 == 1) ≡ test from) × AreBits test count (from + 1) (word / 2)
 unfolding AreBits
 first_bit test count from word bits = bits
 
@@ -116,12 +120,14 @@ ones_are test (suc count) from word bits =
     omega (arith, ones_step word, rest, first)
 
 -- a word of up to 16 bits gets one more
-pub one_bit_more : (test : ℕ → Bool) (count from before word new : ℕ) (bit : Bool) → before + 1 ≡ from → count < 16 → bit ≡ test before → new ≡ 2 * word + (if bit then 1 else 0) →
+pub one_bit_more : (test : ℕ → Bool) (count from before word new : ℕ) (bit : Bool) → before + 1 ≡ from → count < 16 → bit ≡ test before →
+    new ≡ 2 * word + (if bit then 1 else 0) →
     AreBits test count from word → AreBits test (count + 1) before new × (new < 65536)
 one_bit_more test count from before word new bit next few is made bits =
     let more = bit_before test count from before word bit next is bits in
     let one : suc count ≡ count + 1 = omega arith in
-    let whole : AreBits test (count + 1) before new = subst (λ (n : ℕ). AreBits test n before new) one (subst (λ (w : ℕ). AreBits test (suc count) before w) (sym made) more) in
+    let whole : AreBits test (count + 1) before new = subst (λ (n : ℕ). AreBits test n before new) one
+    (subst (λ (w : ℕ). AreBits test (suc count) before w) (sym made) more) in
     let few_bits : count + 1 ≤ 16 = omega arith in
     let high : 2 ^ (count + 1) ≤ 2 ^ 16 = pow_mono few_bits in
     let below = bits_below test (count + 1) before new whole in

@@ -1,19 +1,19 @@
 -- Numbers of contexts: no two have the same, and what a written state means.
-use Rattle.std.proofs.Common.{◌≡◌, ℕ, ◌+◌, ◌*◌, ◌<◌, ◌≤◌, Bool, true, false, ◌&&◌, List, length, get_or, set, replicate, refl, ap, sym, ◌∙◌, subst, arith, inl, inr, eqb-true, eq-eqb}
+use Rattle.std.proofs.Common.{◌≡◌, ℕ, ◌+◌, ◌*◌, ◌<◌, Bool, true, false, ◌&&◌, length, get_or, set, replicate, refl, ap, sym, ◌∙◌, subst, arith}
+use Rattle.std.proofs.Common.{inl, inr, eqb-true, eq-eqb}
 use Rattle.std.specs.Prelude.{◌==◌, nat_lt, if◌then◌else◌}
 use Rattle.std.proofs.Math.Path.{fun_ext}
-use Rattle.std.proofs.lemmas.Bool.{cases_Bool, cases_lt, lt-ltb}
+use Rattle.std.proofs.lemmas.Bool.{cases_Bool, cases_lt}
 use Rattle.std.proofs.lemmas.Bool.Decides.{nat_tests}
 use Rattle.std.proofs.lemmas.List.{get_or-set_same, get_or-set_other, get_or-replicate, get_or_past, length-replicate}
-use Rattle.zp_decoder.specs.Decision.{Form, Adaptive, Iw}
-use Rattle.zp_decoder.specs.States.{fresh, stored, AreBelow}
+use Rattle.zp_decoder.specs.Decision.{Adaptive}
+use Rattle.zp_decoder.specs.States.{fresh, AreBelow}
 use Rattle.zp_decoder.proofs.Lemmas.{stored_here, stored_elsewhere, stored_below}
 use Rattle.iw44_slices.specs.Contexts.{Context, Root, Bucket, Start, Mantissa, is_same}
 use Rattle.iw44_slices.specs.Slice.{Asked, In, Plain}
-use Rattle.iw44_slices.specs.Reading.{States, form_of, states_after}
+use Rattle.iw44_slices.specs.Reading.{form_of, states_after}
 use Rattle.iw44_slices.specs.Kept.{number_of, states_in, Names}
 use Rattle.iw44_slices.specs.declared.contexts.Contexts.{Contexts}
-use Rattle.iw44_slices.specs.declared.contexts.Question.{Question}
 use Rattle.iw44_slices.specs.declared.contexts.Question.TheVariants as question
 
 -- a number that a context has
@@ -56,11 +56,13 @@ one_number (Bucket band number) (Bucket other_band other) is e =
     let numbers : number ≡ other = omega arith in
     and_same (band == other_band) (number == other) (eq-eqb band other_band bands) (eq-eqb number other numbers)
 one_number (Bucket band number) (Start other) is e =
-    absurd (let first = bucket_is band number is in let second = start_is other (omega arith) in let a = second.0 in let c = first.1 in let d = second.1 in omega arith)
+    absurd (let first = bucket_is band number is in let second = start_is other (omega arith) in let a = second.0 in let c = first.1 in let d = second.1 in
+    omega arith)
 one_number (Bucket band number) Mantissa is e = absurd (let other = bucket_is band number is in let two = other.1 in omega arith)
 one_number (Start number) Root is e = absurd (let other = start_is number is in let two = other.1 in omega arith)
 one_number (Start number) (Bucket band other) is e =
-    absurd (let first = start_is number is in let second = bucket_is band other (omega arith) in let a = first.0 in let c = first.1 in let d = second.1 in omega arith)
+    absurd (let first = start_is number is in let second = bucket_is band other (omega arith) in let a = first.0 in let c = first.1 in let d = second.1 in
+    omega arith)
 one_number (Start number) (Start other) is e =
     let first = start_is number is in
     let second = start_is other (omega arith) in
@@ -87,7 +89,8 @@ same_number Root Mantissa e = cc
 same_number (Bucket band number) Root e = cc
 same_number (Bucket band number) (Bucket other_band other) e =
     let both = two_true (band == other_band) (number == other) e in
-    ap (λ (n : ℕ). number_of (Bucket n number)) (eqb-true band other_band both.0) ∙ ap (λ (n : ℕ). number_of (Bucket other_band n)) (eqb-true number other both.1)
+    ap (λ (n : ℕ). number_of (Bucket n number)) (eqb-true band other_band both.0)
+    ∙ ap (λ (n : ℕ). number_of (Bucket other_band n)) (eqb-true number other both.1)
 same_number (Bucket band number) (Start other) e = cc
 same_number (Bucket band number) Mantissa e = cc
 same_number (Start number) Root e = cc
@@ -117,7 +120,8 @@ unfolding states_in
 form_in (In context) number contexts state names is = ap Adaptive (is ∙ ap (λ (n : ℕ). get_or contexts.states n 0) (sym names.0))
 form_in Plain number contexts state names is = absurd names
 
-pub states_put : (asked : Asked) (number : ℕ) (old new : Contexts) (state : ℕ) → Names asked (question.In number) → length old.states ≡ 98 → new.states ≡ set old.states number state →
+pub states_put : (asked : Asked) (number : ℕ) (old new : Contexts) (state : ℕ) → Names asked (question.In number) → length old.states ≡ 98 →
+    new.states ≡ set old.states number state →
     states_in new ≡ states_after asked state (states_in old)
 unfolding states_in
 states_put Plain number old new state names size made = absurd names
@@ -138,14 +142,17 @@ states_put (In context) number old new state names size made = fun_ext (λ other
           ∙ sym (stored_elsewhere is_same (states_in old) context other state differs)
     ])
 
-pub put_below : (asked : Asked) (number : ℕ) (old new : Contexts) (state count : ℕ) → Names asked (question.In number) → length old.states ≡ 98 → new.states ≡ set old.states number state →
+pub put_below : (asked : Asked) (number : ℕ) (old new : Contexts) (state count : ℕ) → Names asked (question.In number) → length old.states ≡ 98 →
+    new.states ≡ set old.states number state →
     AreBelow count (states_in old) → state < count → AreBelow count (states_in new)
 put_below Plain number old new state count names size made below within = absurd names
 put_below (In context) number old new state count names size made below within =
-    subst (AreBelow count) (sym (states_put (In context) number old new state names size made)) (stored_below is_same (states_in old) context state count below within)
+    subst (AreBelow count) (sym (states_put (In context) number old new state names size made))
+    (stored_below is_same (states_in old) context state count below within)
 
 -- the state of a context is one of the table's rows
-pub state_below : (asked : Asked) (number : ℕ) (contexts : Contexts) (state count : ℕ) → Names asked (question.In number) → state ≡ get_or contexts.states number 0 →
+pub state_below : (asked : Asked) (number : ℕ) (contexts : Contexts) (state count : ℕ) → Names asked (question.In number) →
+    state ≡ get_or contexts.states number 0 →
     AreBelow count (states_in contexts) → state < count
 unfolding states_in
 state_below Plain number contexts state count names is below = absurd names

@@ -1,28 +1,30 @@
 -- How a reader stands, stage by stage, on its way to the next decision.
-use Rattle.std.proofs.Common.{◌≡◌, ℕ, zero, suc, ◌+◌, ◌-◌, ◌*◌, ◌/◌, ◌%◌, ◌<◌, ◌≤◌, Bool, true, false, ◌&&◌, List, [], ◌∷◌, ◌++◌, length, take, drop, get_or, set, min, refl, ap, sym, ◌∙◌, subst, arith, inl, inr, nat_lt}
-use Rattle.std.specs.Prelude.{◌==◌, not, if◌then◌else◌}
-use Rattle.std.specs.Int.Count.{ones}
-use Rattle.std.proofs.lemmas.Bool.{cases_lt, cases_Bool}
-use Rattle.std.proofs.lemmas.Bool.Decides.{nat_tests}
-use Rattle.iw44_blocks.specs.Plane.{Plane, block_count, coefficient}
-use Rattle.iw44_slices.specs.Bands.{band_of, first_bucket, bucket_count, threshold, is_in_use}
-use Rattle.iw44_slices.specs.Slice.{Place, Course, Ended, is_active, is_unknown, is_active_band, has_unknown, unknowns, before_at, raises, all_raises, starts, choices, blocks_course, does_something, slice_course}
-use Rattle.iw44_slices.specs.Kept.{AreBits}
-use Rattle.iw44_slices.specs.Reader.{place_at, place_in, first_at, count_at, later_blocks, AreMarked, Begun, InBlock, AreAsBefore, InBucket, from_bucket, AtRoot, AtBucket, AtChosen, AtStart, AtSign, AtRaise, BeforeSlice, BeforeBlock, AtEnd, LeftAt, Left}
-use Rattle.iw44_slices.specs.Moves.{is_settled, is_settled_at, steps_left}
+use Rattle.std.proofs.Common.{◌≡◌, ℕ, ◌+◌, ◌-◌, ◌<◌, ◌≤◌, Bool, true, false, ◌&&◌, List, [], take}
+use Rattle.std.proofs.Common.{min, refl, ap, sym, ◌∙◌, subst, arith, inl, inr}
+use Rattle.std.specs.Prelude.{◌==◌, not}
+use Rattle.std.proofs.lemmas.Bool.{cases_lt}
+use Rattle.iw44_blocks.specs.Plane.{Plane, block_count}
+use Rattle.iw44_slices.specs.Bands.{band_of, bucket_count}
+use Rattle.iw44_slices.specs.Slice.{Place, Course, Ended, is_active_band}
+use Rattle.iw44_slices.specs.Slice.{choices, blocks_course, does_something, slice_course}
+use Rattle.iw44_slices.specs.Reader.{place_in, first_at, count_at, later_blocks, AreMarked, InBlock}
+use Rattle.iw44_slices.specs.Reader.{BeforeBlock, LeftAt, Left}
+use Rattle.iw44_slices.specs.Moves.{is_settled, is_settled_at}
 use Rattle.iw44_slices.specs.declared.spots.Spot.{Spot}
 use Rattle.iw44_slices.specs.declared.spots.Stage.{Stage}
 use Rattle.iw44_slices.specs.declared.spots.Stage.TheVariants as stage
-use Rattle.iw44_slices.proofs.Bits.{zero_none, some_one, first_bit, some_left, ones_are}
 use Rattle.iw44_slices.proofs.Ending.{nothing_late, slice_ends}
-use Rattle.iw44_slices.proofs.Skipping.{unless, when, raises_pass, raises_none, starts_pass, starts_none, choices_pass, choice_kept, bucket_left_out, bucket_starts, buckets_end, block_first, blocks_end, with_root, without_root}
+use Rattle.iw44_slices.proofs.Skipping.{unless, when}
+use Rattle.iw44_slices.proofs.Skipping.{block_first, blocks_end, with_root, without_root}
 
 -- what is left, where the stage is known
-pub stands_at : (s : Stage) (slice : ℕ) (course : Course) (plane : Plane) (spot : Spot) → spot.stage ≡ s → Left slice course plane spot → LeftAt s slice course plane spot
+pub stands_at : (s : Stage) (slice : ℕ) (course : Course) (plane : Plane) (spot : Spot) → spot.stage ≡ s → Left slice course plane spot →
+    LeftAt s slice course plane spot
 unfolding Left
 stands_at s slice course plane spot e left = subst (λ (x : Stage). LeftAt x slice course plane spot) e left
 
-pub stands_as : (s : Stage) (slice : ℕ) (course : Course) (plane : Plane) (spot : Spot) → spot.stage ≡ s → LeftAt s slice course plane spot → Left slice course plane spot
+pub stands_as : (s : Stage) (slice : ℕ) (course : Course) (plane : Plane) (spot : Spot) → spot.stage ≡ s → LeftAt s slice course plane spot →
+    Left slice course plane spot
 unfolding Left
 stands_as s slice course plane spot e is = subst (λ (x : Stage). LeftAt x slice course plane spot) (sym e) is
 
@@ -37,7 +39,8 @@ used_early number used = elim (cases_lt number 200) [
   | inr late ↦ absurd (let none = nothing_late number late in let wrong = sym used ∙ none in cc)
 ]
 
-pub slice_begins : (slice : ℕ) (course : Course) (plane : Plane) (spot : Spot) → spot.stage ≡ stage.Slice → does_something spot.number ≡ true → Left slice course plane spot →
+pub slice_begins : (slice : ℕ) (course : Course) (plane : Plane) (spot : Spot) → spot.stage ≡ stage.Slice → does_something spot.number ≡ true →
+    Left slice course plane spot →
     Left slice course plane (record spot { stage = stage.Block; block = 0 })
 unfolding Left
 slice_begins slice course plane spot e used left =
@@ -50,11 +53,13 @@ slice_begins slice course plane spot e used left =
       same = same;
       used = used;
       within = omega arith;
-      is = is.is ∙ (ap (λ (n : ℕ). slice_course n plane) (sym same) ∙ (when (does_something spot.number) (blocks_course spot.number (block_count plane) 0 plane) (Ended plane) used
-      ∙ ap (λ (n : ℕ). blocks_course spot.number n 0 plane) all));
+      is = is.is ∙ (ap (λ (n : ℕ). slice_course n plane) (sym same)
+          ∙ (when (does_something spot.number) (blocks_course spot.number (block_count plane) 0 plane) (Ended plane) used
+          ∙ ap (λ (n : ℕ). blocks_course spot.number n 0 plane) all));
     }
 
-pub slice_is_empty : (slice : ℕ) (course : Course) (plane : Plane) (spot : Spot) → spot.stage ≡ stage.Slice → does_something spot.number ≡ false → Left slice course plane spot →
+pub slice_is_empty : (slice : ℕ) (course : Course) (plane : Plane) (spot : Spot) → spot.stage ≡ stage.Slice → does_something spot.number ≡ false →
+    Left slice course plane spot →
     Left slice course plane (record spot { stage = stage.End })
 unfolding Left
 slice_is_empty slice course plane spot e idle left =
@@ -72,7 +77,8 @@ slice_is_empty slice course plane spot e idle left =
 
 -- a block
 
-pub blocks_are_over : (slice : ℕ) (course : Course) (plane : Plane) (spot : Spot) → spot.stage ≡ stage.Block → block_count plane ≤ spot.block → Left slice course plane spot →
+pub blocks_are_over : (slice : ℕ) (course : Course) (plane : Plane) (spot : Spot) → spot.stage ≡ stage.Block → block_count plane ≤ spot.block →
+    Left slice course plane spot →
     Left slice course plane (record spot { stage = stage.End })
 unfolding Left
 blocks_are_over slice course plane spot e all left =
@@ -91,42 +97,53 @@ begun : (slice : ℕ) (course : Course) (plane : Plane) (spot : Spot) → Before
 begun slice course plane spot is within marks = record { number = is.same; used = is.used; block = within; marks = marks }
 
 root_test : (plane : Plane) (spot : Spot) (test : Bool) → AreMarked (place_in plane spot) spot.is_active spot.active spot.unknown →
-    ((bucket_count (band_of spot.number) == 16) && not spot.is_active) ≡ test → ((bucket_count (band_of spot.number) == 16) && not (is_active_band (place_in plane spot))) ≡ test
+    ((bucket_count (band_of spot.number) == 16) && not spot.is_active) ≡ test →
+    ((bucket_count (band_of spot.number) == 16) && not (is_active_band (place_in plane spot))) ≡ test
 root_test plane spot test marks e = ap (λ (b : Bool). (bucket_count (band_of spot.number) == 16) && not b) (sym marks.activity) ∙ e
 
 -- all choices of a block, of which none was made
-pub choices_first : (at : Place) (rest : Plane → Course) (chosen : List Bool) → choices at rest (count_at at) (first_at at) [] ≡ choices at rest (count_at at - 0) (first_at at + 0) (take 0 chosen)
+pub choices_first : (at : Place) (rest : Plane → Course) (chosen : List Bool) →
+    choices at rest (count_at at) (first_at at) [] ≡ choices at rest (count_at at - 0) (first_at at + 0) (take 0 chosen)
 choices_first at rest chosen =
     let all : count_at at ≡ count_at at - 0 = omega arith in
     let first : first_at at ≡ first_at at + 0 = omega arith in
     ap (λ (n : ℕ). choices at rest n (first_at at) []) all ∙ ap (λ (n : ℕ). choices at rest (count_at at - 0) n []) first
 
-pub block_has_root : (slice : ℕ) (course : Course) (plane : Plane) (old spot : Spot) → old.stage ≡ stage.Block → old.block < block_count plane → spot.number ≡ old.number → spot.block ≡ old.block →
+pub block_has_root : (slice : ℕ) (course : Course) (plane : Plane) (old spot : Spot) → old.stage ≡ stage.Block → old.block < block_count plane →
+    spot.number ≡ old.number → spot.block ≡ old.block →
     AreMarked (place_in plane spot) spot.is_active spot.active spot.unknown → ((bucket_count (band_of spot.number) == 16) && not spot.is_active) ≡ true →
     Left slice course plane old → Left slice course plane (record spot { stage = stage.Root; bucket = 0 })
 unfolding Left
 block_has_root slice course plane old spot e within n b marks test left =
     let is = before_moved slice old.number old.block spot.number spot.block plane course n b (stands_at stage.Block slice course plane old e left) in
-    let inside : spot.block < block_count plane = omega arith in
-    (begun slice course plane spot is inside marks,
-    record { is = is.is ∙ (block_first spot.number (block_count plane) spot.block plane inside ∙ with_root (place_in plane spot) (later_blocks plane spot) (root_test plane spot true marks test)) })
+    let inside : spot.block < block_count plane = omega arith in (
+      begun slice course plane spot is inside marks,
+      record {
+        is = is.is ∙ (block_first spot.number (block_count plane) spot.block plane inside
+            ∙ with_root (place_in plane spot) (later_blocks plane spot) (root_test plane spot true marks test));
+      },
+    )
 
-pub block_has_none : (slice : ℕ) (course : Course) (plane : Plane) (old spot : Spot) → old.stage ≡ stage.Block → old.block < block_count plane → spot.number ≡ old.number → spot.block ≡ old.block →
+pub block_has_none : (slice : ℕ) (course : Course) (plane : Plane) (old spot : Spot) → old.stage ≡ stage.Block → old.block < block_count plane →
+    spot.number ≡ old.number → spot.block ≡ old.block →
     AreMarked (place_in plane spot) spot.is_active spot.active spot.unknown → ((bucket_count (band_of spot.number) == 16) && not spot.is_active) ≡ false →
     Left slice course plane old → Left slice course plane (record spot { stage = stage.Bucket; bucket = 0 })
 unfolding Left
 block_has_none slice course plane old spot e within n b marks test left =
     let is = before_moved slice old.number old.block spot.number spot.block plane course n b (stands_at stage.Block slice course plane old e left) in
-    let inside : spot.block < block_count plane = omega arith in
-    (begun slice course plane spot is inside marks,
-    record {
-      within = omega arith;
-      is = is.is ∙ (block_first spot.number (block_count plane) spot.block plane inside ∙ (without_root (place_in plane spot) (later_blocks plane spot) (root_test plane spot false marks test)
-      ∙ choices_first (place_in plane spot) (later_blocks plane spot) spot.chosen));
-    })
+    let inside : spot.block < block_count plane = omega arith in (
+      begun slice course plane spot is inside marks,
+      record {
+        within = omega arith;
+        is = is.is ∙ (block_first spot.number (block_count plane) spot.block plane inside
+            ∙ (without_root (place_in plane spot) (later_blocks plane spot) (root_test plane spot false marks test)
+            ∙ choices_first (place_in plane spot) (later_blocks plane spot) spot.chosen));
+      },
+    )
 
 -- the next slice
-pub next_begins : (slice : ℕ) (course : Course) (plane : Plane) (spot : Spot) (number : ℕ) → spot.stage ≡ stage.End → number ≡ min (spot.number + 1) 200 → Left slice course plane spot →
+pub next_begins : (slice : ℕ) (course : Course) (plane : Plane) (spot : Spot) (number : ℕ) → spot.stage ≡ stage.End → number ≡ min (spot.number + 1) 200 →
+    Left slice course plane spot →
     Left (slice + 1) (slice_course (slice + 1) plane) plane (record spot { stage = stage.Slice; number = number })
 unfolding Left
 next_begins slice course plane spot number e more left =

@@ -1,5 +1,6 @@
 -- How a reader moves: to a decision, and by one.
-use Rattle.std.specs.Prelude.{◌≡◌, ◌≢◌, ℕ, ◌+◌, ◌-◌, ◌*◌, ◌/◌, ◌%◌, ◌<◌, ◌≤◌, ◌==◌, Bool, true, false, not, ◌&&◌, nat_lt, List, length, slice_index, Option, Some, None}
+use Rattle.std.specs.Prelude.{◌≡◌, ◌≢◌, ℕ, ◌+◌, ◌-◌, ◌*◌, ◌%◌, ◌≤◌, ◌==◌, Bool, true, false, not, ◌&&◌, nat_lt, List, length, slice_index, Option}
+use Rattle.std.specs.Prelude.{Some, None}
 use Rattle.djvu_base.specs.Meter.{TicksExactly}
 use Rattle.zp_decoder.specs.Decision.{Interval}
 use Rattle.zp_decoder.specs.Decoder.{Decoder, Fed, room_left}
@@ -84,8 +85,10 @@ pub record ReadsOn (slice decisions : ℕ) (payload : List ℕ) (course : Course
   pub same : reading_from course old payload place old_reader decisions ≡ reading_from left zp payload here reader number
 
 -- what a reader keeps while it goes from decision to decision
-pub record Keeps (old_plane : Plane) (old_reader : Reader) (old : Decoder) (before : ℕ) (plane : Plane) (reader : Reader) (zp : Decoder) (count : ℕ) : Type 0 where
-  pub reads : (slice decisions : ℕ) (payload : List ℕ) (course : Course) (place : Option Interval) → Stands slice course old_plane old_reader → Fed payload place old →
+pub record Keeps (old_plane : Plane) (old_reader : Reader) (old : Decoder) (before : ℕ) (plane : Plane) (reader : Reader) (zp : Decoder)
+    (count : ℕ) : Type 0 where
+  pub reads : (slice decisions : ℕ) (payload : List ℕ) (course : Course) (place : Option Interval) → Stands slice course old_plane old_reader →
+      Fed payload place old →
       ReadsOn slice decisions payload course place old_reader old before plane reader zp count
   pub somewhere : StandsSomewhere plane reader
   pub table : zp.table ≡ old.table

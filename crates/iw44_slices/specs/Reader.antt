@@ -1,5 +1,5 @@
 -- How a reader of slices stands to what is left of a slice.
-use Rattle.std.specs.Prelude.{◌≡◌, ℕ, suc, ◌+◌, ◌-◌, ◌*◌, ◌<◌, ◌≤◌, Bool, true, ◌⊎◌, min, List, take, drop, Option, slice_index, slice_index_or, if◌then◌else◌}
+use Rattle.std.specs.Prelude.{◌≡◌, ℕ, suc, ◌+◌, ◌-◌, ◌*◌, ◌<◌, ◌≤◌, Bool, true, min, List, take, drop, Option, slice_index, if◌then◌else◌}
 use Rattle.zp_decoder.specs.Chunk.{chunk}
 use Rattle.zp_decoder.specs.Decision.{Interval}
 use Rattle.zp_decoder.specs.Decoder.{Decoder}
@@ -102,7 +102,8 @@ pub record AtSign (at : Place) (rest : Plane → Course) (plane : Plane) (spot :
   pub here : InBucket at (is_unknown at) (suc count) spot.bucket spot.index spot.word
   pub unknown : is_unknown at spot.index ≡ true
   pub before : AreAsBefore at plane (16 * first_at at)
-  pub is : course ≡ Asks plane Plain (λ negative. starts at (from_bucket at rest spot.chosen (spot.bucket + 1)) (first_at at + spot.bucket) count (spot.index + 1) 0
+  pub is : course ≡ Asks plane Plain (λ negative. starts at (from_bucket at rest spot.chosen (spot.bucket + 1)) (first_at at + spot.bucket) count
+      (spot.index + 1) 0
       (with_coefficient plane at.block spot.index (signed negative (start_size (threshold_at at spot.index)))))
 
 pub record AtRaise (at : Place) (rest : Plane → Course) (plane : Plane) (spot : Spot) (course : Course) : Type 0 where
@@ -136,9 +137,12 @@ LeftAt stage.Bucket slice course plane spot =
     InBlock slice plane plane spot × AtBucket (place_in plane spot) (later_blocks plane spot) spot.bucket spot.chosen course
 LeftAt stage.Chosen slice course plane spot =
     (before : Plane) × (InBlock slice before plane spot × AtChosen (place_in before spot) (later_blocks plane spot) plane spot.bucket spot.chosen course)
-LeftAt stage.Start slice course plane spot = (before : Plane) × (InBlock slice before plane spot × AtStart (place_in before spot) (later_blocks plane spot) plane spot course)
-LeftAt stage.Sign slice course plane spot = (before : Plane) × (InBlock slice before plane spot × AtSign (place_in before spot) (later_blocks plane spot) plane spot course)
-LeftAt stage.Raise slice course plane spot = (before : Plane) × (InBlock slice before plane spot × AtRaise (place_in before spot) (later_blocks plane spot) plane spot course)
+LeftAt stage.Start slice course plane spot =
+    (before : Plane) × (InBlock slice before plane spot × AtStart (place_in before spot) (later_blocks plane spot) plane spot course)
+LeftAt stage.Sign slice course plane spot =
+    (before : Plane) × (InBlock slice before plane spot × AtSign (place_in before spot) (later_blocks plane spot) plane spot course)
+LeftAt stage.Raise slice course plane spot =
+    (before : Plane) × (InBlock slice before plane spot × AtRaise (place_in before spot) (later_blocks plane spot) plane spot course)
 LeftAt stage.End slice course plane spot = AtEnd slice plane spot course
 
 unfoldable pub Left : ℕ → Course → Plane → Spot → Type 0

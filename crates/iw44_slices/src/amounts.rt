@@ -46,7 +46,11 @@ pub(crate) fn raised(threshold: u32, size: u32, bit: bool) -> u32
     requires size { size < 0x10000 }
     ensures { result ≡ raised threshold size bit }
 {
-    let middle = if is_large(threshold, size) { size } else { size + threshold / 4 };
+    let middle = if is_large(threshold, size) {
+        size
+    } else {
+        size + threshold / 4
+    };
     let less = if bit { 0 } else { threshold };
     (middle + threshold / 2).saturating_sub(less)
 }

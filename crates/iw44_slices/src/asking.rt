@@ -6,9 +6,9 @@ ghost use Rattle.iw44_slices.specs.Reader.{Left, LeavesSome, LeavesOfSome, place
 ghost use Rattle.iw44_slices.specs.Moves.{ComesNext, IsAsked, is_settled};
 ghost use Rattle.iw44_slices.specs.declared.spots.Stage.TheVariants as stage;
 
+use crate::amounts::{is_large, size_of};
 use crate::bands::{band_of, first_bucket, threshold};
 use crate::contexts::{BUCKETS, MANTISSA, Question, ROOT, STARTS};
-use crate::amounts::{is_large, size_of};
 use crate::spots::{Spot, Stage};
 use crate::words::parents;
 use iw44_blocks::Coefficients;
@@ -83,7 +83,11 @@ fn near_parents(band: u8, coefficients: &Coefficients, block: u32, bucket: u16) 
     ensures is { (number : ℕ) → result ≡ parents_in band (place_at number block coefficients.now) bucket }
     ensures most { result ≤ 3 }
 {
-    if band == 0 { 0 } else { parents(coefficients, block, bucket).min(3) }
+    if band == 0 {
+        0
+    } else {
+        parents(coefficients, block, bucket).min(3)
+    }
 }
 
 /// The number of a context: so much more where something is active.

@@ -63,11 +63,14 @@ impl SliceReader {
         requires stands { StandsSomewhere coefficients.old self.old }
         requires below { AreBelow (length zp.old.table) (states_of self.old) }
         // For all that may be left, and every payload that the decoder was fed, what the definition's reading gives.
-        ensures answer { (slice decisions : ℕ) (course : Course) (payload : List ℕ) (place : Option Interval) → Stands slice course coefficients.old self.old →
+        ensures answer { (slice decisions : ℕ) (course : Course) (payload : List ℕ) (place : Option Interval) →
+            Stands slice course coefficients.old self.old →
             Fed payload place zp.old → result ≡ (reading_from course zp.old payload place self.old decisions).answer }
-        ensures coefficients { (slice decisions : ℕ) (course : Course) (payload : List ℕ) (place : Option Interval) → Stands slice course coefficients.old self.old →
+        ensures coefficients { (slice decisions : ℕ) (course : Course) (payload : List ℕ) (place : Option Interval) →
+            Stands slice course coefficients.old self.old →
             Fed payload place zp.old → coefficients.new ≡ plane_of (reading_from course zp.old payload place self.old decisions).left }
-        ensures states { (slice decisions : ℕ) (course : Course) (payload : List ℕ) (place : Option Interval) → Stands slice course coefficients.old self.old →
+        ensures states { (slice decisions : ℕ) (course : Course) (payload : List ℕ) (place : Option Interval) →
+            Stands slice course coefficients.old self.old →
             Fed payload place zp.old → states_of self.new ≡ (reading_from course zp.old payload place self.old decisions).at.states }
         ensures fed { (slice decisions : ℕ) (course : Course) (payload : List ℕ) (place : Option Interval) → Stands slice course coefficients.old self.old →
             Fed payload place zp.old → Fed payload (reading_from course zp.old payload place self.old decisions).at.place zp.new }
@@ -76,7 +79,8 @@ impl SliceReader {
             TicksExactly ((reading_from course zp.old payload place self.old decisions).at.decisions - decisions) (M.count meter.old) (M.count meter.new) }
 
         // What is left: the rest of the slice, or all of the next one.
-        ensures stands { (slice decisions : ℕ) (course : Course) (payload : List ℕ) (place : Option Interval) → Stands slice course coefficients.old self.old →
+        ensures stands { (slice decisions : ℕ) (course : Course) (payload : List ℕ) (place : Option Interval) →
+            Stands slice course coefficients.old self.old →
             Fed payload place zp.old → result ≢ SliceStep.SliceEnd →
             Stands slice (reading_from course zp.old payload place self.old decisions).left coefficients.new self.new }
         ensures next { (slice : ℕ) (course : Course) → Stands slice course coefficients.old self.old → result ≡ SliceStep.SliceEnd →

@@ -72,7 +72,8 @@ impl Spot {
     fn begin_slice(&mut self)
         requires { self.old.stage ≡ stage.Slice }
         ensures left { (slice : ℕ) (course : Course) (plane : Plane) → Left slice course plane self.old → Left slice course plane self.new }
-        ensures fewer { (slice : ℕ) (course : Course) (plane : Plane) → Left slice course plane self.old → steps_left plane self.new < steps_left plane self.old }
+        ensures fewer { (slice : ℕ) (course : Course) (plane : Plane) → Left slice course plane self.old →
+            steps_left plane self.new < steps_left plane self.old }
     {
         if does_something(self.number) {
             self.stage = Stage::Block;
@@ -86,7 +87,8 @@ impl Spot {
     fn begin_block(&mut self, coefficients: &Coefficients)
         requires { self.old.stage ≡ stage.Block }
         ensures left { (slice : ℕ) (course : Course) → Left slice course coefficients.now self.old → Left slice course coefficients.now self.new }
-        ensures fewer { (slice : ℕ) (course : Course) → Left slice course coefficients.now self.old → steps_left coefficients.now self.new < steps_left coefficients.now self.old }
+        ensures fewer { (slice : ℕ) (course : Course) → Left slice course coefficients.now self.old →
+            steps_left coefficients.now self.new < steps_left coefficients.now self.old }
     {
         if self.block >= coefficients.blocks() {
             self.stage = Stage::End;
@@ -130,7 +132,8 @@ impl Spot {
         requires stage { self.old.stage ≡ stage.Bucket }
         requires open { is_settled self.old ≡ false }
         ensures left { (slice : ℕ) (course : Course) (plane : Plane) → Left slice course plane self.old → Left slice course plane self.new }
-        ensures fewer { (slice : ℕ) (course : Course) (plane : Plane) → Left slice course plane self.old → steps_left plane self.new < steps_left plane self.old }
+        ensures fewer { (slice : ℕ) (course : Course) (plane : Plane) → Left slice course plane self.old →
+            steps_left plane self.new < steps_left plane self.old }
     {
         if self.bucket < bucket_count(self.number) {
             self.chosen[self.bucket as usize] = false;
@@ -145,7 +148,8 @@ impl Spot {
     fn skip_chosen(&mut self)
         requires { self.old.stage ≡ stage.Chosen }
         ensures left { (slice : ℕ) (course : Course) (plane : Plane) → Left slice course plane self.old → Left slice course plane self.new }
-        ensures fewer { (slice : ℕ) (course : Course) (plane : Plane) → Left slice course plane self.old → steps_left plane self.new < steps_left plane self.old }
+        ensures fewer { (slice : ℕ) (course : Course) (plane : Plane) → Left slice course plane self.old →
+            steps_left plane self.new < steps_left plane self.old }
     {
         if self.bucket >= bucket_count(self.number) {
             self.bucket = 0;
@@ -174,7 +178,8 @@ impl Spot {
         requires some { LeavesOfSome self.old }
         requires open { is_settled self.old ≡ false }
         ensures left { (slice : ℕ) (course : Course) (plane : Plane) → Left slice course plane self.old → Left slice course plane self.new }
-        ensures fewer { (slice : ℕ) (course : Course) (plane : Plane) → Left slice course plane self.old → steps_left plane self.new < steps_left plane self.old }
+        ensures fewer { (slice : ℕ) (course : Course) (plane : Plane) → Left slice course plane self.old →
+            steps_left plane self.new < steps_left plane self.old }
     {
         if self.word == 0 {
             self.stage = Stage::Chosen;
@@ -190,7 +195,8 @@ impl Spot {
         requires some { LeavesSome coefficients.now self.old }
         requires open { is_settled self.old ≡ false }
         ensures left { (slice : ℕ) (course : Course) → Left slice course coefficients.now self.old → Left slice course coefficients.now self.new }
-        ensures fewer { (slice : ℕ) (course : Course) → Left slice course coefficients.now self.old → steps_left coefficients.now self.new < steps_left coefficients.now self.old }
+        ensures fewer { (slice : ℕ) (course : Course) → Left slice course coefficients.now self.old →
+            steps_left coefficients.now self.new < steps_left coefficients.now self.old }
     {
         if self.word != 0 {
             self.pass();

@@ -77,7 +77,8 @@ impl Spot {
     /// Before the next slice.
     pub(crate) fn next_slice(&mut self)
         requires { self.old.stage ≡ stage.End }
-        ensures { (slice : ℕ) (course : Course) (plane : Plane) → Left slice course plane self.old → Left (slice + 1) (slice_course (slice + 1) plane) plane self.new }
+        ensures { (slice : ℕ) (course : Course) (plane : Plane) → Left slice course plane self.old →
+            Left (slice + 1) (slice_course (slice + 1) plane) plane self.new }
     {
         self.stage = Stage::Slice;
         if self.number < 200 {

@@ -6,8 +6,8 @@ ghost use Rattle.iw44_slices.specs.Reader.{Left, LeavesSome, LeavesOfSome, Leave
 ghost use Rattle.iw44_slices.specs.Moves.{after_bit, is_settled};
 ghost use Rattle.iw44_slices.specs.declared.spots.Stage.TheVariants as stage;
 
-use crate::bands::threshold;
 use crate::amounts::{is_negative, raised, signed, size_of, start_size};
+use crate::bands::threshold;
 use crate::spots::{Spot, Stage};
 use iw44_blocks::Coefficients;
 
@@ -16,7 +16,8 @@ impl Spot {
     pub(crate) fn take(&mut self, bit: bool, coefficients: &mut Coefficients)
         requires left { LeavesSmall coefficients.old self.old }
         requires settled { is_settled self.old ≡ true }
-        ensures left { (slice : ℕ) (course : Course) → Left slice course coefficients.old self.old → Left slice (after_bit course bit) coefficients.new self.new }
+        ensures left { (slice : ℕ) (course : Course) → Left slice course coefficients.old self.old →
+            Left slice (after_bit course bit) coefficients.new self.new }
         ensures width { coefficients.new.width ≡ coefficients.old.width }
         ensures height { coefficients.new.height ≡ coefficients.old.height }
     {
@@ -37,7 +38,8 @@ impl Spot {
     fn take_root(&mut self, bit: bool, blocks: u32)
         requires stage { self.old.stage ≡ stage.Root }
         requires block { self.old.block < blocks }
-        ensures { (slice : ℕ) (course : Course) (plane : Plane) → block_count plane ≡ blocks → Left slice course plane self.old → Left slice (after_bit course bit) plane self.new }
+        ensures { (slice : ℕ) (course : Course) (plane : Plane) → block_count plane ≡ blocks → Left slice course plane self.old →
+            Left slice (after_bit course bit) plane self.new }
     {
         if bit {
             self.stage = Stage::Bucket;
@@ -75,7 +77,8 @@ impl Spot {
         requires plane { IsPlane coefficients.old }
         requires left { LeavesSmall coefficients.old self.old }
         requires stage { self.old.stage ≡ stage.Sign }
-        ensures left { (slice : ℕ) (course : Course) → Left slice course coefficients.old self.old → Left slice (after_bit course bit) coefficients.new self.new }
+        ensures left { (slice : ℕ) (course : Course) → Left slice course coefficients.old self.old →
+            Left slice (after_bit course bit) coefficients.new self.new }
         ensures width { coefficients.new.width ≡ coefficients.old.width }
         ensures height { coefficients.new.height ≡ coefficients.old.height }
     {
@@ -91,7 +94,8 @@ impl Spot {
         requires left { LeavesSmall coefficients.old self.old }
         requires stage { self.old.stage ≡ stage.Raise }
         requires settled { is_settled self.old ≡ true }
-        ensures left { (slice : ℕ) (course : Course) → Left slice course coefficients.old self.old → Left slice (after_bit course bit) coefficients.new self.new }
+        ensures left { (slice : ℕ) (course : Course) → Left slice course coefficients.old self.old →
+            Left slice (after_bit course bit) coefficients.new self.new }
         ensures width { coefficients.new.width ≡ coefficients.old.width }
         ensures height { coefficients.new.height ≡ coefficients.old.height }
     {

@@ -1,9 +1,8 @@
-use Rattle.std.proofs.Common.{◌≡◌, ◌<◌, ℕ, length, get_or, List, refl, sym, ◌∙◌, ap, subst, arith}
+use Rattle.std.proofs.Common.{◌≡◌, ℕ, length, get_or, List, refl, sym, ◌∙◌, ap, subst, arith}
 use Rattle.zp_table.specs.declared.rows.Row.{Row}
-use Rattle.zp_decoder.specs.Decision.{Form, Adaptive, outcome_of}
+use Rattle.zp_decoder.specs.Decision.{Form, outcome_of}
 use Rattle.zp_decoder.specs.Decoder.{Fed}
 use Rattle.zp_decoder.specs.States.{AreBelow}
-use Rattle.iw44_slices.specs.Slice.{Asked}
 use Rattle.iw44_slices.specs.Reading.{states_after}
 use Rattle.iw44_slices.specs.Kept.{Names, states_in}
 use Rattle.iw44_slices.specs.declared.contexts.Question.{Question}
@@ -15,19 +14,22 @@ pub decode-requires : goal.decode-requires
 decode-requires g c =
     let known = c.requires.known in
     let names : Names known.0 (question.In c.in-In.number) = subst (λ (q : Question). Names known.0 q) c.in-In.is known.1 in
-    state_below known.0 c.in-In.number c.args.self.now (get_or c.args.self.now.states c.in-In.number 0) (length c.args.zp.now.table) names refl c.requires.below
+    state_below known.0 c.in-In.number c.args.self.now (get_or c.args.self.now.states c.in-In.number 0) (length c.args.zp.now.table) names refl
+    c.requires.below
 
 pub returns-in-In-clause-answer : goal.returns-in-In-clause-answer
 returns-in-In-clause-answer g c asked payload place known fed =
     let names : Names asked (question.In c.in-In.number) = subst (λ (q : Question). Names asked q) c.in-In.is known in
     let form = form_in asked c.in-In.number c.args.self.now (get_or c.args.self.now.states c.in-In.number 0) names refl in
-    subst (λ (f : Form). c.decode.result ≡ (outcome_of c.args.zp.now.table f payload c.args.zp.now.ended place).answer) form (c.decode.ensures.answer payload place fed)
+    subst (λ (f : Form). c.decode.result ≡ (outcome_of c.args.zp.now.table f payload c.args.zp.now.ended place).answer) form
+    (c.decode.ensures.answer payload place fed)
 
 pub returns-in-In-clause-fed : goal.returns-in-In-clause-fed
 returns-in-In-clause-fed g c asked payload place known fed =
     let names : Names asked (question.In c.in-In.number) = subst (λ (q : Question). Names asked q) c.in-In.is known in
     let form = form_in asked c.in-In.number c.args.self.now (get_or c.args.self.now.states c.in-In.number 0) names refl in
-    subst (λ (f : Form). Fed payload (outcome_of c.args.zp.now.table f payload c.args.zp.now.ended place).place c.decode.new.self) form (c.decode.ensures.fed payload place fed)
+    subst (λ (f : Form). Fed payload (outcome_of c.args.zp.now.table f payload c.args.zp.now.ended place).place c.decode.new.self) form
+    (c.decode.ensures.fed payload place fed)
 
 pub returns-in-In-clause-states : goal.returns-in-In-clause-states
 returns-in-In-clause-states g c asked payload place known fed =
@@ -35,7 +37,8 @@ returns-in-In-clause-states g c asked payload place known fed =
     let form = form_in asked c.in-In.number c.args.self.now (get_or c.args.self.now.states c.in-In.number 0) names refl in
     let size : length c.args.self.now.states ≡ 98 = omega arith in
     let next : c.decode.new.ctx ≡ _ =
-    subst (λ (f : Form). c.decode.new.ctx ≡ (outcome_of c.args.zp.now.table f payload c.args.zp.now.ended place).state) form (c.decode.ensures.context payload place fed) in
+    subst (λ (f : Form). c.decode.new.ctx ≡ (outcome_of c.args.zp.now.table f payload c.args.zp.now.ended place).state) form
+    (c.decode.ensures.context payload place fed) in
     states_put asked c.in-In.number c.args.self.now _ c.decode.new.ctx names size refl
     ∙ ap (λ (s : ℕ). states_after asked s (states_in c.args.self.now)) next
 

@@ -1,11 +1,7 @@
-use Rattle.std.proofs.Common.{◌≡◌, ℕ, List, Option, length, sym, subst}
-use Rattle.zp_decoder.specs.Decision.{Interval}
-use Rattle.zp_decoder.specs.Decoder.{Fed}
+use Rattle.std.proofs.Common.{length, sym, subst}
 use Rattle.zp_decoder.specs.States.{AreBelow}
-use Rattle.iw44_slices.specs.Slice.{Course}
-use Rattle.iw44_slices.specs.Reader.{Reader, Stands, StandsSomewhere, states_of}
+use Rattle.iw44_slices.specs.Reader.{Reader, Stands, states_of}
 use Rattle.iw44_slices.specs.Moves.{EndsAt}
-use Rattle.iw44_slices.specs.contracts.reader.SliceReader.{the_view}
 use Rattle.iw44_slices.proofs.Advancing.{told_answer, told_plane, told_states, told_fed, told_ticks, told_rest}
 use Rattle.iw44_slices.proofs.Telling.{stands_small}
 use Rattle.iw44_slices.proofs.reader.SliceReader.advance.Goals as goal

@@ -1,4 +1,3 @@
-use Rattle.iw44_blocks.specs.Plane.{zero_plane}
 use Rattle.iw44_slices.proofs.Advancing.{new_stands}
 use Rattle.iw44_slices.proofs.reader.SliceReader.new.Goals as goal
 

@@ -1,4 +1,4 @@
-use Rattle.std.proofs.Common.{◌≡◌, ◌<◌, ◌+◌, ◌*◌, ℕ, List, length, get_or, set, sym, ◌∙◌, ap, subst, refl, arith}
+use Rattle.std.proofs.Common.{◌≡◌, ◌<◌, ◌+◌, ◌*◌, ℕ, length, sym, ◌∙◌, ap, subst, refl, arith}
 use Rattle.iw44_slices.specs.Bands.{band_of, first_bucket}
 use Rattle.iw44_slices.specs.Slice.{Place, is_active, is_unknown}
 use Rattle.iw44_slices.specs.Kept.{AreBits}
@@ -9,7 +9,8 @@ use Rattle.iw44_slices.proofs.spots.Spot.mark.Goals as goal
 pub loop-bucket-preserved : goal.loop-bucket-preserved
 loop-bucket-preserved c =
     let at : Place = place_at c.loop-bucket.self.number c.loop-bucket.self.block c.args.coefficients.now in
-    let first : c.first_bucket-first.result ≡ first_at at = c.first_bucket-first.ensures.is ∙ ap (λ (n : ℕ). first_bucket (band_of n)) (sym c.loop-bucket.invariant.number) in
+    let first : c.first_bucket-first.result ≡ first_at at = c.first_bucket-first.ensures.is
+    ∙ ap (λ (n : ℕ). first_bucket (band_of n)) (sym c.loop-bucket.invariant.number) in
     let active : AreBits (is_active at) 16 (16 * (first_at at + c.loop-bucket.bucket)) c.words_of-words.result.active =
     subst (λ (n : ℕ). AreBits (is_active at) 16 (16 * (n + c.loop-bucket.bucket)) c.words_of-words.result.active) first c.words_of-words.ensures.active in
     let unknown : AreBits (is_unknown at) 16 (16 * (first_at at + c.loop-bucket.bucket)) c.words_of-words.result.unknown =
@@ -20,7 +21,10 @@ loop-bucket-preserved c =
     record {
       number = c.loop-bucket.invariant.number;
       block = c.loop-bucket.invariant.block;
-      active = words_more (is_active at) (first_at at) c.loop-bucket.self.active c.loop-bucket.bucket c.words_of-words.result.active in_active c.loop-bucket.invariant.active active;
-      unknown = words_more (is_unknown at) (first_at at) c.loop-bucket.self.unknown c.loop-bucket.bucket c.words_of-words.result.unknown in_unknown c.loop-bucket.invariant.unknown unknown;
-      some = some_of_buckets (is_active at) (first_at at) c.loop-bucket.bucket c.words_of-words.result.active c.loop-bucket.self.is_active _ c.loop-bucket.invariant.some refl active;
+      active = words_more (is_active at) (first_at at) c.loop-bucket.self.active c.loop-bucket.bucket c.words_of-words.result.active in_active
+          c.loop-bucket.invariant.active active;
+      unknown = words_more (is_unknown at) (first_at at) c.loop-bucket.self.unknown c.loop-bucket.bucket c.words_of-words.result.unknown in_unknown
+          c.loop-bucket.invariant.unknown unknown;
+      some = some_of_buckets (is_active at) (first_at at) c.loop-bucket.bucket c.words_of-words.result.active c.loop-bucket.self.is_active _
+          c.loop-bucket.invariant.some refl active;
     }

@@ -1,9 +1,9 @@
-use Rattle.std.proofs.Common.{◌≡◌, ◌<◌, ◌≤◌, ◌+◌, ℕ, sym, ap, subst, arith}
+use Rattle.std.proofs.Common.{◌<◌, sym, subst, arith}
 use Rattle.iw44_slices.specs.Reader.{Left}
 use Rattle.iw44_slices.specs.Moves.{steps_left}
 use Rattle.iw44_slices.specs.declared.spots.Spot.{Spot}
 use Rattle.iw44_slices.proofs.Passing.{start_passes, starts_are_over}
-use Rattle.iw44_slices.proofs.Nearing.{Inside, start_inside, start_passes_nearer, starts_over_nearer}
+use Rattle.iw44_slices.proofs.Nearing.{start_inside, start_passes_nearer, starts_over_nearer}
 use Rattle.iw44_slices.proofs.spots.Spot.skip_start.Goals as goal
 
 pub overflow_add-self : goal.overflow_add-self
@@ -29,7 +29,8 @@ returns-then-self-eq0-clause-fewer c slice course plane left =
 pub returns-else-self-eq0-clause-left : goal.returns-else-self-eq0-clause-left
 returns-else-self-eq0-clause-left c slice course plane left =
     let more : 0 < c.args.self.now.word = omega (arith, c.if-self-eq0.false) in
-    subst (λ (spot : Spot). Left slice course plane spot) (sym c.pass.ensures) (start_passes slice course plane c.args.self.now c.requires.stage c.requires.open more left)
+    subst (λ (spot : Spot). Left slice course plane spot) (sym c.pass.ensures)
+    (start_passes slice course plane c.args.self.now c.requires.stage c.requires.open more left)
 
 pub returns-else-self-eq0-clause-fewer : goal.returns-else-self-eq0-clause-fewer
 returns-else-self-eq0-clause-fewer c slice course plane left =

@@ -1,5 +1,5 @@
-use Rattle.std.proofs.Common.{◌≡◌, ◌<◌, length, arith}
-use Rattle.iw44_slices.specs.Bands.{band_of, bucket_count}
+use Rattle.std.proofs.Common.{◌<◌, length, arith}
+use Rattle.iw44_slices.specs.Bands.{band_of}
 use Rattle.iw44_slices.proofs.Moving.{bucket_moves}
 use Rattle.iw44_slices.proofs.Naming.{bucket_open}
 use Rattle.iw44_slices.proofs.Passing.{few_buckets}

@@ -1,4 +1,4 @@
-use Rattle.std.proofs.Common.{◌≡◌, ◌<◌, ◌≤◌, ◌/◌, ◌+◌, ℕ, sym, ◌∙◌, ap, subst, arith}
+use Rattle.std.proofs.Common.{◌≡◌, ◌≤◌, ◌/◌, ◌+◌, ℕ, sym, ◌∙◌, ap, subst, arith}
 use Rattle.std.proofs.Common.{rules, ℤ}
 use mir.Val.{to_z, of_z}
 use mir.Syntax.{w16}
@@ -46,5 +46,6 @@ returns-clause-left c slice course left =
     ≡ record c.args.self.now { stage = stage.Start; word = c.args.self.now.word / 2; index = c.args.self.now.index + 1; left = 0 } =
     ap (λ (s : Spot). record s { stage = stage.Start; left = 0 }) c.pass.ensures in
     subst (λ (p : Plane). Left slice (after_bit course c.args.bit) p (record c.pass.new.self { stage = stage.Start; left = 0 })) (sym plane)
-    (subst (λ (s : Spot). Left slice (after_bit course c.args.bit) (with_coefficient c.args.coefficients.now c.args.self.now.block c.args.self.now.index c.signed.result) s) (sym spot)
+    (subst (λ (s : Spot). Left slice (after_bit course c.args.bit)
+    (with_coefficient c.args.coefficients.now c.args.self.now.block c.args.self.now.index c.signed.result) s) (sym spot)
     (sign_moves slice course c.args.coefficients.now c.args.self.now c.args.bit c.signed.result c.requires.stage value left))

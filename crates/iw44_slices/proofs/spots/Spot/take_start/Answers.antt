@@ -1,11 +1,11 @@
-use Rattle.std.proofs.Common.{◌≡◌, ◌<◌, ◌-◌, ◌/◌, ◌+◌, ℕ, Bool, true, false, refl, sym, ◌∙◌, ap, subst, arith}
+use Rattle.std.proofs.Common.{◌≡◌, ◌-◌, ◌/◌, ◌+◌, ℕ, Bool, false, sym, ◌∙◌, ap, subst}
 use Rattle.iw44_slices.specs.Reader.{Left}
 use Rattle.iw44_slices.specs.Moves.{after_bit}
 use Rattle.iw44_slices.specs.declared.spots.Spot.{Spot}
 use Rattle.iw44_slices.specs.declared.spots.Stage.TheVariants as stage
 use Rattle.iw44_slices.proofs.Moving.{start_begins, start_stays}
 use Rattle.iw44_slices.proofs.Naming.{start_odd}
-use Rattle.iw44_slices.proofs.Nearing.{Inside, start_inside}
+use Rattle.iw44_slices.proofs.Nearing.{start_inside}
 use Rattle.iw44_slices.proofs.spots.Spot.take_start.Goals as goal
 
 pub pass-requires : goal.pass-requires
@@ -16,7 +16,8 @@ pass-requires c =
 
 pub returns-then-bit : goal.returns-then-bit
 returns-then-bit c slice course plane left =
-    subst (λ (bit : Bool). Left slice (after_bit course bit) plane (record c.args.self.now { stage = stage.Sign })) (sym c.if-bit.true) (start_begins slice course plane c.args.self.now c.requires.stage c.requires.settled left)
+    subst (λ (bit : Bool). Left slice (after_bit course bit) plane (record c.args.self.now { stage = stage.Sign })) (sym c.if-bit.true)
+    (start_begins slice course plane c.args.self.now c.requires.stage c.requires.settled left)
 
 pub returns-else-bit : goal.returns-else-bit
 returns-else-bit c slice course plane left =

@@ -172,3 +172,23 @@ words_more test first words bucket word within earlier here k below =
       | inr apart ↦
           subst (λ (w : ℕ). AreBits test 16 (16 * (first + k)) w) (sym (get_or-set_other words bucket k word 0 apart)) (earlier k (omega arith))
     ]
+
+-- words of which all bits are alike
+
+pub none_bits : (test : ℕ → Bool) (count from : ℕ) → ((i : ℕ) → from ≤ i → i < from + count → test i ≡ false) → AreBits test count from 0
+unfolding AreBits
+none_bits test zero from none = refl
+none_bits test (suc count) from none =
+    (sym (none from (omega arith) (omega arith)), none_bits test count (from + 1) (λ i low high. none i (omega arith) (omega arith)))
+
+pub all_bits : (test : ℕ → Bool) (count from word : ℕ) → word + 1 ≡ 2 ^ count → ((i : ℕ) → from ≤ i → i < from + count → test i ≡ true) →
+    AreBits test count from word
+unfolding AreBits
+all_bits test zero from word e all = omega (arith, e)
+all_bits test (suc count) from word e all =
+    let odd : word % 2 ≡ 1 = omega (arith, e) in
+    let half : word / 2 + 1 ≡ 2 ^ count = omega (arith, e) in (
+      ap (λ n. n == 1) odd ∙ sym (all from (omega arith) (omega arith)),
+      all_bits test count (from + 1) (word / 2) half
+          (λ i low high. all i (omega arith) (omega arith)),
+    )

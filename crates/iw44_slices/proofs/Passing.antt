@@ -1,19 +1,19 @@
 -- How a reader passes buckets and coefficients that have no decision.
-use Rattle.std.proofs.Common.{◌≡◌, ℕ, zero, suc, ◌+◌, ◌-◌, ◌*◌, ◌/◌, ◌%◌, ◌<◌, ◌≤◌, Bool, true, false, ◌&&◌, length, take}
+use Rattle.std.proofs.Common.{◌≡◌, ℕ, zero, suc, ◌+◌, ◌-◌, ◌*◌, ◌/◌, ◌%◌, ◌<◌, ◌≤◌, Bool, true, false, ◌&&◌, List, length, take}
 use Rattle.std.proofs.Common.{get_or, set, refl, ap, sym, ◌∙◌, subst, arith}
 use Rattle.std.specs.Prelude.{◌==◌, not, nat_lt}
 use Rattle.std.specs.Int.Count.{ones}
 use Rattle.std.proofs.lemmas.Bool.Decides.{nat_tests}
 use Rattle.iw44_blocks.specs.Plane.{Plane}
-use Rattle.iw44_slices.specs.Bands.{band_of, first_bucket, bucket_count}
-use Rattle.iw44_slices.specs.Slice.{Place, Course, is_active, is_unknown, raises, all_raises, starts, all_starts, choices}
+use Rattle.iw44_slices.specs.Bands.{band_of, first_bucket, bucket_count, threshold, is_in_use}
+use Rattle.iw44_slices.specs.Slice.{Place, Course, is_active, is_unknown, raises, all_raises, starts, all_starts, choices, is_zero, before_at}
 use Rattle.iw44_slices.specs.Kept.{AreBits}
-use Rattle.iw44_slices.specs.Reader.{place_in, first_at, count_at, later_blocks, InBucket, from_bucket}
+use Rattle.iw44_slices.specs.Reader.{place_in, first_at, count_at, later_blocks, AreMarked, InBucket, from_bucket}
 use Rattle.iw44_slices.specs.Reader.{Left}
 use Rattle.iw44_slices.specs.Moves.{is_settled}
 use Rattle.iw44_slices.specs.declared.spots.Spot.{Spot}
 use Rattle.iw44_slices.specs.declared.spots.Stage.TheVariants as stage
-use Rattle.iw44_slices.proofs.Bits.{zero_none, first_bit, some_left, ones_are}
+use Rattle.iw44_slices.proofs.Bits.{none_bits, all_bits, zero_none, first_bit, some_left, ones_are}
 use Rattle.iw44_slices.proofs.Courses.{ends_within}
 use Rattle.iw44_slices.proofs.Skipping.{raises_pass, raises_none, starts_pass, starts_none, choices_pass, choice_kept, bucket_left_out, bucket_starts}
 use Rattle.iw44_slices.proofs.Skipping.{buckets_end}
@@ -222,7 +222,8 @@ start_passes slice course plane spot e open' some left =
           here = next.later;
           before = now.before;
           is = now.is ∙ (ap (λ (n : ℕ). starts at later (first_at at + spot.bucket) n spot.index spot.left plane) next.one
-              ∙ starts_pass at later (first_at at + spot.bucket) next.less spot.index spot.left plane (sym next.first ∙ settled_at stage.Start spot false e open'));
+              ∙ starts_pass at later (first_at at + spot.bucket) next.less spot.index spot.left plane (sym next.first
+              ∙ settled_at stage.Start spot false e open'));
         },
       ),
     )
@@ -335,4 +336,36 @@ raises_are_over slice course plane spot e none last left =
       is = now.is ∙ (bucket_raised at (later_blocks plane spot) now.count spot.bucket spot.index plane
           (subst (λ (w : ℕ). InBucket at (is_active at) now.count spot.bucket spot.index w) none now.here)
           ∙ ap (λ (n : ℕ). raises at (later_blocks plane spot) n (16 * (first_at at + (spot.bucket + 1))) plane) over);
+    }
+
+-- a band whose coefficients all are 0 and unknown
+
+active_none : (used zero' : Bool) → zero' ≡ true → (used && not zero') ≡ false
+active_none true zero' e = ap not e
+active_none false zero' e = refl
+
+both_are : (used zero' : Bool) → used ≡ true → zero' ≡ true → (used && zero') ≡ true
+both_are true zero' first second = second
+both_are false zero' first second = cc
+
+pub blank_marks : (at : Place) (actives unknowns : List ℕ) → ((index : ℕ) → is_in_use (threshold at.slice index) ≡ true) →
+    ((place : ℕ) → place < 16 * count_at at → is_zero (before_at at (16 * first_at at + place)) ≡ true) →
+    ((k : ℕ) → k < 16 → get_or actives k 0 ≡ 0) → ((k : ℕ) → k < 16 → get_or unknowns k 0 ≡ 65535) → AreMarked at false actives unknowns
+blank_marks at actives unknowns used blank no_active all_unknown =
+    let few = few_buckets (band_of at.slice) in
+    let is_blank : (i : ℕ) → 16 * first_at at ≤ i → i < 16 * first_at at + 16 * count_at at → is_zero (before_at at i) ≡ true =
+    λ i low high.
+    (let place : ℕ = i - 16 * first_at at in
+    let same : 16 * first_at at + place ≡ i = omega arith in
+    subst (λ (n : ℕ). is_zero (before_at at n) ≡ true) same (blank place (omega arith))) in
+    let idle : (i : ℕ) → 16 * first_at at ≤ i → i < 16 * first_at at + 16 * count_at at → is_active at i ≡ false =
+    λ i low high. active_none (is_in_use (threshold at.slice i)) (is_zero (before_at at i)) (is_blank i low high) in
+    let unknown : (i : ℕ) → 16 * first_at at ≤ i → i < 16 * first_at at + 16 * count_at at → is_unknown at i ≡ true =
+    λ i low high. both_are (is_in_use (threshold at.slice i)) (is_zero (before_at at i)) (used i) (is_blank i low high) in
+    record {
+      activity = sym (zero_none (is_active at) (16 * count_at at) (16 * first_at at) (none_bits (is_active at) (16 * count_at at) (16 * first_at at) idle));
+      active = λ k low. subst (λ (w : ℕ). AreBits (is_active at) 16 (16 * (first_at at + k)) w) (sym (no_active k (omega arith)))
+          (none_bits (is_active at) 16 (16 * (first_at at + k)) (λ i above below. idle i (omega arith) (omega arith)));
+      unknown = λ k low. subst (λ (w : ℕ). AreBits (is_unknown at) 16 (16 * (first_at at + k)) w) (sym (all_unknown k (omega arith)))
+          (all_bits (is_unknown at) 16 (16 * (first_at at + k)) 65535 refl (λ i above below. unknown i (omega arith) (omega arith)));
     }

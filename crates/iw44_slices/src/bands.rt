@@ -1,5 +1,5 @@
 //! The bands of a block, and the thresholds of its coefficients.
-ghost use Rattle.std.specs.Prelude.{◌≡◌, ◌/◌, ◌^◌, ◌+◌, ◌*◌, ◌<◌, ◌≤◌};
+ghost use Rattle.std.specs.Prelude.{◌≡◌, ℕ, ◌/◌, ◌^◌, ◌+◌, ◌*◌, ◌<◌, ◌≤◌, true};
 ghost use Rattle.iw44_slices.specs.Bands.{band_of, first_bucket, bucket_count, first_threshold, threshold, is_in_use};
 ghost use Rattle.iw44_slices.specs.Slice.{does_something};
 
@@ -71,6 +71,13 @@ pub(crate) fn is_in_use(threshold: u32) -> bool
     ensures { result ≡ is_in_use threshold }
 {
     1 <= threshold && threshold <= 0x7FFF
+}
+
+/// Whether a slice's band has one threshold, and it is in use.
+pub(crate) fn is_uniform(number: u8) -> bool
+    ensures { result ≡ true → (index : ℕ) → is_in_use (threshold number index) ≡ true }
+{
+    band_of(number) > 0 && is_in_use(threshold(number, 0))
 }
 
 /// Whether a coefficient of the slice's band has a threshold in use.

@@ -7,9 +7,9 @@ ghost use Rattle.iw44_slices.specs.Reader.{Left, LeavesSome, LeavesOfSome, AreMa
 ghost use Rattle.iw44_slices.specs.Moves.{is_settled, steps_left};
 ghost use Rattle.iw44_slices.specs.declared.spots.Stage.TheVariants as stage;
 
-use crate::bands::{BUCKET, bucket_count, does_something, first_bucket};
+use crate::bands::{BUCKET, bucket_count, does_something, first_bucket, is_uniform};
 use crate::spots::{Spot, Stage};
-use crate::words::words_of;
+use crate::words::{is_blank, words_of};
 use iw44_blocks::Coefficients;
 
 impl Spot {
@@ -110,8 +110,27 @@ impl Spot {
         bucket_count(self.number) == 16 && !self.is_active
     }
 
-    /// Notes which coefficients of the block's band are active, and which ones are unknown.
+    /// Notes which coefficients of the block's band are active, and which ones are unknown. Where all are 0 under one
+    /// threshold, as mostly in large bands, nothing is looked at one by one.
     fn mark(&mut self, coefficients: &Coefficients)
+        requires { self.old.block < block_count coefficients.now }
+        ensures marks { AreMarked (place_in coefficients.now self.new) self.new.is_active self.new.active self.new.unknown }
+        ensures number { self.new.number ≡ self.old.number }
+        ensures block { self.new.block ≡ self.old.block }
+    {
+        let first = BUCKET * first_bucket(self.number);
+        let count = BUCKET * bucket_count(self.number);
+        if is_uniform(self.number) && is_blank(coefficients, self.block, first, count) {
+            self.is_active = false;
+            self.active = [0; 16];
+            self.unknown = [u16::MAX; 16];
+        } else {
+            self.mark_each(coefficients);
+        }
+    }
+
+    /// Notes the same, coefficient by coefficient.
+    fn mark_each(&mut self, coefficients: &Coefficients)
         requires { self.old.block < block_count coefficients.now }
         ensures marks { AreMarked (place_in coefficients.now self.new) self.new.is_active self.new.active self.new.unknown }
         ensures number { self.new.number ≡ self.old.number }

@@ -1,5 +1,5 @@
 //! Which coefficients of a bucket are active, and which ones are unknown.
-ghost use Rattle.std.specs.Prelude.{◌≡◌, ℕ, ◌+◌, ◌*◌, ◌<◌, ◌≤◌, not, ◌&&◌, if◌then◌else◌};
+ghost use Rattle.std.specs.Prelude.{◌≡◌, ℕ, ◌+◌, ◌*◌, ◌<◌, ◌≤◌, true, not, ◌&&◌, if◌then◌else◌};
 ghost use Rattle.iw44_blocks.specs.Plane.{block_count, coefficient};
 ghost use Rattle.iw44_slices.specs.Slice.{is_active, is_unknown, parents, is_zero};
 ghost use Rattle.iw44_slices.specs.Kept.{AreBits};
@@ -72,6 +72,19 @@ pub(crate) fn parents(coefficients: &Coefficients, block: u32, bucket: u16) -> u
         + nonzero(coefficients, block, first + 1)
         + nonzero(coefficients, block, first + 2)
         + nonzero(coefficients, block, first + 3)
+}
+
+/// Whether so many coefficients of a block are 0, from one on.
+pub(crate) fn is_blank(coefficients: &Coefficients, block: u32, first: u16, count: u16) -> bool
+    requires block { block < block_count coefficients.now }
+    requires within { first + count ≤ 1024 }
+    ensures { result ≡ true → (place : ℕ) → place < count → is_zero (coefficient coefficients.now block (first + place)) ≡ true }
+{
+    let mut some = 0;
+    for place in 0..count {
+        some += nonzero(coefficients, block, first + place);
+    }
+    some == 0
 }
 
 /// 1 for a coefficient that isn't 0.

@@ -1,30 +1,19 @@
-use Rattle.std.proofs.Common.{◌≡◌, ◌<◌, ◌+◌, ◌*◌, ℕ, length, sym, ◌∙◌, ap, subst, refl, arith}
-use Rattle.iw44_slices.specs.Bands.{band_of, first_bucket}
-use Rattle.iw44_slices.specs.Slice.{Place, is_active, is_unknown}
-use Rattle.iw44_slices.specs.Kept.{AreBits}
-use Rattle.iw44_slices.specs.Reader.{place_at, first_at}
-use Rattle.iw44_slices.proofs.Bits.{some_of_buckets, words_more}
+use Rattle.std.proofs.Common.{◌≡◌, ◌<◌, ◌+◌, ◌*◌, ℕ, true, sym, ◌∙◌, ap, subst, arith}
+use Rattle.std.proofs.lemmas.List.{get_or-replicate}
+use Rattle.iw44_blocks.specs.Plane.{coefficient}
+use Rattle.iw44_slices.specs.Bands.{band_of, first_bucket, bucket_count}
+use Rattle.iw44_slices.specs.Slice.{Place, is_zero}
+use Rattle.iw44_slices.specs.Reader.{place_in, first_at, count_at}
+use Rattle.iw44_slices.proofs.Passing.{blank_marks}
 use Rattle.iw44_slices.proofs.spots.Spot.mark.Goals as goal
 
-pub loop-bucket-preserved : goal.loop-bucket-preserved
-loop-bucket-preserved c =
-    let at : Place = place_at c.loop-bucket.self.number c.loop-bucket.self.block c.args.coefficients.now in
-    let first : c.first_bucket-first.result ≡ first_at at = c.first_bucket-first.ensures.is
-    ∙ ap (λ (n : ℕ). first_bucket (band_of n)) (sym c.loop-bucket.invariant.number) in
-    let active : AreBits (is_active at) 16 (16 * (first_at at + c.loop-bucket.bucket)) c.words_of-words.result.active =
-    subst (λ (n : ℕ). AreBits (is_active at) 16 (16 * (n + c.loop-bucket.bucket)) c.words_of-words.result.active) first c.words_of-words.ensures.active in
-    let unknown : AreBits (is_unknown at) 16 (16 * (first_at at + c.loop-bucket.bucket)) c.words_of-words.result.unknown =
-    subst (λ (n : ℕ). AreBits (is_unknown at) 16 (16 * (n + c.loop-bucket.bucket)) c.words_of-words.result.unknown) first c.words_of-words.ensures.unknown in
-    let low : c.loop-bucket.bucket < 16 = omega (arith, c.bucket_count-bucket-end.ensures.most, c.loop-bucket-test.true) in
-    let in_active : c.loop-bucket.bucket < length c.loop-bucket.self.active = omega arith in
-    let in_unknown : c.loop-bucket.bucket < length c.loop-bucket.self.unknown = omega arith in
-    record {
-      number = c.loop-bucket.invariant.number;
-      block = c.loop-bucket.invariant.block;
-      active = words_more (is_active at) (first_at at) c.loop-bucket.self.active c.loop-bucket.bucket c.words_of-words.result.active in_active
-          c.loop-bucket.invariant.active active;
-      unknown = words_more (is_unknown at) (first_at at) c.loop-bucket.self.unknown c.loop-bucket.bucket c.words_of-words.result.unknown in_unknown
-          c.loop-bucket.invariant.unknown unknown;
-      some = some_of_buckets (is_active at) (first_at at) c.loop-bucket.bucket c.words_of-words.result.active c.loop-bucket.self.is_active _
-          c.loop-bucket.invariant.some refl active;
-    }
+pub returns-then-is_blank-clause-marks : goal.returns-then-is_blank-clause-marks
+returns-then-is_blank-clause-marks c =
+    let at : Place = place_in c.args.coefficients.now c.args.self.now in
+    let used = c.is_uniform.ensures c.if-is_uniform.true in
+    let blank : (place : ℕ) → place < 16 * count_at at →
+    is_zero (coefficient c.args.coefficients.now c.args.self.now.block (16 * first_at at + place)) ≡ true =
+    λ place low.
+    subst (λ (n : ℕ). is_zero (coefficient c.args.coefficients.now c.args.self.now.block (16 * n + place)) ≡ true) c.first_bucket-first.ensures.is
+    (c.is_blank.ensures c.if-is_blank.true place (omega (arith, low, c.bucket_count-count.ensures.is))) in
+    blank_marks at _ _ used blank (λ k low. get_or-replicate 16 k 0 0 low) (λ k low. get_or-replicate 16 k 65535 0 low)

@@ -2,7 +2,7 @@ use Rattle.std.proofs.Common.{◌≡◌, ℕ, ◌+◌, ◌*◌, ◌<◌, get_or}
 use Rattle.iw44_slices.specs.Slice.{is_active, is_unknown, some_from}
 use Rattle.iw44_slices.specs.Kept.{AreBits}
 use Rattle.iw44_slices.specs.Reader.{place_at, first_at}
-use Rattle.iw44_slices.proofs.spots.Spot.mark.Given as goal
+use Rattle.iw44_slices.proofs.spots.Spot.mark_each.Given as goal
 
 abbrev pub invariant-loop-bucket : goal.invariant-loop-bucket
 invariant-loop-bucket l = record {

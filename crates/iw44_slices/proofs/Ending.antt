@@ -39,8 +39,9 @@ none_from : (test : ℕ → Bool) (count from : ℕ) → ((i : ℕ) → test i �
 none_from test zero from none = refl
 none_from test (suc count) from none = ap (λ b. b || some_from test count (from + 1)) (none from) ∙ none_from test count (from + 1) none
 
+pub nothing_late : (slice : ℕ) → 200 ≤ slice → does_something slice ≡ false
+nothing_late slice late =
+    none_from (λ index. is_in_use (threshold slice index)) (16 * bucket_count (band_of slice)) (16 * first_bucket (band_of slice)) (λ i. ap is_in_use (threshold_ends slice i late))
+
 pub slice_ends : (slice : ℕ) (plane : Plane) → 200 ≤ slice → slice_course slice plane ≡ Ended plane
-slice_ends slice plane late =
-    let none : does_something slice ≡ false =
-    none_from (λ index. is_in_use (threshold slice index)) (16 * bucket_count (band_of slice)) (16 * first_bucket (band_of slice)) (λ i. ap is_in_use (threshold_ends slice i late)) in
-    ap (λ b. if b then blocks_course slice (block_count plane) 0 plane else Ended plane) none
+slice_ends slice plane late = ap (λ b. if b then blocks_course slice (block_count plane) 0 plane else Ended plane) (nothing_late slice late)

@@ -1,5 +1,6 @@
 -- Sizes after what was read of a slice.
-use Rattle.std.proofs.Common.{◌≡◌, ℕ, zero, suc, ◌+◌, ◌-◌, ◌*◌, ◌/◌, ◌%◌, ◌<◌, ◌≤◌, Bool, ℤ, pos, unsigned_abs, inl, inr, ap, sym, ◌∙◌, subst, arith, replicate, get_or, nat_lt}
+use Rattle.std.proofs.Common.{◌≡◌, ℕ, zero, suc, ◌+◌, ◌-◌, ◌*◌, ◌%◌, ◌<◌, ◌≤◌, Bool, pos, unsigned_abs, inl, inr, ap, sym, ◌∙◌, subst, arith}
+use Rattle.std.proofs.Common.{replicate, get_or, nat_lt}
 use Rattle.std.specs.Prelude.{if◌then◌else◌}
 use Rattle.std.proofs.lemmas.Bool.Decides.{nat_tests}
 use Rattle.std.proofs.lemmas.Bool.{cases_lt, cases_eq}
@@ -21,7 +22,8 @@ pub record Left (P Q : Plane → Type 0) (reading : Reading) : Type 0 where
   pub along : Along P Q reading.left
   pub ended : reading.answer ≡ step.SliceEnd → Q (plane_of reading.left)
 
-left_by : (P Q : Plane → Type 0) (from : Chunk) (plane : Plane) (asked : Asked) (next : Bool → Course) (at : At) (answer : Decision) → P plane → ((bit : Bool) → Along P Q (next bit)) →
+left_by : (P Q : Plane → Type 0) (from : Chunk) (plane : Plane) (asked : Asked) (next : Bool → Course) (at : At) (answer : Decision) → P plane →
+    ((bit : Bool) → Along P Q (next bit)) →
     ((bit : Bool) (later : At) → Left P Q (read_on from (next bit) later)) →
     Left P Q (after_decision answer (outcome_at from asked at) plane asked next at (λ bit later. read_on from (next bit) later))
 left_by P Q from plane asked next at (decision.Bit bit) here more goes = goes bit _
@@ -106,53 +108,108 @@ due_is_small slice plane due c m inside small =
     let same : band_of later ≡ at.band = omega arith in
     due_small (threshold later m) (coefficient plane c m) (due later c m (omega arith) (omega arith) inside (subst (λ (n : ℕ). InBand n m) (sym same) at.here))
 
--- in a slice, as far as it was read
-pub partly_small : (slice : ℕ) (plane : Plane) (from : Chunk) (at : At) → AreDue slice plane → IsSmall 32767 (plane_of (read_slice from slice plane at).left)
-partly_small slice plane from at due c m inside small =
-    let same : block_count (plane_of (read_slice from slice plane at).left) ≡ block_count plane =
-    here_by (λ p. block_count p ≡ block_count plane) (λ p. block_count p ≡ block_count plane) (read_slice from slice plane at).left
-    (read_left _ _ from (slice_course slice plane) at (slice_counts slice plane)).along (λ p is. is) in
-    let there : c < block_count plane = subst (λ (n : ℕ). c < n) same inside in
-    let place = found m small in
+-- what holds along a course
+
+along_each : (A : Type 0) (P Q : A → Plane → Type 0) (course : Course) → ((a : A) → Along (P a) (Q a) course) →
+    Along (λ plane. (a : A) → P a plane) (λ plane. (a : A) → Q a plane) course
+along_each A P Q (Ended plane) all = all
+along_each A P Q (Asks plane asked next) all = (λ a. (all a).0, λ bit. along_each A P Q (next bit) (λ a. (all a).1 bit))
+
+along_both : (P Q R S : Plane → Type 0) (course : Course) → Along P Q course → Along R S course →
+    Along (λ plane. P plane × R plane) (λ plane. Q plane × S plane) course
+along_both P Q R S (Ended plane) first second = (first, second)
+along_both P Q R S (Asks plane asked next) first second = ((first.0, second.0), λ bit. along_both P Q R S (next bit) (first.1 bit) (second.1 bit))
+
+along_as : (P Q R S : Plane → Type 0) (course : Course) → ((plane : Plane) → P plane → R plane) → ((plane : Plane) → Q plane → S plane) → Along P Q course →
+    Along R S course
+along_as P Q R S (Ended plane) asks ends is = ends plane is
+along_as P Q R S (Asks plane asked next) asks ends is = (asks plane is.0, λ bit. along_as P Q R S (next bit) asks ends (is.1 bit))
+
+-- one coefficient in the ten slices behind this one
+abbrev DueFrom : ℕ → ℕ → ℕ → Plane → Type 0
+DueFrom slice c m after = (later : ℕ) → slice + 1 ≤ later → later < slice + 1 + 10 → InBand (band_of later) m →
+    IsDue (threshold later m) (coefficient after c m)
+
+own_due : (slice c m : ℕ) (after : Plane) → m < 1024 → InBand (band_of slice) m → After slice c m after → DueFrom slice c m after
+own_due slice c m after small own done later first last here =
+    elim (cases_eq later (slice + 10)) [
+      | inl last_one ↦ subst (λ (t : ℕ). IsDue t (coefficient after c m)) (sym (ap (λ n. threshold n m) last_one ∙ next_threshold slice m)) done
+      | inr earlier ↦
+          let bands : band_of slice ≡ band_of later = sym (only (band_of slice) m (omega arith) own) ∙ only (band_of later) m (omega arith) here in
+          absurd (omega arith)
+    ]
+
+other_due : (slice c m : ℕ) (plane after : Plane) → m < 1024 → c < block_count plane → AreDue slice plane → (InBand (band_of slice) m → ⊥) →
+    coefficient after c m ≡ coefficient plane c m →
+    DueFrom slice c m after
+other_due slice c m plane after small inside due apart same later first last here =
+    elim (cases_eq later (slice + 10)) [
+      | inl last_one ↦
+          let band : band_of later ≡ band_of slice = omega arith in
+          absurd (apart (subst (λ (n : ℕ). InBand n m) band here))
+      | inr earlier ↦ subst (IsDue (threshold later m)) (sym same) (due later c m (omega arith) (omega arith) inside here)
+    ]
+
+-- a coefficient of a plane
+record Coded (plane : Plane) : Type 0 where
+  block : ℕ
+  index : ℕ
+  inside : block < block_count plane
+  small : index < 1024
+
+coefficient_stays : (slice : ℕ) (plane : Plane) → AreDue slice plane →
+    (a : Coded plane) → Along (Small a.block a.index) (DueFrom slice a.block a.index) (slice_course slice plane)
+coefficient_stays slice plane due a =
+    let place = found a.index a.small in
     let low = place.low in
+    let inside = a.inside in
+    let small = a.small in
     elim (cases_eq (band_of slice) place.band) [
       | inl own ↦
-          let here : InBand (band_of slice) m = subst (λ (n : ℕ). InBand n m) (sym own) place.here in
-          let first = due slice c m (omega arith) (omega arith) there here in
-          here_by (Small c m) (After slice c m) (read_slice from slice plane at).left
-          (read_left (Small c m) (After slice c m) from (slice_course slice plane) at (slice_does slice c m plane here there first)).along
-          (λ p is. due_small (threshold slice m / 2) (coefficient p c m) is)
+          let here : InBand (band_of slice) a.index = subst (λ (n : ℕ). InBand n a.index) (sym own) place.here in
+          along_as (Small a.block a.index) (After slice a.block a.index) (Small a.block a.index) (DueFrom slice a.block a.index) (slice_course slice plane)
+          (λ p is. is)
+          (λ p is. own_due slice a.block a.index p small here is)
+          (slice_does slice a.block a.index plane here inside (due slice a.block a.index (omega arith) (omega arith) inside here))
       | inr other ↦
-          let before = due_is_small slice plane due c m there small in
-          let apart : InBand (band_of slice) m → ⊥ = λ here. other (sym (only (band_of slice) m (omega arith) here) ∙ only place.band m low place.here) in
-          here_by (Small c m) (λ after. coefficient after c m ≡ coefficient plane c m) (read_slice from slice plane at).left
-          (read_left (Small c m) (λ after. coefficient after c m ≡ coefficient plane c m) from (slice_course slice plane) at (slice_keeps slice c m plane small apart before)).along
-          (λ p is. subst (λ (z : ℤ). unsigned_abs z ≤ 32767) (sym is) before)
+          let apart : InBand (band_of slice) a.index →
+          ⊥ = λ here. other (sym (only (band_of slice) a.index (omega arith) here) ∙ only place.band a.index low place.here) in
+          along_as (Small a.block a.index) (λ after. coefficient after a.block a.index ≡ coefficient plane a.block a.index) (Small a.block a.index)
+          (DueFrom slice a.block a.index)
+          (slice_course slice plane) (λ p is. is) (λ p is. other_due slice a.block a.index plane p small inside due apart is)
+          (slice_keeps slice a.block a.index plane small apart (due_is_small slice plane due a.block a.index inside small))
     ]
+
+-- along a slice all coefficients stay small, and at its end they are due
+pub slice_stays_small : (slice : ℕ) (plane : Plane) → AreDue slice plane → Along (IsSmall 32767) (AreDue (slice + 1)) (slice_course slice plane)
+slice_stays_small slice plane due =
+    along_as (λ p. ((a : Coded plane) → Small a.block a.index p) × (block_count p ≡ block_count plane))
+    (λ p. ((a : Coded plane) → DueFrom slice a.block a.index p) × (block_count p ≡ block_count plane))
+    (IsSmall 32767) (AreDue (slice + 1)) (slice_course slice plane)
+    (λ p is c m inside small. (let count = is.1 in is.0 (record { block = c; index = m; inside = omega arith; small = small })))
+    (λ p is later c m first last inside here.
+    (let count = is.1 in
+    let high = here.last in
+    let most = ends_within (band_of later) in
+    is.0 (record { block = c; index = m; inside = omega arith; small = omega arith }) later first last here))
+    (along_both (λ p. (a : Coded plane) → Small a.block a.index p) (λ p. (a : Coded plane) → DueFrom slice a.block a.index p)
+    (λ p. block_count p ≡ block_count plane) (λ p. block_count p ≡ block_count plane)
+    (slice_course slice plane)
+    (along_each (Coded plane) (λ a. Small a.block a.index) (λ a. DueFrom slice a.block a.index) (slice_course slice plane) (coefficient_stays slice plane due))
+    (slice_counts slice plane))
+
+-- in a slice, as far as it was read
+pub partly_small : (slice : ℕ) (plane : Plane) (from : Chunk) (at : At) → AreDue slice plane → IsSmall 32767 (plane_of (read_slice from slice plane at).left)
+partly_small slice plane from at due =
+    here_by (IsSmall 32767) (AreDue (slice + 1)) (read_slice from slice plane at).left
+    (read_left (IsSmall 32767) (AreDue (slice + 1)) from (slice_course slice plane) at (slice_stays_small slice plane due)).along
+    (λ p is. due_is_small (slice + 1) p is)
 
 -- after a slice
 pub still_due : (slice : ℕ) (plane : Plane) (from : Chunk) (at : At) → AreDue slice plane → (read_slice from slice plane at).answer ≡ step.SliceEnd →
     AreDue (slice + 1) (plane_of (read_slice from slice plane at).left)
-still_due slice plane from at due ends later c m first last inside here =
-    let same : block_count (plane_of (read_slice from slice plane at).left) ≡ block_count plane =
-    here_by (λ p. block_count p ≡ block_count plane) (λ p. block_count p ≡ block_count plane) (read_slice from slice plane at).left
-    (read_left _ _ from (slice_course slice plane) at (slice_counts slice plane)).along (λ p is. is) in
-    let there : c < block_count plane = subst (λ (n : ℕ). c < n) same inside in
-    let small : m < 1024 = let high = here.last in let most = ends_within (band_of later) in omega arith in
-    elim (cases_eq later (slice + 10)) [
-      | inl last_one ↦
-          let band : band_of later ≡ band_of slice = omega arith in
-          let own : InBand (band_of slice) m = subst (λ (n : ℕ). InBand n m) band here in
-          let done = (read_left (Small c m) (After slice c m) from (slice_course slice plane) at (slice_does slice c m plane own there (due slice c m (omega arith) (omega arith) there own))).ended ends in
-          subst (λ (t : ℕ). IsDue t (coefficient (plane_of (read_slice from slice plane at).left) c m)) (sym (ap (λ n. threshold n m) last_one ∙ next_threshold slice m)) done
-      | inr earlier ↦
-          let apart : InBand (band_of slice) m → ⊥ = λ own.
-          let bands : band_of slice ≡ band_of later = sym (only (band_of slice) m (omega arith) own) ∙ only (band_of later) m (omega arith) here in omega arith in
-          let before = due later c m (omega arith) (omega arith) there here in
-          let kept = (read_left (Small c m) (λ after. coefficient after c m ≡ coefficient plane c m) from (slice_course slice plane) at
-          (slice_keeps slice c m plane small apart (due_small (threshold later m) (coefficient plane c m) before))).ended ends in
-          subst (IsDue (threshold later m)) (sym kept) before
-    ]
+still_due slice plane from at due ends =
+    (read_left (IsSmall 32767) (AreDue (slice + 1)) from (slice_course slice plane) at (slice_stays_small slice plane due)).ended ends
 
 -- a new plane
 zero_there : (n i : ℕ) → get_or (replicate n (pos 0)) i (pos 0) ≡ pos 0

@@ -1,9 +1,14 @@
 pub use Rattle.zp_decoder.specs.Chunk
+pub use Rattle.zp_decoder.specs.Decoder
 pub use Rattle.zp_decoder.specs.Runs
+pub use Rattle.zp_decoder.specs.States
 pub use Rattle.iw44_blocks.specs.Plane
 pub mod Bands
 pub mod Contexts
 pub mod Slice
 pub mod Sizes
 pub mod Reading
+pub mod Kept
+pub mod Reader
+pub mod Moves
 pub mod Worked

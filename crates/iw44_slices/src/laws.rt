@@ -12,7 +12,9 @@ ghost use Rattle.iw44_slices.specs.Bands.{threshold};
 ghost use Rattle.iw44_slices.specs.Slice.{Course, Ended, start_size, raised, slice_course};
 ghost use Rattle.iw44_slices.specs.Reading.{At, standing, plane_of, read_on, read_slice};
 ghost use Rattle.iw44_slices.specs.Sizes.{AreDue};
-ghost use Rattle.iw44_slices.specs.Worked.{first_slice, two_slices};
+ghost use Rattle.iw44_slices.specs.Reader.{Reader, Stands};
+ghost use Rattle.iw44_slices.specs.Contexts.{Root, Bucket, Start, Mantissa};
+ghost use Rattle.iw44_slices.specs.Worked.{first_slice, two_slices, djvu_pair, root_alone};
 
 /// After 200 slices no threshold is in use, so that a plane reads nothing.
 pub fn slices_end()
@@ -55,6 +57,14 @@ pub fn sizes_stay_small()
     ensures partly { (slice : ℕ) (plane : Plane) (from : Chunk) (at : At) → AreDue slice plane → IsSmall 32767 (plane_of (read_slice from slice plane at).left) }
 {}
 
+/// What is left of a slice tells the coefficients as they are: a whole slice, and the rest of one that a reader has left.
+/// These are small, so their grid can be lifted in the middle of a slice.
+pub fn courses_tell_coefficients()
+    ensures whole { (slice : ℕ) (plane : Plane) → plane_of (slice_course slice plane) ≡ plane }
+    ensures rest { (slice : ℕ) (course : Course) (plane : Plane) (reader : Reader) → Stands slice course plane reader → plane_of course ≡ plane }
+    ensures small { (slice : ℕ) (course : Course) (plane : Plane) (reader : Reader) → Stands slice course plane reader → IsSmall 32767 plane }
+{}
+
 /// Thresholds of coefficients, and the sizes that they lead to.
 pub fn worked_sizes()
     ensures first { threshold 0 0 ≡ 0x4000 }
@@ -89,4 +99,30 @@ pub fn worked_pair()
     ensures unknown { coefficient (plane_of (two_slices (0x2A ∷ []) true).left) 0 1 ≡ pos 0 }
     ensures started { coefficient (plane_of (two_slices (0x2A ∷ []) true).left) 0 2 ≡ pos 22528 }
     ensures decisions { (two_slices (0x2A ∷ []) true).at.decisions ≡ 8 }
+{}
+
+/// Two slices with the table `djvu`, worked out by another program after `docs/iw44.md`. Its rows tell contexts from each
+/// other, and from the IW form: in the second slice coefficient 0 is raised in the mantissa context.
+pub fn worked_contexts()
+    ensures answer { djvu_pair.answer ≡ step.SliceEnd }
+    ensures decisions { djvu_pair.at.decisions ≡ 8 }
+    ensures raised { coefficient (plane_of djvu_pair.left) 0 0 ≡ negsuc 28671 }
+    ensures started { coefficient (plane_of djvu_pair.left) 0 1 ≡ pos 22528 }
+    ensures unknown { coefficient (plane_of djvu_pair.left) 0 2 ≡ pos 0 }
+    ensures bucket { djvu_pair.at.states (Bucket 0 0) ≡ 145 }
+    ensures active_band { djvu_pair.at.states (Bucket 0 4) ≡ 145 }
+    ensures alone { djvu_pair.at.states (Start 1) ≡ 145 }
+    ensures two_left { djvu_pair.at.states (Start 10) ≡ 145 }
+    ensures after_a_start { djvu_pair.at.states (Start 8) ≡ 84 }
+    ensures mantissa { djvu_pair.at.states Mantissa ≡ 145 }
+    ensures place { djvu_pair.at.place ≡ Some (interval 0 0x6EFF 8) }
+{}
+
+/// The first slice of band 7 in which a threshold is in use, with an empty chunk: its root decision is 0, and no other
+/// context moves.
+pub fn worked_roots()
+    ensures answer { root_alone.answer ≡ step.SliceEnd }
+    ensures decisions { root_alone.at.decisions ≡ 1 }
+    ensures root { root_alone.at.states Root ≡ 84 }
+    ensures bucket { root_alone.at.states (Bucket 7 0) ≡ 0 }
 {}

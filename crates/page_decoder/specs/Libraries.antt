@@ -1,5 +1,5 @@
 -- Pages over a library: what included files give there, the reading of a page, its drawings, and the work of pages.
-use Rattle.std.specs.Prelude.{ℕ, zero, suc, ◌≡◌, ◌+◌, ◌==◌, Bool, List, [], ◌∷◌, length, map, sum, Option, Some, None, ⊤, ◌⊎◌, slice_get, if◌then◌else◌}
+use Rattle.std.specs.Prelude.{ℕ, zero, suc, ◌≡◌, ◌+◌, ◌==◌, Bool, List, [], ◌∷◌, length, map, sum_by, Option, Some, None, ⊤, ◌⊎◌, slice_get, if◌then◌else◌}
 use Rattle.std.specs.List.{list_any, range_with_len}
 use Rattle.djvu_base.specs.Library.{Mark, Open, File, Library}
 use Rattle.djvu_base.specs.Picture.{Picture}
@@ -134,8 +134,7 @@ file_work table library pages file = if list_any (is_reached table library file)
 -- the work of pages of a library: the decisions of their own chunks, and those of each file that they reach, once
 abbrev pub work_of : List Row → Library → List ℕ → ℕ
 work_of table library pages =
-    sum (map (λ page. (run table library page).left.told.decisions) pages)
-    + sum (map (file_work table library pages) (range_with_len 0 (length library)))
+    sum_by (λ page. (run table library page).left.told.decisions) pages + sum_by (file_work table library pages) (range_with_len 0 (length library))
 
 -- ---- libraries that go on
 

@@ -89,6 +89,14 @@ module _ (table : List Row) (library : Library) (results : ℕ → Option Result
       (listed graph made.target file made.files below made.list made.listed,
       ordered_holds graph IsResult result_step made.files (order graph made.target made.files below made.list) file made.listed (suc (length library)) most made.includes)
 
+  pub made_known : (of_made : (page file : ℕ) → IsMade table library results page file
+        → ((list : List ℕ) × (verdict_of (graph_of library) file ≡ verdict.Files list)) × (res_of table library file ≡ decode (given_in Included table library file results)))
+      → (file : ℕ) (it : Result) → results file ≡ Some it → results_in table library file ≡ Some it
+  made_known of_made file it e =
+      let there = built file it e in
+      let made = of_made there.page file there.made in
+      ap (λ v. result_where v (res_of table library file)) made.0.1 ∙ ap (λ (d : FileDone). Some d.result) made.1 ∙ ap Some (sym there.so)
+
 -- ---- libraries that go on
 
 module _ (table : List Row) (is : IsTable table) (library later : Library) (on : LibraryGoesOn library later) (alone : Alone) (stays : Stays) (outlines : OutlinesStay) where

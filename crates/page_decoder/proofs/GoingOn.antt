@@ -7,7 +7,8 @@ use Rattle.zp_table.specs.declared.rows.Row.{Row}
 use Rattle.include_graph.specs.declared.outline.Outline.{Outline}
 use Rattle.include_graph.specs.Outlines.{outline_of}
 use Rattle.page_decoder.specs.Results.{Result}
-use Rattle.page_decoder.specs.Given.{Role, Home, Front, Within}
+use Rattle.page_decoder.specs.Given.{Role, Home, Given, Front, Within}
+use Rattle.page_decoder.proofs.Retaining.{front_both}
 use Rattle.page_decoder.specs.Libraries.{names_in, outline_in_file, outlines_in, bytes_in, mark_in, given_in, FileGoesOn, LibraryGoesOn}
 
 pub names_stay : (library later : Library) → LibraryGoesOn library later → names_in library ≡ names_in later
@@ -35,6 +36,16 @@ file_on [] (after ∷ later) on file = absurd on
 file_on (before ∷ library) [] on file = absurd on
 file_on (before ∷ library) (after ∷ later) on zero = on.0
 file_on (before ∷ library) (after ∷ later) on (suc file) = file_on library later on.1 file
+
+-- bytes that go on, and on
+abbrev BytesOn : List ℕ → List ℕ → Mark → Mark → Type 0
+BytesOn a b m n = ((m ≡ Open) × Front a b) ⊎ ((a ≡ b) × (m ≡ n))
+
+bytes_both : (a b c : List ℕ) (l m n : Mark) → BytesOn a b l m → BytesOn b c m n → BytesOn a c l n
+bytes_both a b c l m n (inl g) (inl h) = inl (g.0, front_both a b c g.1 h.1)
+bytes_both a b c l m n (inl g) (inr h) = inl (g.0, (g.1.0, sym h.0 ∙ g.1.1))
+bytes_both a b c l m n (inr g) (inl h) = inl (g.1 ∙ h.0, (h.1.0, h.1.1 ∙ ap (λ x. x ++ h.1.0) (sym g.0)))
+bytes_both a b c l m n (inr g) (inr h) = inr (g.0 ∙ h.0, g.1 ∙ h.1)
 
 same_file : (file : File) → FileGoesOn file file
 same_file file = record { name = refl; bytes = inr (refl, refl) }
@@ -88,3 +99,30 @@ nothing_there (first ∷ library) (suc file) h = nothing_there library file (ome
 pub length_names : (library : Library) → length (names_in library) ≡ length library
 length_names [] = refl
 length_names (file ∷ library) = ap suc (length_names library)
+
+file_both : (a b c : File) → FileGoesOn a b → FileGoesOn b c → FileGoesOn a c
+file_both a b c on later = record {
+  name = on.name ∙ later.name;
+  bytes = bytes_both a.bytes b.bytes c.bytes a.mark b.mark c.mark on.bytes later.bytes;
+}
+
+pub library_both : (a b c : Library) → LibraryGoesOn a b → LibraryGoesOn b c → LibraryGoesOn a c
+library_both [] [] [] on later = tt
+library_both [] [] (x ∷ c) on later = absurd later
+library_both [] (y ∷ b) c on later = absurd on
+library_both (z ∷ a) [] c on later = absurd on
+library_both (z ∷ a) (y ∷ b) [] on later = absurd later
+library_both (z ∷ a) (y ∷ b) (x ∷ c) on later = (file_both z y x on.0 later.0, library_both a b c on.1 later.1)
+
+pub within_both : (a b c : Given) → Within a b → Within b c → Within a c
+within_both a b c on later = record {
+  home = on.home ∙ later.home;
+  known = record {
+    outlines = λ file outline e. later.known.outlines file outline (on.known.outlines file outline e);
+    results = λ file it e. later.known.results file it (on.known.results file it e);
+  };
+  bytes = bytes_both a.bytes b.bytes c.bytes a.mark b.mark c.mark on.bytes later.bytes;
+}
+
+pub within_same : (given : Given) → Within given given
+within_same given = record { home = refl; known = record { outlines = λ file outline e. e; results = λ file it e. e }; bytes = inr (refl, refl) }

@@ -1,6 +1,6 @@
 -- What a reading told is never taken back: each step tells no less than what was left before it.
-use Rattle.std.proofs.Common.{◌≡◌, ◌≤◌, ℕ, zero, suc, ◌+◌, Option, Some, None, List, [], ◌∷◌, ◌++◌, refl, sym, ap, ◌∙◌, arith, append_assoc}
-use Rattle.std.proofs.lemmas.List.{append-nil}
+use Rattle.std.proofs.Common.{◌≡◌, ◌≤◌, ℕ, zero, suc, ◌+◌, Option, Some, None, List, [], ◌∷◌, ◌++◌, map, refl, sym, ap, ◌∙◌, arith, append_assoc}
+use Rattle.std.proofs.lemmas.List.{append-nil, map-append}
 use Rattle.djvu_base.specs.declared.faults.FaultKind.{FaultKind}
 use Rattle.bit_plane.specs.Pixels.{Pixels}
 use Rattle.iw44_image.specs.Layer.{Data}
@@ -12,7 +12,7 @@ use Rattle.page_decoder.specs.Kinds as kind
 use Rattle.page_decoder.specs.Results.{Result, Dictionary, Nothing}
 use Rattle.page_decoder.specs.Results as result
 use Rattle.page_decoder.specs.Given.{Role, Page, Included, Home, Known, Front}
-use Rattle.page_decoder.specs.PageRead.{Told, Include, Left, PageRead}
+use Rattle.page_decoder.specs.PageRead.{notice_of, notices_of, Told, Include, Left, PageRead}
 use Rattle.page_decoder.specs.Headers.{Head, form_fault, header_fault}
 use Rattle.page_decoder.specs.ChunkData.{Outcome, Leaves, Unfinished, Fails, Came, came}
 use Rattle.page_decoder.specs.Acts.{Act, Kind, Reads, Close, Waits, Breaks, Over}
@@ -24,6 +24,9 @@ front_same xs = ([], sym (append-nil xs))
 
 pub front_both : {A : Type 0} (a b c : List A) → Front a b → Front b c → Front a c
 front_both a b c l m = (l.0 ++ m.0, m.1 ∙ ap (λ n. n ++ m.0) l.1 ∙ append_assoc a l.0 m.0)
+
+pub notices_front : (less more : Told) → Front less.drawings more.drawings → Front (notices_of less) (notices_of more)
+notices_front less more l = (map notice_of l.0, ap (map notice_of) l.1 ∙ map-append notice_of less.drawings l.0)
 
 pub below_same : (told : Told) → Below told told
 below_same told = record { drawings = front_same told.drawings; decisions = omega arith; reached = front_same told.reached }

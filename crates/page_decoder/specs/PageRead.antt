@@ -1,5 +1,5 @@
 -- What the reading of a file comes to.
-use Rattle.std.specs.Prelude.{ℕ, List, [], Option, Some, None}
+use Rattle.std.specs.Prelude.{ℕ, List, [], map, Option, Some, None}
 use Rattle.djvu_base.specs.Announced.{Announced}
 use Rattle.djvu_base.specs.declared.faults.Fault.{Fault}
 use Rattle.bit_plane.specs.Pixels.{Pixels}
@@ -33,6 +33,9 @@ pub record Told : Type 0 where
   pub drawings : List Drawing
   pub decisions : ℕ
   pub reached : List ℕ
+
+abbrev pub notices_of : Told → List Announced
+notices_of told = map notice_of told.drawings
 
 -- an include that was read and isn't resolved yet: the name that it holds, and where its chunk begins
 pub record Include : Type 0 where

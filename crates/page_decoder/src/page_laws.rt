@@ -6,8 +6,8 @@ ghost use Rattle.zp_table.specs.Rows.{IsTable};
 ghost use Rattle.include_graph.specs.declared.outline.Outline.{Outline};
 ghost use Rattle.include_graph.specs.Verdicts.{is_among};
 ghost use Rattle.page_decoder.specs.Results.{Result, Refused as RefusedFile};
-ghost use Rattle.page_decoder.specs.Given.{Page, Included, Home, Known, Given, Within};
-ghost use Rattle.page_decoder.specs.PageRead.{Left, Finished, Refused, NeedBytes, NeedOutline, NeedFile};
+ghost use Rattle.page_decoder.specs.Given.{Page, Included, Home, Known, Given, Within, Front};
+ghost use Rattle.page_decoder.specs.PageRead.{notices_of, Left, Finished, Refused, NeedBytes, NeedOutline, NeedFile};
 ghost use Rattle.page_decoder.specs.Acts.{Act, Close};
 ghost use Rattle.page_decoder.specs.Read.{after, read_from, step_through, read, decode};
 ghost use Rattle.page_decoder.specs.Needs.{Below, Lacks, Because, are_bytes, last_layers, IsOutlined, IncludesFile};
@@ -19,6 +19,7 @@ pub mod worked;
 /// left, and so does one whose need isn't met.
 pub fn growth()
     ensures told { (less more : Given) → IsTable less.home.table → Within less more → Below (read less).left.told (read more).left.told }
+    ensures notices { (less more : Given) → IsTable less.home.table → Within less more → Front (notices_of (read less).left.told) (notices_of (read more).left.told) }
     ensures finished { (less more : Given) → IsTable less.home.table → Within less more → (read less).end ≡ Finished → read more ≡ read less }
     ensures refused { (less more : Given) (fault : Fault) → IsTable less.home.table → Within less more → (read less).end ≡ Refused fault → read more ≡ read less }
     ensures unmet { (less more : Given) → IsTable less.home.table → Within less more → Lacks less more (read less).end → read more ≡ read less }
@@ -30,6 +31,12 @@ pub fn growth()
     iw44_image::laws::layers_grow();
     include_graph::laws::verdicts_stay();
 }
+
+/// What is given only grows: from less to more, and on to what is given later.
+pub fn given_grows()
+    ensures same { (given : Given) → Within given given }
+    ensures both { (less more most : Given) → Within less more → Within more most → Within less most }
+{}
 
 /// A reading of some acts and then of others is that of the first ones, and then, from what these left, of the others.
 pub fn acts()

@@ -2,7 +2,8 @@
 ghost use Rattle.std.specs.Prelude.{◌≡◌, [], ◌∷◌, ◌++◌, take, codes};
 ghost use Rattle.djvu_base.specs.Library.{Open, Whole};
 ghost use Rattle.djvu_base.specs.declared.faults.FaultKind.TheVariants as fault;
-ghost use Rattle.iff_chunks.specs.Worked.{header, page, sized_page, form_with};
+ghost use Rattle.iff_chunks.specs.Chunks.{magic};
+ghost use Rattle.iff_chunks.specs.Worked.{header, page, sized_page, form_with, form_of_length, info_bytes};
 ghost use Rattle.include_graph.specs.Worked.{include_of};
 ghost use Rattle.zp_table.specs.Listing.{flat_rows, djvu_rows};
 ghost use Rattle.layer_compose.specs.Drawing.{raster_of};
@@ -54,6 +55,24 @@ pub fn worked_pages()
     ensures no_mask { Tells (read (page_with djvu_rows Whole (page 30 (mask_chunk 0 [])))) ((1, 765) ∷ []) 4 (faulty fault.MaskSize 0 34) }
     ensures own_dictionary { Tells (read_alone Whole (page 48 (dot_dictionary ++ copying_mask))) ((1, 765) ∷ (3, 0) ∷ []) 52 Finished }
     ensures mark_in_dictionary { Tells (read_alone Whole (page 32 (dictionary_chunk 1 (0x7F ∷ 0 ∷ [])))) ((1, 765) ∷ []) 3 (faulty fault.Jb2Record 0 34) }
+{}
+
+/// Pages that are broken: at the head, at the end of their bytes, in a header, and in records.
+pub fn worked_broken_pages()
+    ensures length_3 { Tells (read_alone Whole (form_of_length (0 ∷ 0 ∷ 0 ∷ 3 ∷ []))) [] 0 (faulty fault.NotForm 0 0) }
+    ensures no_header { Tells (read_alone Whole (take 16 (page 22 []))) [] 0 (faulty fault.Truncated 0 0) }
+    ensures in_header { Tells (read_alone Whole (take 20 (page 22 []))) [] 0 (faulty fault.Truncated 0 16) }
+    ensures three_left { Tells (read_alone Whole (page 25 (0 ∷ 0 ∷ 0 ∷ []))) ((1, 765) ∷ []) 0 (faulty fault.ShortHeader 0 34) }
+    ensures bad_id { Tells (read_alone Whole (page 30 (header (0x42 ∷ 0x00 ∷ 0x34 ∷ 0x34 ∷ []) 0))) ((1, 765) ∷ []) 0 (faulty fault.BadId 0 34) }
+    ensures too_long { Tells (read_alone Whole (magic ++ form_of_length (0x00 ∷ 0x1F ∷ 0xFF ∷ 0xF5 ∷ codes "DJVU"))) [] 0 (faulty fault.TooLarge 0 0) }
+    ensures longest { Tells (read_alone Whole (magic ++ form_of_length (0x00 ∷ 0x1F ∷ 0xFF ∷ 0xF4 ∷ (codes "DJVU" ++ (header (codes "INFO") 10 ++ info_bytes))))) ((1, 765) ∷ []) 0 (faulty fault.Truncated 0 34) }
+    ensures second_start { Tells (read_alone Whole (page 32 (mask_chunk 2 (0xB7 ∷ 0xFF ∷ [])))) ((1, 765) ∷ []) 9 (faulty fault.Jb2SecondStart 0 34) }
+    ensures no_match { Tells (read_alone Whole (page 32 (mask_chunk 2 (0xB7 ∷ 0x1F ∷ [])))) ((1, 765) ∷ []) 14 (faulty fault.Jb2NoMatch 0 34) }
+    ensures sized_dictionary { Tells (read_alone Whole (page 32 (dictionary_chunk 1 (0xBF ∷ 0 ∷ [])))) ((1, 765) ∷ []) 6 (faulty fault.Jb2Dictionary 0 34) }
+    ensures two_masks { Tells (read_alone Whole (page 46 (mask_chunk 4 dot_bytes ++ mask_chunk 4 dot_bytes))) ((1, 765) ∷ (2, 0) ∷ []) 29 (faulty fault.SecondMask 0 46) }
+    ensures two_dictionaries { Tells (read_alone Whole (page 42 (dot_dictionary ++ header (codes "Djbz") 0))) ((1, 765) ∷ []) 18 (faulty fault.SecondDictionary 0 46) }
+    ensures two_fronts { Tells (read_alone Whole (page 48 (front_chunk 9 (0 ∷ 1 ∷ 0x81 ∷ 2 ∷ 0 ∷ 1 ∷ 0 ∷ 1 ∷ 0 ∷ 0 ∷ []) ++ header (codes "FG44") 0))) ((1, 765) ∷ (2, 765) ∷ []) 1 (faulty fault.SecondFront 0 52) }
+    ensures no_name { Tells (read_alone Whole (page 30 (header (codes "INCL") 0))) ((1, 765) ∷ []) 0 (faulty fault.BadIncludeName 0 34) }
 {}
 
 /// Pages that are turned: to the right, to the left, over, and not at all.

@@ -5,6 +5,7 @@ use Rattle.page_decoder.specs.PageRead.{PageRead}
 use Rattle.page_decoder.specs.Given.{Given, Within}
 use Rattle.page_decoder.specs.Read.{read}
 use Rattle.page_decoder.specs.Needs.{Lacks}
+use Rattle.page_decoder.proofs.Retaining.{notices_front}
 use Rattle.page_decoder.proofs.Further.{Grows}
 use Rattle.page_decoder.proofs.Coming.{data_on}
 use Rattle.page_decoder.proofs.Acting.{Stay}
@@ -36,6 +37,10 @@ both c less more is within = compared (stay c) less more (grows c less.home.tabl
 
 pub returns-clause-told : goal.returns-clause-told
 returns-clause-told c less more is within = let k = both c less more is within in further_below k.more more.known (read less) (read more) k.further
+
+pub returns-clause-notices : goal.returns-clause-notices
+returns-clause-notices c less more is within =
+    notices_front (read less).left.told (read more).left.told (returns-clause-told c less more is within).drawings
 
 pub returns-clause-finished : goal.returns-clause-finished
 returns-clause-finished c less more is within e = lacks_same less more (both c less more is within) (subst (λ x. Lacks less more x) (sym e) tt)

@@ -9,7 +9,7 @@ use Rattle.include_graph.specs.Verdicts.{is_among, verdict_of}
 use Rattle.page_decoder.specs.Given.{Within}
 use Rattle.page_decoder.specs.Read.{FileDone, read}
 use Rattle.page_decoder.specs.Libraries.{names_in, graph_of, res_of, run_given, run, is_reached, file_work, work_of, LibraryGoesOn}
-use Rattle.page_decoder.proofs.GoingOn.{length_stays}
+use Rattle.page_decoder.proofs.GoingOn.{same_library, library_both, within_library, length_stays}
 use Rattle.page_decoder.proofs.Building.{res_stays}
 use Rattle.page_decoder.proofs.Working.{reached_listed, list_stays, own_stays, within_run, sum_grows, any_grows, any_found, file_grows}
 use Rattle.page_decoder.proofs.page_laws.libraries.libraries_go_on.Goals as goal
@@ -53,6 +53,16 @@ module _ (c : goal.After-outlines_stay) (table : List Row) (library later : Libr
       let files = sum_grows (file_work table library pages) (file_work table later pages) (files_grow pages) (range_with_len 0 (length library)) in
       subst (λ n. work_of table library pages ≤ sum_by (λ page. (run table later page).left.told.decisions) pages
       + sum_by (file_work table later pages) (range_with_len 0 n)) (length_stays library later on) (omega (arith, own, files))
+
+pub returns-clause-same : goal.returns-clause-same
+returns-clause-same c library = same_library library
+
+pub returns-clause-both : goal.returns-clause-both
+returns-clause-both c library later latest on more = library_both library later latest on more
+
+pub returns-clause-files : goal.returns-clause-files
+returns-clause-files c role table library later file less more on results =
+    within_library c.outlines_stay.ensures.stays role table library later file less more on results
 
 pub returns-clause-results : goal.returns-clause-results
 returns-clause-results c table library later file files is on e = (lists c table library later is on file files e, owns c table library later is on file files e)

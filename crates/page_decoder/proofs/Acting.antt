@@ -29,7 +29,8 @@ same_longer more close [] = at_last refl
 same_longer more close (act ∷ acts) = behind act acts acts (same_longer more close acts)
 
 -- before the FORM's kind is there no act
-none_before : (whole : List Chunk) (tail : Tail) → InOrder AtForm (events_of (record { form = None; whole = whole; tail = tail })) → complete_acts whole ++ tail_acts tail ≡ []
+none_before : (whole : List Chunk) (tail : Tail) → InOrder AtForm (events_of (record { form = None; whole = whole; tail = tail }))
+    → complete_acts whole ++ tail_acts tail ≡ []
 none_before [] InHead order = refl
 none_before [] (InHeader offset bytes) order = refl
 none_before [] (InData chunk) order = absurd order
@@ -74,14 +75,14 @@ module _ (long : Close) where
       by (inl l) =
           let rest = complete_act still.grown ∷ (complete_acts l.0 ++ tail_acts chunks.tail) in
           let parts : complete_acts chunks.whole ++ tail_acts chunks.tail ≡ complete_acts whole ++ rest =
-              ap (λ w. complete_acts w ++ tail_acts chunks.tail) l.1 ∙ ap (λ acts. acts ++ tail_acts chunks.tail) (complete-append whole (still.grown ∷ l.0))
-              ∙ append_assoc (complete_acts whole) (complete_acts (still.grown ∷ l.0)) (tail_acts chunks.tail) in
+          ap (λ w. complete_acts w ++ tail_acts chunks.tail) l.1 ∙ ap (λ acts. acts ++ tail_acts chunks.tail) (complete-append whole (still.grown ∷ l.0))
+          ∙ append_assoc (complete_acts whole) (complete_acts (still.grown ∷ l.0)) (tail_acts chunks.tail) in
           subst (λ acts. Longer true Waits long (complete_acts whole ++ open_act chunk ∷ []) acts) (sym parts)
           (prefix_longer (complete_acts whole) (open_act chunk ∷ []) rest
           (grown_longer chunk still.grown still.is_grown true (complete_acts l.0 ++ tail_acts chunks.tail)))
       by (inr same) =
           let parts : complete_acts chunks.whole ++ tail_acts chunks.tail ≡ complete_acts whole ++ open_act still.grown ∷ [] =
-              ap (λ w. complete_acts w ++ tail_acts chunks.tail) same.0 ∙ ap (λ t. complete_acts whole ++ tail_acts t) same.1 in
+          ap (λ w. complete_acts w ++ tail_acts chunks.tail) same.0 ∙ ap (λ t. complete_acts whole ++ tail_acts t) same.1 in
           subst (λ acts. Longer true Waits long (complete_acts whole ++ open_act chunk ∷ []) acts) (sym parts)
           (prefix_longer (complete_acts whole) (open_act chunk ∷ []) (open_act still.grown ∷ []) (grown_longer chunk still.grown still.is_grown false []))
 
@@ -90,19 +91,22 @@ module _ (long : Close) where
   waits_longer whole chunks l =
       let rest = complete_acts l.0 ++ tail_acts chunks.tail in
       let parts : complete_acts chunks.whole ++ tail_acts chunks.tail ≡ complete_acts whole ++ rest =
-          ap (λ w. complete_acts w ++ tail_acts chunks.tail) l.1 ∙ ap (λ acts. acts ++ tail_acts chunks.tail) (complete-append whole l.0)
-          ∙ append_assoc (complete_acts whole) (complete_acts l.0) (tail_acts chunks.tail) in
-      subst (λ acts. Longer true Waits long (complete_acts whole ++ []) acts) (sym parts) (prefix_longer (complete_acts whole) [] rest (at_wait refl refl rest))
+      ap (λ w. complete_acts w ++ tail_acts chunks.tail) l.1 ∙ ap (λ acts. acts ++ tail_acts chunks.tail) (complete-append whole l.0)
+      ∙ append_assoc (complete_acts whole) (complete_acts l.0) (tail_acts chunks.tail) in
+      subst (λ acts. Longer true Waits long (complete_acts whole ++ []) acts) (sym parts)
+      (prefix_longer (complete_acts whole) [] rest (at_wait refl refl rest))
 
   -- the acts of a file whose bytes end within the FORM
-  open_longer : (form other : Option Form) (whole : List Chunk) (tail : Tail) (chunks : Chunks) → chunks.form ≡ other → ((f : Form) → form ≡ Some f → other ≡ Some f)
+  open_longer : (form other : Option Form) (whole : List Chunk) (tail : Tail) (chunks : Chunks) → chunks.form ≡ other
+      → ((f : Form) → form ≡ Some f → other ≡ Some f)
       → InOrder AtForm (events_of (record { form = form; whole = whole; tail = tail }))
       → Longer true Waits long (complete_acts whole ++ tail_acts tail) (complete_acts chunks.whole ++ tail_acts chunks.tail)
       → Longer true Waits long (form_acts form ++ (complete_acts whole ++ tail_acts tail)) (acts_of chunks)
   open_longer None other whole tail chunks e on order l =
       subst (λ acts. Longer true Waits long acts (acts_of chunks)) (sym (none_before whole tail order)) (at_wait refl refl (acts_of chunks))
   open_longer (Some f) other whole tail chunks e on order l =
-      subst (λ o. Longer true Waits long (Kind f.kind ∷ (complete_acts whole ++ tail_acts tail)) (form_acts o ++ (complete_acts chunks.whole ++ tail_acts chunks.tail)))
+      subst (λ o. Longer true Waits long (Kind f.kind ∷ (complete_acts whole ++ tail_acts tail))
+      (form_acts o ++ (complete_acts chunks.whole ++ tail_acts chunks.tail)))
       (sym (e ∙ on f refl)) (behind (Kind f.kind) (complete_acts whole ++ tail_acts tail) (complete_acts chunks.whole ++ tail_acts chunks.tail) l)
 
 abbrev pub close_by : Mark → ℕ → Chunks → Close
@@ -139,14 +143,16 @@ module _ (mark : Mark) (bytes more : List ℕ) (stay : Stay bytes more) where
 
   -- an open tail
   open_so : (tail : Tail) → few.tail ≡ tail → close_of (origin_of few.form) tail ≡ Waits
-      → Longer true Waits (close_in mark (bytes ++ more)) (complete_acts few.whole ++ tail_acts few.tail) (complete_acts many.whole ++ tail_acts many.tail) → Goal
+      → Longer true Waits (close_in mark (bytes ++ more)) (complete_acts few.whole ++ tail_acts few.tail)
+      (complete_acts many.whole ++ tail_acts many.tail) → Goal
   open_so tail e waits l =
       subst (λ c. Longer true c (close_in mark (bytes ++ more)) (acts_of few) (acts_of many)) (sym (ap (λ t. close_of (origin_of few.form) t) e ∙ waits))
       (open_longer (close_in mark (bytes ++ more)) few.form many.form few.whole few.tail many refl stay.form stay.order l)
 
   waits_so : (tail : Tail) → few.tail ≡ tail → tail_acts tail ≡ [] → close_of (origin_of few.form) tail ≡ Waits → Goal
   waits_so tail e none waits =
-      open_so tail e waits (subst (λ acts. Longer true Waits (close_in mark (bytes ++ more)) (complete_acts few.whole ++ acts) (complete_acts many.whole ++ tail_acts many.tail))
+      open_so tail e waits (subst (λ acts. Longer true Waits (close_in mark (bytes ++ more)) (complete_acts few.whole ++ acts)
+      (complete_acts many.whole ++ tail_acts many.tail))
       (sym (ap tail_acts e ∙ none)) (waits_longer (close_in mark (bytes ++ more)) few.whole many stay.whole))
 
   -- a tail that stays
@@ -154,11 +160,12 @@ module _ (mark : Mark) (bytes more : List ℕ) (stay : Stay bytes more) where
   settled tail e same ends =
       let long = close_in mark (bytes ++ more) in
       let stays : long ≡ close_in Open bytes =
-          ap (close_by mark (length (bytes ++ more))) same
-          ∙ ap (λ t. close_of (origin_of few.form) (closed mark (length (bytes ++ more)) few.whole t)) e
-          ∙ ap (λ t. close_of (origin_of few.form) t) (ends mark (length (bytes ++ more)) few.whole ∙ sym e) in
+      ap (close_by mark (length (bytes ++ more))) same
+      ∙ ap (λ t. close_of (origin_of few.form) (closed mark (length (bytes ++ more)) few.whole t)) e
+      ∙ ap (λ t. close_of (origin_of few.form) t) (ends mark (length (bytes ++ more)) few.whole ∙ sym e) in
       subst (λ c. Longer true (close_in Open bytes) c (acts_of few) (acts_of many)) (sym stays)
-      (subst (λ c. Longer true (close_in Open bytes) (close_in Open bytes) (acts_of few) (acts_of c)) (sym same) (same_longer true (close_in Open bytes) (acts_of few)))
+      (subst (λ c. Longer true (close_in Open bytes) (close_in Open bytes) (acts_of few) (acts_of c)) (sym same)
+      (same_longer true (close_in Open bytes) (acts_of few)))
 
   by_tail : (tail : Tail) → few.tail ≡ tail → Goal
   by_tail InHead e = waits_so InHead e refl refl

@@ -39,7 +39,8 @@ next_below home known order file next = listed_below home known order home.role 
 
 module _ (home : Home) (known : Known)
     (asks : (graph : Graph) (target file : ℕ) → target < length graph.names → verdict_of graph target ≡ verdict.NeedOutline file → graph.outlines file ≡ None)
-    (asked : (graph : Graph) (target file : ℕ) → target < length graph.names → verdict_of graph target ≡ verdict.NeedOutline file → file < length graph.names) where
+    (asked : (graph : Graph) (target file : ℕ) → target < length graph.names → verdict_of graph target ≡ verdict.NeedOutline file → file
+    < length graph.names) where
   lacking_by : (role : Role) (target file : ℕ) → target < length home.names → listing role home known target ≡ verdict.NeedOutline file
       → (known.outlines file ≡ None) × (file < length home.names)
   lacking_by Page target file below e = (asks (graph_known home known) target file below e, asked (graph_known home known) target file below e)

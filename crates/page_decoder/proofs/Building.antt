@@ -30,7 +30,8 @@ Stays = (less more : Given) (outline : Outline) → IsTable less.home.table → 
     → ((file : ℕ) → IncludesFile less.home.names outline file → (it : Result) × (less.known.results file ≡ Some it)) → decode more ≡ decode less
 
 abbrev pub Short : Type 0
-Short = (graph : Graph) (file : ℕ) (files : List ℕ) → file < length graph.names → verdict_of graph file ≡ verdict.Files files → length files ≤ length graph.names
+Short = (graph : Graph) (file : ℕ) (files : List ℕ) → file < length graph.names → verdict_of graph file ≡ verdict.Files files → length files
+    ≤ length graph.names
 
 some_file : (library : Library) (file : ℕ) (outline : Outline) → outlines_in library file ≡ Some outline
     → outline_of (mark_in (slice_get library file)) (bytes_in (slice_get library file)) ≡ Some outline
@@ -41,7 +42,8 @@ some_file library file outline e = by (slice_get library file) e
     by (Some it) e = e
 
 -- a file of an ordered list has an outline without a fault
-served_outlined : (table : List Row) (library : Library) (results : ℕ → Option Result) (before : List ℕ) (file : ℕ) (served : IsServed (graph_of library) before file)
+served_outlined : (table : List Row) (library : Library) (results : ℕ → Option Result) (before : List ℕ) (file : ℕ)
+    (served : IsServed (graph_of library) before file)
     → IsOutlined (given_in Included table library file results) served.outline
 served_outlined table library results before file served = record {
   known = some_file library file served.outline served.known;
@@ -77,20 +79,25 @@ module _ (table : List Row) (library : Library) (results : ℕ → Option Result
           let same = all other (includes_before (graph_of library) before file other served it) there.made.includes in
           good.known ∙ ap Some (there.so ∙ ap (λ (d : FileDone). d.result) (sym same))
 
-  pub made_results : Order → Short → (listed : (graph : Graph) (target file : ℕ) (files : List ℕ) → target < length graph.names → verdict_of graph target ≡ verdict.Files files
-        → is_among file files ≡ true → (list : List ℕ) × (verdict_of graph file ≡ verdict.Files list))
+  pub made_results : Order → Short → (listed : (graph : Graph) (target file : ℕ) (files : List ℕ) → target < length graph.names
+      → verdict_of graph target ≡ verdict.Files files
+      → is_among file files ≡ true → (list : List ℕ) × (verdict_of graph file ≡ verdict.Files list))
       → (page file : ℕ) → IsMade table library results page file
-      → ((list : List ℕ) × (verdict_of (graph_of library) file ≡ verdict.Files list)) × (res_of table library file ≡ decode (given_in Included table library file results))
+      → ((list : List ℕ) × (verdict_of (graph_of library) file ≡ verdict.Files list))
+      × (res_of table library file ≡ decode (given_in Included table library file results))
   made_results order short listed page file made =
       let graph = graph_of library in
       let below : made.target < length (names_in library) = subst (λ n. made.target < n) (sym (length_names library)) made.below in
       let few = short graph made.target made.files below made.list in
-      let most : length made.files ≤ suc (length library) = subst (λ n. length made.files ≤ suc n) (length_names library) (omega (arith, few)) in
-      (listed graph made.target file made.files below made.list made.listed,
-      ordered_holds graph IsResult result_step made.files (order graph made.target made.files below made.list) file made.listed (suc (length library)) most made.includes)
+      let most : length made.files ≤ suc (length library) = subst (λ n. length made.files ≤ suc n) (length_names library) (omega (arith, few)) in (
+        listed graph made.target file made.files below made.list made.listed,
+        ordered_holds graph IsResult result_step made.files (order graph made.target made.files below made.list) file made.listed
+            (suc (length library)) most made.includes,
+      )
 
   pub made_known : (of_made : (page file : ℕ) → IsMade table library results page file
-        → ((list : List ℕ) × (verdict_of (graph_of library) file ≡ verdict.Files list)) × (res_of table library file ≡ decode (given_in Included table library file results)))
+      → ((list : List ℕ) × (verdict_of (graph_of library) file ≡ verdict.Files list))
+      × (res_of table library file ≡ decode (given_in Included table library file results)))
       → (file : ℕ) (it : Result) → results file ≡ Some it → results_in table library file ≡ Some it
   made_known of_made file it e =
       let there = built file it e in
@@ -99,7 +106,8 @@ module _ (table : List Row) (library : Library) (results : ℕ → Option Result
 
 -- ---- libraries that go on
 
-module _ (table : List Row) (is : IsTable table) (library later : Library) (on : LibraryGoesOn library later) (alone : Alone) (stays : Stays) (outlines : OutlinesStay) where
+module _ (table : List Row) (is : IsTable table) (library later : Library) (on : LibraryGoesOn library later) (alone : Alone) (stays : Stays)
+    (outlines : OutlinesStay) where
   abbrev IsSame : ℕ → ℕ → Type 0
   IsSame depth file = res table library depth file ≡ res table later depth file
 
@@ -115,7 +123,8 @@ module _ (table : List Row) (is : IsTable table) (library later : Library) (on :
       (within_library outlines Included table library later file more more on (λ other it e. e)) refl (served_outlined table library more before file served)
       (λ other it. ((res table later depth other).result, refl)))
 
-  pub res_stays : Order → Short → (target file : ℕ) (files : List ℕ) → target < length (names_in library) → verdict_of (graph_of library) target ≡ verdict.Files files
+  pub res_stays : Order → Short → (target file : ℕ) (files : List ℕ) → target < length (names_in library)
+      → verdict_of (graph_of library) target ≡ verdict.Files files
       → is_among file files ≡ true → res_of table library file ≡ res_of table later file
   res_stays order short target file files below list m =
       let few = short (graph_of library) target files below list in

@@ -52,7 +52,8 @@ sized_on : (fault : Option FaultKind) (bytes more : List ℕ) (ended : Bool) (de
 sized_on (Some kind) bytes more ended decoded = record { unfinished = λ other e. cc; fails = λ other e. refl }
 sized_on None bytes more ended decoded = waiting_on (sized None (data_of (bytes ++ more) ended) decoded)
 
-info_on : (bytes more : List ℕ) (ended : Bool) (decoded : Decoded) → OutcomeOn (info_outcome (part bytes) decoded) (info_outcome (data_of (bytes ++ more) ended) decoded)
+info_on : (bytes more : List ℕ) (ended : Bool) (decoded : Decoded)
+    → OutcomeOn (info_outcome (part bytes) decoded) (info_outcome (data_of (bytes ++ more) ended) decoded)
 info_on bytes more ended decoded = by (leb 4 (length bytes)) refl
   where
     by : (enough : Bool) → leb 4 (length bytes) ≡ enough
@@ -62,10 +63,11 @@ info_on bytes more ended decoded = by (leb 4 (length bytes)) refl
         let enough : 4 ≤ length bytes = leb-true 4 (length bytes) e in
         let many = data_of (bytes ++ more) ended in
         let same : info_outcome many decoded ≡ sized (size_fault (size_in bytes)) many decoded =
-            ap (λ t. cond t (sized (size_fault (size_in (bytes ++ more))) many decoded) Unfinished)
-            (le-leb 4 (length (bytes ++ more)) (omega (arith, enough, length-append bytes more)))
-            ∙ ap (λ n. sized (size_fault n) many decoded) (first_numbers bytes more enough) in
-        subst (λ o. OutcomeOn (sized (size_fault (size_in bytes)) (part bytes) decoded) o) (sym same) (sized_on (size_fault (size_in bytes)) bytes more ended decoded)
+        ap (λ t. cond t (sized (size_fault (size_in (bytes ++ more))) many decoded) Unfinished)
+        (le-leb 4 (length (bytes ++ more)) (omega (arith, enough, length-append bytes more)))
+        ∙ ap (λ n. sized (size_fault n) many decoded) (first_numbers bytes more enough) in
+        subst (λ o. OutcomeOn (sized (size_fault (size_in bytes)) (part bytes) decoded) o) (sym same)
+        (sized_on (size_fault (size_in bytes)) bytes more ended decoded)
 
 -- records
 
@@ -111,7 +113,8 @@ layers_wait (iw44.Fault kind) bytes decoded other e = cc
 
 layers_fail : (answer : Answer) (short long : LayerReading) (before : ℕ) (bytes : List ℕ) (many : Data) (leaves other : Picture → Decoded) (kind : FaultKind)
     → ((found : FaultKind) → short.answer ≡ iw44.Fault found → long ≡ short) → short.answer ≡ answer
-    → layer_outcome answer (part bytes) (leaves (picture_in short.layer)) ≡ Fails kind → layer_by long before many other ≡ layer_by short before (part bytes) leaves
+    → layer_outcome answer (part bytes) (leaves (picture_in short.layer)) ≡ Fails kind
+    → layer_by long before many other ≡ layer_by short before (part bytes) leaves
 layers_fail iw44.Done short long before bytes many leaves other kind settled e f = cc
 layers_fail iw44.Need short long before bytes many leaves other kind settled e f = cc
 layers_fail (iw44.Fault found) short long before bytes many leaves other kind settled e f =
@@ -126,7 +129,7 @@ pub record LayersGrow : Type 0 where
       → read_layer table allowed (chunks ++ data_of (bytes ++ more) ended ∷ []) ≡ read_layer table allowed (chunks ++ part bytes ∷ [])
   pub decisions : (table : List Row) (allowed : Allowed) (chunks : List Data) (bytes more : List ℕ) (ended : Bool) → IsTable table
       → (read_layer table allowed (chunks ++ part bytes ∷ [])).layer.decisions
-        ≤ (read_layer table allowed (chunks ++ data_of (bytes ++ more) ended ∷ [])).layer.decisions
+      ≤ (read_layer table allowed (chunks ++ data_of (bytes ++ more) ended ∷ [])).layer.decisions
 
 module _ (table : List Row) (is : IsTable table) (law : RecordsGrow) (layers_law : LayersGrow) where
   layer_on : (allowed : Allowed) (chunks : List Data) (before : ℕ) (bytes more : List ℕ) (ended : Bool) (leaves other : Picture → Decoded)
@@ -148,7 +151,8 @@ module _ (table : List Row) (is : IsTable table) (law : RecordsGrow) (layers_law
       (records_by (jb2.records_of (records_in table purpose (data_of (bytes ++ more) ended) decoded)) (data_of (bytes ++ more) ended) other)
   purpose_on purpose bytes more ended decoded d other =
       let few = records_in table purpose (part bytes) decoded in
-      records_on (jb2.records_of few) (jb2.records_of (records_in table purpose (data_of (bytes ++ more) ended) decoded)) bytes (data_of (bytes ++ more) ended) d other
+      records_on (jb2.records_of few) (jb2.records_of (records_in table purpose (data_of (bytes ++ more) ended) decoded)) bytes
+      (data_of (bytes ++ more) ended) d other
       (law few more ended is refl)
 
   dictionary_on : (bytes more : List ℕ) (ended : Bool) (decoded : Decoded)
@@ -163,7 +167,8 @@ module _ (table : List Row) (is : IsTable table) (law : RecordsGrow) (layers_law
   front_on : (layers : Option Layers) (bytes more : List ℕ) (ended : Bool) (decoded : Decoded)
       → CameOn (front_came layers table (part bytes) decoded) (front_came layers table (data_of (bytes ++ more) ended) decoded)
   front_on None bytes more ended decoded = waits_on (plainly Unfinished)
-  front_on (Some layers) bytes more ended decoded = layer_on (allowed_on layers front_limit) [] 0 bytes more ended (with_front layers decoded) (with_front layers decoded)
+  front_on (Some layers) bytes more ended decoded =
+      layer_on (allowed_on layers front_limit) [] 0 bytes more ended (with_front layers decoded) (with_front layers decoded)
 
   back_on : (layers : Option Layers) (bytes more : List ℕ) (ended : Bool) (decoded : Decoded)
       → CameOn (back_came layers table (part bytes) decoded) (back_came layers table (data_of (bytes ++ more) ended) decoded)

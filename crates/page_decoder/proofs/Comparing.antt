@@ -26,7 +26,12 @@ module _ (home : Home) (a b : Known) (on : KnowsMore a b) (grows : Grows home.ta
   same_bytes bytes mark =
       let close = close_in mark bytes in
       let acts = acts_of (chunks_of bytes) in
-      record { more = false; told = λ e same. cc; further = longer_further false home a b on grows close close acts acts (same_longer false close acts) at_start }
+      record {
+        more = false;
+        told = λ e same. cc;
+        further =
+            longer_further false home a b on grows close close acts acts (same_longer false close acts) at_start;
+      }
 
   more_bytes : (bytes rest : List ℕ) (mark : Mark) → Stay bytes rest → ((bytes ≡ bytes ++ rest) × (Open ≡ mark) → ⊥)
       → Compared (given_so home a bytes Open) (given_so home b (bytes ++ rest) mark)

@@ -18,7 +18,8 @@ use Rattle.page_decoder.proofs.GoingOn.{length_names}
 -- the law of faults
 abbrev pub FaultsBelow : Type 0
 FaultsBelow = (given : Given) (fault : Fault) → given.home.file < length given.home.names
-    → ((file : ℕ) (other : Fault) → file < length given.home.names → given.known.results file ≡ Some (result.Refused other) → other.place.file < length given.home.names)
+    → ((file : ℕ) (other : Fault) → file < length given.home.names → given.known.results file ≡ Some (result.Refused other) → other.place.file
+    < length given.home.names)
     → (read given).end ≡ Refused fault → fault.place.file < length given.home.names
 
 result_fault : (found : Option (List Pixels)) (fault : Fault) → result_of found ≡ result.Refused fault → ⊥

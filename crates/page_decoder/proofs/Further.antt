@@ -94,7 +94,8 @@ module _ (more : Bool) (home : Home) (a b : Known) (on : KnowsMore a b) (grows :
   files_later : (files : List ℕ) (found : Option (List Pixels)) (left : Left) → Later more b (in_files a files found left) (in_files b files found left)
   files_later [] found left = alike refl
   files_later (file ∷ files) found left =
-      result_later more b file (a.results file) (b.results file) (in_files a files) (in_files b files) left (on.results file) refl (files_later files) (files_below b files)
+      result_later more b file (a.results file) (b.results file) (in_files a files) (in_files b files) left (on.results file) refl (files_later files)
+      (files_below b files)
 
   same_later : (it : Verdict) (left : Left) → Later more b (at_verdict a it left) (at_verdict b it left)
   same_later (verdict.Files files) left = files_later files None left
@@ -147,7 +148,8 @@ module _ (more : Bool) (home : Home) (a b : Known) (on : KnowsMore a b) (grows :
       after_further more b (all_resolved home a left) (all_resolved home b left) finished finished (λ now. same refl) (λ now. below_same now.told)
       (resolved_later left.decoded.pending left)
 
-  over_further : (role : Role) (chunks origin : ℕ) (left : Left) → Further more b (at_over role chunks home a origin left) (at_over role chunks home b origin left)
+  over_further : (role : Role) (chunks origin : ℕ) (left : Left)
+      → Further more b (at_over role chunks home a origin left) (at_over role chunks home b origin left)
   over_further Page zero origin left = same refl
   over_further Page (suc chunks) origin left = ended_further left
   over_further Included chunks origin left = ended_further left
@@ -166,18 +168,20 @@ pub data Longer (more : Bool) (short long : Close) : List Act → List Act → T
       → Longer more short long (Reads head (data_of bytes false) ∷ []) (Reads head (data_of (bytes ++ rest) ended) ∷ acts)
   behind : (act : Act) (acts others : List Act) → Longer more short long acts others → Longer more short long (act ∷ acts) (act ∷ others)
 
-outcome_further : (more : Bool) (home : Home) (a b : Known) (long : Close) (head : Head) (it now : Came) (outcome : Outcome) (acts : List Act) (left : Left) → more ≡ true
+outcome_further : (more : Bool) (home : Home) (a b : Known) (long : Close) (head : Head) (it now : Came) (outcome : Outcome) (acts : List Act)
+    (left : Left) → more ≡ true
     → it.outcome ≡ outcome → CameOn it now
-    → Further more b (after (at_outcome home head it.decisions outcome left) (read_from home a Waits [])) (after (at_came home head now left) (read_from home b long acts))
+    → Further more b (after (at_outcome home head it.decisions outcome left) (read_from home a Waits []))
+    (after (at_came home head now left) (read_from home b long acts))
 outcome_further more home a b long head it now (Leaves decoded) acts left m e on = absurd (on.unfinished decoded e)
 outcome_further more home a b long head it now (Fails kind) acts left m e on =
     let all : at_came home head now left ≡ at_outcome home head it.decisions (Fails kind) left =
-        ap (λ c. at_came home head c left) (on.fails kind e) ∙ ap (λ o. at_outcome home head it.decisions o left) e in
+    ap (λ c. at_came home head c left) (on.fails kind e) ∙ ap (λ o. at_outcome home head it.decisions o left) e in
     same (ap (λ s. after s (read_from home b long acts)) (sym all))
 outcome_further more home a b long head it now Unfinished acts left m e on =
     let told : Below (counting it.decisions left).told (told_by (at_came home head now left)) =
-        below_both (counting it.decisions left).told (counting now.decisions left).told (told_by (at_came home head now left))
-        (below_more it.decisions now.decisions left on.decisions) (outcome_below home head now.decisions now.outcome left) in
+    below_both (counting it.decisions left).told (counting now.decisions left).told (told_by (at_came home head now left))
+    (below_more it.decisions now.decisions left on.decisions) (outcome_below home head now.decisions now.outcome left) in
     goes_on m (after_below (counting it.decisions left).told (at_came home head now left) (read_from home b long acts) (from_below home b long acts) told)
 
 pub after_then : (s : Step) (next : Left → Step) (last : Left → PageRead) → after (and_then s next) last ≡ after s (λ left. after (next left) last)
@@ -185,10 +189,11 @@ after_then (On left) next last = refl
 after_then (Ends read) next last = refl
 
 -- a chunk whose data arrive, and the same with more data
-reads_further : (more : Bool) (home : Home) (a b : Known) → KnowsMore a b → Grows home.table → (long : Close) (head : Head) (bytes rest : List ℕ) (ended : Bool)
+reads_further : (more : Bool) (home : Home) (a b : Known) → KnowsMore a b → Grows home.table
+    → (long : Close) (head : Head) (bytes rest : List ℕ) (ended : Bool)
     (acts : List Act) (left : Left) → more ≡ true
     → Further more b (read_from home a Waits (Reads head (data_of bytes false) ∷ []) left)
-      (read_from home b long (Reads head (data_of (bytes ++ rest) ended) ∷ acts) left)
+    (read_from home b long (Reads head (data_of (bytes ++ rest) ended) ∷ acts) left)
 reads_further more home a b on grows long head bytes rest ended acts left m =
     let few : Data = data_of bytes false in
     let many : Data = data_of (bytes ++ rest) ended in
@@ -197,7 +202,8 @@ reads_further more home a b on grows long head bytes rest ended acts left m =
     let all = at_header home b head fault left in
     let next : Left → PageRead = λ now. after (at_data home head few now) (read_from home a Waits []) in
     let other : Left → PageRead = λ now. after (at_data home head many now) (read_from home b long acts) in
-    subst (λ r. Further more b r (read_from home b long (Reads head many ∷ acts) left)) (sym (after_then less (at_data home head few) (read_from home a Waits [])))
+    subst (λ r. Further more b r (read_from home b long (Reads head many ∷ acts) left))
+    (sym (after_then less (at_data home head few) (read_from home a Waits [])))
     (subst (λ r. Further more b (after less next) r) (sym (after_then all (at_data home head many) (read_from home b long acts)))
     (after_further more b less all next other
     (λ now. outcome_further more home a b long head (came home.table head few now.decoded) (came home.table head many now.decoded)

@@ -15,7 +15,8 @@ pub names_stay : (library later : Library) → LibraryGoesOn library later → n
 names_stay [] [] on = refl
 names_stay [] (file ∷ later) on = absurd on
 names_stay (file ∷ library) [] on = absurd on
-names_stay (before ∷ library) (after ∷ later) on = ap (λ name. name ∷ names_in library) on.0.name ∙ ap (λ names. after.name ∷ names) (names_stay library later on.1)
+names_stay (before ∷ library) (after ∷ later) on = ap (λ name. name ∷ names_in library) on.0.name
+    ∙ ap (λ names. after.name ∷ names) (names_stay library later on.1)
 
 pub length_stays : (library later : Library) → LibraryGoesOn library later → length library ≡ length later
 length_stays [] [] on = refl
@@ -65,7 +66,8 @@ outline_on stays None (Some after) on outline e = absurd on
 outline_on stays (Some before) None on outline e = absurd on
 outline_on stays (Some before) (Some after) on outline e = by on.bytes
   where
-    by : ((before.mark ≡ Open) × Front before.bytes after.bytes) ⊎ ((before.bytes ≡ after.bytes) × (before.mark ≡ after.mark)) → outline_of after.mark after.bytes ≡ Some outline
+    by : ((before.mark ≡ Open) × Front before.bytes after.bytes) ⊎ ((before.bytes ≡ after.bytes) × (before.mark ≡ after.mark))
+        → outline_of after.mark after.bytes ≡ Some outline
     by (inl g) =
         let first : outline_of Open before.bytes ≡ Some outline = subst (λ m. outline_of m before.bytes ≡ Some outline) g.0 e in
         subst (λ b. outline_of after.mark b ≡ Some outline) (sym g.1.1) (stays after.mark before.bytes g.1.0 outline first)
@@ -78,12 +80,15 @@ bytes_on None (Some after) on = absurd on
 bytes_on (Some before) None on = absurd on
 bytes_on (Some before) (Some after) on = on.bytes
 
-pub outlines_on : OutlinesStay → (library later : Library) → LibraryGoesOn library later → (file : ℕ) (outline : Outline) → outlines_in library file ≡ Some outline
+pub outlines_on : OutlinesStay → (library later : Library) → LibraryGoesOn library later → (file : ℕ) (outline : Outline)
+    → outlines_in library file ≡ Some outline
     → outlines_in later file ≡ Some outline
 outlines_on stays library later on file outline e = outline_on stays (slice_get library file) (slice_get later file) (file_on library later on file) outline e
 
-pub within_library : OutlinesStay → (role : Role) (table : List Row) (library later : Library) (file : ℕ) (less more : ℕ → Option Result) → LibraryGoesOn library later
-    → ((other : ℕ) (it : Result) → less other ≡ Some it → more other ≡ Some it) → Within (given_in role table library file less) (given_in role table later file more)
+pub within_library : OutlinesStay → (role : Role) (table : List Row) (library later : Library) (file : ℕ) (less more : ℕ → Option Result)
+    → LibraryGoesOn library later
+    → ((other : ℕ) (it : Result) → less other ≡ Some it → more other ≡ Some it)
+    → Within (given_in role table library file less) (given_in role table later file more)
 within_library stays role table library later file less more on results = record {
   home = ap (λ names. record { role = role; table = table; names = names; file = file }) (names_stay library later on);
   known = record { outlines = outlines_on stays library later on; results = results };

@@ -48,7 +48,8 @@ named_rest list chunk items (Some name) n clean among = record {
   is_item = λ is other m.
       let both : Some name ≡ Some other = sym n ∙ m in
       let same : name ≡ other = cc in
-      subst (λ w. Contains list (item.Include w chunk.offset)) same (among (item.Include name chunk.offset) (first_item (item.Include name chunk.offset) items.items));
+      subst (λ w. Contains list (item.Include w chunk.offset)) same
+      (among (item.Include name chunk.offset) (first_item (item.Include name chunk.offset) items.items));
 }
 
 chunk_rest : (list : List OutlineItem) (chunk : Chunk) (items : Items) (include : Bool) → is_include chunk.id ≡ include
@@ -114,5 +115,5 @@ outlined_so given outline it =
     let inner = items_in (items_at_tail tail ended) false (chunks_of bytes).whole in
     let same : items ≡ inner = unless_is (form_fault (chunks_of bytes).form) 0 inner clean in
     let all = listed outline.items (items_at_tail tail ended) false (chunks_of bytes).whole (subst IsClean same clean)
-        (λ x h. subst (λ l. Contains l x) (ap (λ (i : Items). i.items) (sym same) ∙ known.1) h) in
+    (λ x h. subst (λ l. Contains l x) (ap (λ (i : Items). i.items) (sym same) ∙ known.1) h) in
     record { all = all.all; over = end_clean (file_end given.mark bytes) (tail_clean tail ended all.has all.clean) }

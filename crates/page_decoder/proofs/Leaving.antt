@@ -81,7 +81,8 @@ mask_brings None table given offset before decoded l e = let wrong : Unfinished 
 mask_brings (Some layers) table given offset before decoded l e =
     (layers, _, l, records_is (jb2.records_of (records_in table (jb2.Mask layers.width layers.height) given before)).answer given _ decoded e)
 
-layer_is : (answer : Answer) (given : Data) (left decoded : Decoded) → layer_outcome answer given left ≡ Leaves decoded → (answer ≡ iw44.Done) × (decoded ≡ left) × (given.ended ≡ true)
+layer_is : (answer : Answer) (given : Data) (left decoded : Decoded) → layer_outcome answer given left ≡ Leaves decoded → (answer ≡ iw44.Done)
+    × (decoded ≡ left) × (given.ended ≡ true)
 layer_is iw44.Done given left decoded e = (refl, complete_is given left decoded e, complete_so given.ended left decoded e)
 layer_is iw44.Need given left decoded e = let wrong : Unfinished ≡ Leaves decoded = e in absurd (cc)
 layer_is (iw44.Fault kind) given left decoded e = let wrong : Fails kind ≡ Leaves decoded = e in absurd (cc)

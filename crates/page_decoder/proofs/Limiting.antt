@@ -63,7 +63,8 @@ form_bytes bytes form whole tail laid all =
 abbrev Fine : Head → Data → Type 0
 Fine head given = given.ended ≡ true → are_bytes given.bytes ≡ true
 
-complete_fine : (whole : List Chunk) (acts : List Act) → AllByRecursion HasBytes whole → AllByRecursion (IsFine Fine) acts → AllByRecursion (IsFine Fine) (complete_acts whole ++ acts)
+complete_fine : (whole : List Chunk) (acts : List Act) → AllByRecursion HasBytes whole → AllByRecursion (IsFine Fine) acts
+    → AllByRecursion (IsFine Fine) (complete_acts whole ++ acts)
 complete_fine [] acts all rest = rest
 complete_fine (chunk ∷ whole) acts all rest = (λ ended. all.0, complete_fine whole acts all.1 rest)
 
@@ -87,7 +88,8 @@ shown decoded = some_count decoded.layers + some_count (mask_in decoded.layers) 
 -- the background was read so far
 abbrev BackSo : List Row → Layers → List Data → Type 0
 BackSo table layers back =
-    ((read_layer table (allowed_on layers back_limit) back).answer ≡ iw44.Done) × ((read_layer table (allowed_on layers back_limit) back).layer.chunks ≡ length back)
+    ((read_layer table (allowed_on layers back_limit) back).answer ≡ iw44.Done)
+    × ((read_layer table (allowed_on layers back_limit) back).layer.chunks ≡ length back)
 
 record Counts (table : List Row) (decoded : Decoded) (count : ℕ) : Type 0 where
   bare : decoded.layers ≡ None → decoded.back ≡ []
@@ -141,7 +143,8 @@ layers_are a b e = let same : Some a ≡ Some b = e in cc
 module _ (table : List Row) (last : LastChunk) where
   -- a chunk of the background that is done
   back_on : (layers : Layers) (back : List Data) (given : Data) → BackSo table layers back → are_bytes given.bytes ≡ true
-      → (read_layer table (allowed_on layers back_limit) (back ++ given ∷ [])).answer ≡ iw44.Done → BackSo table layers (back ++ given ∷ []) × (length back < 256)
+      → (read_layer table (allowed_on layers back_limit) (back ++ given ∷ [])).answer ≡ iw44.Done → BackSo table layers (back ++ given ∷ [])
+      × (length back < 256)
   back_on layers back given before bytes done =
       let allowed = allowed_on layers back_limit in
       let layer = (read_layer table allowed back).layer in
@@ -149,7 +152,7 @@ module _ (table : List Row) (last : LastChunk) where
       let now : (read_chunk table allowed given layer).answer ≡ iw44.Done = subst (λ (r : iw44.LayerReading). r.answer ≡ iw44.Done) is done in
       let begins = begins_so table allowed given layer now in
       let first : nat_lt layer.chunks 256 ≡ true =
-          (and_parts (nat_lt layer.chunks 256) (are_bytes begins.0) (subst (λ b. are_bytes b ≡ true) begins.1 bytes)).0 in
+      (and_parts (nat_lt layer.chunks 256) (are_bytes begins.0) (subst (λ b. are_bytes b ≡ true) begins.1 bytes)).0 in
       let below : layer.chunks < 256 = ltb-true layer.chunks 256 first in
       let number = before.1 in
       let counted = ap (λ (r : iw44.LayerReading). r.layer.chunks) is ∙ counts_so table allowed given layer now in
@@ -163,7 +166,7 @@ module _ (table : List Row) (last : LastChunk) where
       let empty = none k in
       let bare = i.bare empty in
       let told : count ≤ 0 + 0 + 0 + length before.back =
-          subst (λ l. count ≤ some_count l + some_count (mask_in l) + some_count (front_in l) + length before.back) empty i.told in
+      subst (λ l. count ≤ some_count l + some_count (mask_in l) + some_count (front_in l) + length before.back) empty i.told in
       subst (λ d. Counts table d (count + length (drawing_by kind.Info number d.layers))) (sym b) (record {
         bare = λ e. absurd (cc);
         told = omega (arith, told);
@@ -174,7 +177,7 @@ module _ (table : List Row) (last : LastChunk) where
       let layers = b.0 in
       let first : some_count layers.mask ≡ 0 = ap some_count (ap mask_in (sym b.2) ∙ k) in
       let told : count ≤ 1 + some_count layers.mask + some_count layers.front + length before.back =
-          subst (λ l. count ≤ some_count l + some_count (mask_in l) + some_count (front_in l) + length before.back) b.2 i.told in
+      subst (λ l. count ≤ some_count l + some_count (mask_in l) + some_count (front_in l) + length before.back) b.2 i.told in
       let back = i.back layers b.2 in
       subst (λ d. Counts table d (count + length (drawing_by kind.Mask number d.layers))) (sym b.3) (record {
         bare = λ e. absurd (cc);
@@ -186,7 +189,7 @@ module _ (table : List Row) (last : LastChunk) where
       let layers = b.0 in
       let first : some_count layers.front ≡ 0 = ap some_count (ap front_in (sym b.2) ∙ k) in
       let told : count ≤ 1 + some_count layers.mask + some_count layers.front + length before.back =
-          subst (λ l. count ≤ some_count l + some_count (mask_in l) + some_count (front_in l) + length before.back) b.2 i.told in
+      subst (λ l. count ≤ some_count l + some_count (mask_in l) + some_count (front_in l) + length before.back) b.2 i.told in
       let back = i.back layers b.2 in
       subst (λ d. Counts table d (count + length (drawing_by kind.Front number d.layers))) (sym b.3) (record {
         bare = λ e. absurd (cc);
@@ -197,7 +200,7 @@ module _ (table : List Row) (last : LastChunk) where
   counts_on kind.Back given offset chunks number count before after b k none bytes i =
       let layers = b.0 in
       let told : count ≤ 1 + some_count layers.mask + some_count layers.front + length before.back =
-          subst (λ l. count ≤ some_count l + some_count (mask_in l) + some_count (front_in l) + length before.back) b.2 i.told in
+      subst (λ l. count ≤ some_count l + some_count (mask_in l) + some_count (front_in l) + length before.back) b.2 i.told in
       let next = back_on layers before.back given (i.back layers b.2) (bytes b.5) b.3 in
       let few = next.1 in
       let more : length (before.back ++ given ∷ []) ≡ length before.back + 1 = length-append before.back (given ∷ []) in
@@ -268,8 +271,18 @@ rules home known last = record {
   wrong = λ head n kind offset left i page. most home (Some head) left i page;
   pending = λ at left i. any_includes left.decoded.pending;
   reaches = λ at left file it e i page. record { none = (i page).none; counts = (i page).counts; kind = (i page).kind };
-  inherits = λ at found left i page. record { none = (i page).none; counts = record { bare = (i page).counts.bare; told = (i page).counts.told; few = (i page).counts.few; back = (i page).counts.back }; kind = (i page).kind };
-  none_left = λ at left i page. record { none = (i page).none; counts = record { bare = (i page).counts.bare; told = (i page).counts.told; few = (i page).counts.few; back = (i page).counts.back }; kind = (i page).kind };
+  inherits = λ at found left i page. record {
+    none = (i page).none;
+    counts =
+        record { bare = (i page).counts.bare; told = (i page).counts.told; few = (i page).counts.few; back = (i page).counts.back };
+    kind = (i page).kind;
+  };
+  none_left = λ at left i page. record {
+    none = (i page).none;
+    counts =
+        record { bare = (i page).counts.bare; told = (i page).counts.told; few = (i page).counts.few; back = (i page).counts.back };
+    kind = (i page).kind;
+  };
   unknown = λ at left file u i page. most home at left i page;
   lacks = λ at left file include next n m i page. most home at left i page;
   graph_fault = λ at left target fault b v i page. most home at left i page;
@@ -285,7 +298,8 @@ form_fine (Some form) acts all = (tt, all)
 pub at_most : (given : Given) → ((name : List ℕ) (target : ℕ) → number_of name given.home.names ≡ Some target → target < length given.home.names) → LastChunk
     → AllByRecursion HasBytes (chunks_of given.bytes).whole → given.home.role ≡ Page → length (read given).left.told.drawings ≤ 259
 at_most given below last all =
-    from_holds given.home given.known Fine any_include (IsLimited given.home) (AtMost given.home) (rules given.home given.known last) below (close_in given.mark given.bytes)
+    from_holds given.home given.known Fine any_include (IsLimited given.home) (AtMost given.home) (rules given.home given.known last) below
+    (close_in given.mark given.bytes)
     (λ w left i page. most given.home None left i page) (acts_of (chunks_of given.bytes)) at_start
     (form_fine (chunks_of given.bytes).form (complete_acts (chunks_of given.bytes).whole ++ tail_acts (chunks_of given.bytes).tail)
     (complete_fine (chunks_of given.bytes).whole (tail_acts (chunks_of given.bytes).tail) all (tail_fine (chunks_of given.bytes).tail)))

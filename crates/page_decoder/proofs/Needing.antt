@@ -64,7 +64,8 @@ rules home known close = record {
   unknown = λ at left file u i. record { because = u; reached = λ f m. inl (i f m); quiet = λ e. cc };
   lacks = λ at left file include next n m i. record { because = next; reached = lacking_last known left file i; quiet = λ e. cc };
   graph_fault = λ at left target fault b v i. record { because = tt; reached = λ f m. inl (i f m); quiet = λ e. cc };
-  file_fault = λ at left file fault target before others below v e i. record { because = tt; reached = λ f m. inl (reached_last known left file i (_, e) f m); quiet = λ w. cc };
+  file_fault = λ at left file fault target before others below v e i.
+      record { because = tt; reached = λ f m. inl (reached_last known left file i (_, e) f m); quiet = λ w. cc };
   own_fault = λ at kind offset left i. record { because = tt; reached = λ f m. inl (i f m); quiet = λ e. cc };
   finishes = λ left some i. record { because = tt; reached = λ f m. inl (i f m); quiet = λ e. cc };
 }
@@ -73,8 +74,10 @@ pub ended : (given : Given) → ((name : List ℕ) (target : ℕ) → number_of 
     → Ended given.home given.known (close_in given.mark given.bytes) (read given).left.told (read given).end
 ended given below =
     let close = close_in given.mark given.bytes in
-    from_holds given.home given.known any_chunk any_include (Kept given.known) (AtEnd given.home given.known close) (rules given.home given.known close) below close
-    (λ w left i. record { because = tt; reached = λ f m. inl (i f m); quiet = λ e. w }) (acts_of (chunks_of given.bytes)) at_start (any_acts (acts_of (chunks_of given.bytes))) (λ f m. absurd (true≢false (sym m)))
+    from_holds given.home given.known any_chunk any_include (Kept given.known) (AtEnd given.home given.known close)
+    (rules given.home given.known close) below close
+    (λ w left i. record { because = tt; reached = λ f m. inl (i f m); quiet = λ e. w }) (acts_of (chunks_of given.bytes)) at_start
+    (any_acts (acts_of (chunks_of given.bytes))) (λ f m. absurd (true≢false (sym m)))
 
 -- a file whose end is known doesn't wait
 

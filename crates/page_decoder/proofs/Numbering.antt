@@ -7,7 +7,8 @@ use Rattle.include_graph.specs.Verdicts.{number_of}
 some_is : (a b : ℕ) → Some a ≡ Some b → a ≡ b
 some_is a b e = let same : Some a ≡ Some b = e in cc
 
-position_below : (test : List ℕ → Bool) (names : List (List ℕ)) (first target : ℕ) → position_from test first names ≡ Some target → target < first + length names
+position_below : (test : List ℕ → Bool) (names : List (List ℕ)) (first target : ℕ) → position_from test first names ≡ Some target → target
+    < first + length names
 position_below test [] first target e = let none : None ≡ Some target = e in absurd (cc)
 position_below test (name ∷ names) first target e = by (test name) (position_below test names (first + 1) target) e
   where

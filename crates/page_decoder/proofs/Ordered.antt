@@ -24,6 +24,7 @@ first_or_later x xs y has = by (Contains-append_cases (x ∷ []) xs y has)
     first : Contains [] y ⊎ (x ≡ y) → x ≡ y
     first (inl none) = let below = none.1 in absurd (omega (arith, below))
     first (inr e) = e
+
     by : Contains (x ∷ []) y ⊎ Contains xs y → (x ≡ y) ⊎ Contains xs y
     by (inl here) = inl (first (Contains-push_cases [] x y here))
     by (inr later) = inr later
@@ -53,13 +54,16 @@ includes_before graph files file other served it = item_among graph.names files 
 
 -- what holds of a file at a depth, where it holds one less deep of all that it includes, holds of each file of an ordered list
 module _ (graph : Graph) (Q : ℕ → ℕ → Type 0)
-    (step : (before : List ℕ) (file : ℕ) → IsServed graph before file → (depth : ℕ) → ((other : ℕ) → is_among other before ≡ true → Q depth other) → Q (suc depth) file) where
-  here : (before : List ℕ) (count file : ℕ) → IsServed graph before file → ((other : ℕ) → is_among other before ≡ true → (depth : ℕ) → count ≤ depth → Q depth other)
+    (step : (before : List ℕ) (file : ℕ) → IsServed graph before file → (depth : ℕ) → ((other : ℕ) → is_among other before ≡ true → Q depth other)
+    → Q (suc depth) file) where
+  here : (before : List ℕ) (count file : ℕ) → IsServed graph before file
+      → ((other : ℕ) → is_among other before ≡ true → (depth : ℕ) → count ≤ depth → Q depth other)
       → (depth : ℕ) → suc count ≤ depth → Q depth file
   here before count file served all zero h = absurd (omega (arith, h))
   here before count file served all (suc depth) h = step before file served depth (λ other m. all other m depth (omega (arith, h)))
 
-  here_too : (before : List ℕ) (count file : ℕ) → IsServed graph before file → ((other : ℕ) → is_among other before ≡ true → (depth : ℕ) → count ≤ depth → Q depth other)
+  here_too : (before : List ℕ) (count file : ℕ) → IsServed graph before file
+      → ((other : ℕ) → is_among other before ≡ true → (depth : ℕ) → count ≤ depth → Q depth other)
       → (other : ℕ) → is_among other (before ++ file ∷ []) ≡ true → (depth : ℕ) → suc count ≤ depth → Q depth other
   here_too before count file served all other m depth h = by (among_last other file before m)
     where

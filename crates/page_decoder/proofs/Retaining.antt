@@ -85,7 +85,8 @@ verdict_below known (verdict.Files files) left = files_below known files None le
 verdict_below known (verdict.NeedOutline file) left = below_same left.told
 verdict_below known (verdict.Refused fault) left = below_same left.told
 
-target_below : (home : Home) (known : Known) (offset : ℕ) (target : Option ℕ) (left : Left) → Below left.told (told_by (at_target home known offset target left))
+target_below : (home : Home) (known : Known) (offset : ℕ) (target : Option ℕ) (left : Left)
+    → Below left.told (told_by (at_target home known offset target left))
 target_below home known offset None left = below_same left.told
 target_below home known offset (Some target) left = verdict_below known (listing home.role home known target) left
 
@@ -111,7 +112,8 @@ form_below : (home : Home) (fault : Option FaultKind) (left : Left) → Below le
 form_below home (Some kind) left = below_same left.told
 form_below home None left = below_same left.told
 
-header_below : (home : Home) (known : Known) (head : Head) (fault : Option FaultKind) (left : Left) → Below left.told (told_by (at_header home known head fault left))
+header_below : (home : Home) (known : Known) (head : Head) (fault : Option FaultKind) (left : Left)
+    → Below left.told (told_by (at_header home known head fault left))
 header_below home known head (Some kind) left = below_same left.told
 header_below home known head None left = before_below (kind_of head.id) home known left
 
@@ -138,7 +140,8 @@ act_below : (home : Home) (known : Known) (act : Act) (left : Left) → Below le
 act_below home known (Kind kind) left = form_below home (form_fault home.role kind) left
 act_below home known (Reads head given) left =
     let fault = header_fault home.role left head in
-    then_below left.told (at_header home known head fault left) (at_data home head given) (data_below home head given) (header_below home known head fault left)
+    then_below left.told (at_header home known head fault left) (at_data home head given) (data_below home head given)
+    (header_below home known head fault left)
 
 -- the end
 
@@ -146,7 +149,8 @@ ended_below : (home : Home) (known : Known) (left : Left) → Below left.told (a
 ended_below home known left =
     after_below left.told (all_resolved home known left) finished (λ now. below_same now.told) (resolved_below home known left.decoded.pending left)
 
-over_below : (role : Role) (chunks : ℕ) (home : Home) (known : Known) (origin : ℕ) (left : Left) → Below left.told (at_over role chunks home known origin left).left.told
+over_below : (role : Role) (chunks : ℕ) (home : Home) (known : Known) (origin : ℕ) (left : Left)
+    → Below left.told (at_over role chunks home known origin left).left.told
 over_below Page zero home known origin left = below_same left.told
 over_below Page (suc chunks) home known origin left = ended_below home known left
 over_below Included chunks home known origin left = ended_below home known left
@@ -156,7 +160,8 @@ close_below home known Waits left = below_same left.told
 close_below home known (Breaks kind offset) left = below_same left.told
 close_below home known (Over origin) left = over_below home.role left.chunks home known origin left
 
-pub from_below : (home : Home) (known : Known) (close : Close) (acts : List Act) (left : Left) → Below left.told (read_from home known close acts left).left.told
+pub from_below : (home : Home) (known : Known) (close : Close) (acts : List Act) (left : Left)
+    → Below left.told (read_from home known close acts left).left.told
 from_below home known close [] left = close_below home known close left
 from_below home known close (act ∷ acts) left =
     after_below left.told (at_act home known act left) (read_from home known close acts) (from_below home known close acts) (act_below home known act left)

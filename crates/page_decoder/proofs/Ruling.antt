@@ -35,7 +35,8 @@ pub record Rules (home : Home) (known : Known) (fine : Head → Data → Type 0)
   -- a header that is right
   pub begins : (head : Head) (left : Left) → header_fault home.role left head ≡ None → I None left → I (Some head) left
   -- data that are complete, or not
-  pub chunk : (head : Head) (given : Data) (decoded : Decoded) (left : Left) → fine head given → (came home.table head given left.decoded).outcome ≡ Leaves decoded
+  pub chunk : (head : Head) (given : Data) (decoded : Decoded) (left : Left) → fine head given
+      → (came home.table head given left.decoded).outcome ≡ Leaves decoded
       → I (Some head) left → I None (with_chunk head (came home.table head given left.decoded).decisions decoded left)
   pub part : (head : Head) (n : ℕ) (left : Left) → I (Some head) left → I None (counting n left)
   pub wrong : (head : Head) (n : ℕ) (kind : FaultKind) (offset : ℕ) (left : Left) → I (Some head) left → P (counting n left) (refused_at home kind offset)
@@ -50,7 +51,8 @@ pub record Rules (home : Home) (known : Known) (fine : Head → Data → Type 0)
   pub graph_fault : (at : Option Head) (left : Left) (target : ℕ) (fault : Fault) → target < length home.names
       → listing home.role home known target ≡ verdict.Refused fault → I at left → P left (Refused fault)
   pub file_fault : (at : Option Head) (left : Left) (file : ℕ) (fault : Fault) (target : ℕ) (before others : List ℕ) → target < length home.names
-      → listing home.role home known target ≡ verdict.Files (before ++ file ∷ others) → known.results file ≡ Some (result.Refused fault) → I at left → P (reaching file left) (Refused fault)
+      → listing home.role home known target ≡ verdict.Files (before ++ file ∷ others) → known.results file ≡ Some (result.Refused fault) → I at left
+      → P (reaching file left) (Refused fault)
   pub own_fault : (at : Option Head) (kind : FaultKind) (offset : ℕ) (left : Left) → I at left → P left (refused_at home kind offset)
   pub finishes : (left : Left) → (home.role ≡ Page → left.chunks ≡ 0 → ⊥) → I None left → P left Finished
 
@@ -64,11 +66,13 @@ among_last f g gs m = by (or_cases (is_among f gs) (is_among f (g ∷ [])) (sym 
     last : (eqb f g ≡ true) ⊎ (false ≡ true) → f ≡ g
     last (inl e) = eqb-true f g e
     last (inr e) = absurd (true≢false (sym e))
+
     by : (is_among f gs ≡ true) ⊎ (is_among f (g ∷ []) ≡ true) → (is_among f gs ≡ true) ⊎ (f ≡ g)
     by (inl e) = inl e
     by (inr e) = inr (last (or_cases (eqb f g) false e))
 
-good_last : (results : ℕ → Option Result) (before : List ℕ) (file : ℕ) → ((other : ℕ) → is_among other before ≡ true → IsGood results other) → IsGood results file
+good_last : (results : ℕ → Option Result) (before : List ℕ) (file : ℕ) → ((other : ℕ) → is_among other before ≡ true → IsGood results other)
+    → IsGood results file
     → (other : ℕ) → is_among other (before ++ file ∷ []) ≡ true → IsGood results other
 good_last results before file all last other m = by (among_last other file before m)
   where
@@ -119,7 +123,8 @@ Holds I P at (Ends read) = P read.left read.end
 module _ (home : Home) (known : Known) (fine : Head → Data → Type 0) (named : Include → Type 0) (I : Option Head → Left → Type 0)
     (P : Left → Ending → Type 0) (rules : Rules home known fine named I P)
     (number_below : (name : List ℕ) (target : ℕ) → number_of name home.names ≡ Some target → target < length home.names) where
-  then_holds : (at now : Option Head) (s : Step) (next : Left → Step) → ((left : Left) → I at left → Holds I P now (next left)) → Holds I P at s → Holds I P now (and_then s next)
+  then_holds : (at now : Option Head) (s : Step) (next : Left → Step) → ((left : Left) → I at left → Holds I P now (next left)) → Holds I P at s
+      → Holds I P now (and_then s next)
   then_holds at now (On left) next all h = all left h
   then_holds at now (Ends read) next all h = h
 
@@ -129,7 +134,8 @@ module _ (home : Home) (known : Known) (fine : Head → Data → Type 0) (named 
   after_holds at (Ends read) next all h = h
 
   -- the files of a target's list, behind those that aren't refused
-  files_hold : (at : Option Head) (include : Include) (target : ℕ) → named include → number_of include.name home.names ≡ Some target → (before files : List ℕ) (found : Option (List Pixels)) (left : Left)
+  files_hold : (at : Option Head) (include : Include) (target : ℕ) → named include → number_of include.name home.names ≡ Some target
+      → (before files : List ℕ) (found : Option (List Pixels)) (left : Left)
       → listing home.role home known target ≡ verdict.Files (before ++ files) → ((other : ℕ) → is_among other before ≡ true → IsGood known.results other)
       → I at left → Holds I P at (in_files known files found left)
   files_hold at include target n m before [] found left v good i = rules.inherits at found left i
@@ -141,7 +147,7 @@ module _ (home : Home) (known : Known) (fine : Head → Data → Type 0) (named 
     where
       by : (there : Option Result) → known.results file ≡ there
           → ((it : Result) → known.results file ≡ Some it → ((fault : Fault) → it ≡ result.Refused fault → ⊥) → (now : Option (List Pixels))
-            → Holds I P at (in_files known files now (reaching file left)))
+          → Holds I P at (in_files known files now (reaching file left)))
           → Holds I P at (at_result (in_files known files) file there left)
       by None e next =
           rules.lacks at left file include
@@ -150,7 +156,8 @@ module _ (home : Home) (known : Known) (fine : Head → Data → Type 0) (named 
       by (Some Nothing) e next = next Nothing e (λ fault w. cc) None
       by (Some (result.Refused fault)) e next = rules.file_fault at left file fault target before files (number_below include.name target m) v e i
 
-  verdict_holds : (at : Option Head) (include : Include) (target : ℕ) → named include → number_of include.name home.names ≡ Some target → (it : Verdict) (left : Left)
+  verdict_holds : (at : Option Head) (include : Include) (target : ℕ) → named include → number_of include.name home.names ≡ Some target
+      → (it : Verdict) (left : Left)
       → listing home.role home known target ≡ it → I at left → Holds I P at (at_verdict known it left)
   verdict_holds at include target n m (verdict.Files files) left v i =
       files_hold at include target n m [] files None left v (λ other m. absurd (true≢false (sym m))) i
@@ -158,12 +165,14 @@ module _ (home : Home) (known : Known) (fine : Head → Data → Type 0) (named 
       rules.unknown at left file (record { target = target; below = number_below include.name target m; list = v }) i
   verdict_holds at include target n m (verdict.Refused fault) left v i = rules.graph_fault at left target fault (number_below include.name target m) v i
 
-  target_holds : (at : Option Head) (include : Include) (target : Option ℕ) (left : Left) → named include → number_of include.name home.names ≡ target → I at left
+  target_holds : (at : Option Head) (include : Include) (target : Option ℕ) (left : Left) → named include → number_of include.name home.names ≡ target
+      → I at left
       → Holds I P at (at_target home known include.offset target left)
   target_holds at include None left n m i = rules.own_fault at fault.MissingInclude include.offset left i
   target_holds at include (Some target) left n m i = verdict_holds at include target n m (listing home.role home known target) left refl i
 
-  resolved_holds : (at : Option Head) (includes : List Include) (left : Left) → AllByRecursion named includes → I at left → Holds I P at (resolved home known includes left)
+  resolved_holds : (at : Option Head) (includes : List Include) (left : Left) → AllByRecursion named includes → I at left
+      → Holds I P at (resolved home known includes left)
   resolved_holds at [] left all i = rules.none_left at left i
   resolved_holds at (include ∷ includes) left all i =
       then_holds at at (at_include home known include left) (resolved home known includes) (λ now j. resolved_holds at includes now all.1 j)
@@ -191,7 +200,8 @@ module _ (home : Home) (known : Known) (fine : Head → Data → Type 0) (named 
   header_holds head (Some kind) left e i = rules.own_fault None kind head.offset left i
   header_holds head None left e i = before_holds (kind_of head.id) (Some head) left (rules.begins head left e i)
 
-  data_holds : (head : Head) (given : Data) (outcome : Outcome) (left : Left) → fine head given → (came home.table head given left.decoded).outcome ≡ outcome → I (Some head) left
+  data_holds : (head : Head) (given : Data) (outcome : Outcome) (left : Left) → fine head given
+      → (came home.table head given left.decoded).outcome ≡ outcome → I (Some head) left
       → Holds I P None (at_outcome home head (came home.table head given left.decoded).decisions outcome left)
   data_holds head given (Leaves decoded) left f e i = rules.chunk head given decoded left f e i
   data_holds head given Unfinished left f e i = rules.part head (came home.table head given left.decoded).decisions left i
@@ -209,7 +219,8 @@ module _ (home : Home) (known : Known) (fine : Head → Data → Type 0) (named 
   through_holds (act ∷ acts) left all i =
       then_holds None None (at_act home known act left) (step_through home known acts) (λ now j. through_holds acts now all.1 j) (act_holds act left all.0 i)
 
-  last_holds : (s : Step) (chunks : ℕ) → Holds I P None s → Keeps chunks s → (home.role ≡ Page → chunks ≡ 0 → ⊥) → P (after s finished).left (after s finished).end
+  last_holds : (s : Step) (chunks : ℕ) → Holds I P None s → Keeps chunks s → (home.role ≡ Page → chunks ≡ 0 → ⊥)
+      → P (after s finished).left (after s finished).end
   last_holds (On left) chunks h k some = rules.finishes left (λ r e. some r (sym k ∙ e)) h
   last_holds (Ends read) chunks h k some = h
 
@@ -233,7 +244,8 @@ module _ (home : Home) (known : Known) (fine : Head → Data → Type 0) (named 
       → AllByRecursion (IsFine fine) acts → I None left → P (read_from home known close acts left).left (read_from home known close acts left).end
   from_holds close waits [] left all i = close_holds close waits left i
   from_holds close waits (act ∷ acts) left all i =
-      after_holds None (at_act home known act left) (read_from home known close acts) (λ now j. from_holds close waits acts now all.1 j) (act_holds act left all.0 i)
+      after_holds None (at_act home known act left) (read_from home known close acts) (λ now j. from_holds close waits acts now all.1 j)
+      (act_holds act left all.0 i)
 
 -- where nothing is known of chunks and includes
 abbrev pub any_chunk : Head → Data → Type 0

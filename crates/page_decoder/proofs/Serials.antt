@@ -51,7 +51,8 @@ begins_so table allowed given layer e =
 
 -- the count
 
-end_counts : (ended : Bool) (slices : ℕ) (layer : Layer) → (chunk_end ended slices layer).answer ≡ Done → (chunk_end ended slices layer).layer.chunks ≡ layer.chunks + 1
+end_counts : (ended : Bool) (slices : ℕ) (layer : Layer) → (chunk_end ended slices layer).answer ≡ Done
+    → (chunk_end ended slices layer).layer.chunks ≡ layer.chunks + 1
 end_counts true slices layer e = refl
 end_counts false slices layer e = let wrong : Need ≡ Done = e in absurd (cc)
 
@@ -62,7 +63,8 @@ after_counts step.SliceEnd layer place n rest goes e = goes e
 after_counts step.NeedBytes layer place n rest goes e = let wrong : Need ≡ Done = e in absurd (cc)
 after_counts step.Exhausted layer place n rest goes e = let wrong : Fault fault.ZpExhausted ≡ Done = e in absurd (cc)
 
-tasks_count : (from : Chunk) (slices : ℕ) (tasks : List Task) (layer : Layer) (place : Option Interval) → (read_tasks from slices tasks layer place).answer ≡ Done
+tasks_count : (from : Chunk) (slices : ℕ) (tasks : List Task) (layer : Layer) (place : Option Interval)
+    → (read_tasks from slices tasks layer place).answer ≡ Done
     → (read_tasks from slices tasks layer place).layer.chunks ≡ layer.chunks + 1
 tasks_count from slices [] layer place e = end_counts from.ended slices layer e
 tasks_count from slices (next ∷ later) layer place e =

@@ -32,11 +32,12 @@ use Rattle.page_decoder.proofs.Ruling.{Rules, IsFine, Holds, from_holds, act_hol
 
 -- the identifier of an include
 include_kind : (id : List ℕ) → kind_of id ≡ kind.Include → is_include id ≡ true
-include_kind id e = by (is_info id) (is_include id) (is_dictionary id) (is_mask id) (bytes_eq id (codes "FG44")) (bytes_eq id (codes "BG44")) (is_listed refused_ids id) e
+include_kind id e = by (is_info id) (is_include id) (is_dictionary id) (is_mask id) (bytes_eq id (codes "FG44")) (bytes_eq id (codes "BG44"))
+    (is_listed refused_ids id) e
   where
     by : (info include dictionary mask front back refused : Bool)
         → cond info kind.Info (cond include kind.Include (cond dictionary kind.Dictionary (cond mask kind.Mask (cond front kind.Front (cond back kind.Back
-          (cond refused kind.Refused kind.Passed)))))) ≡ kind.Include → include ≡ true
+        (cond refused kind.Refused kind.Passed)))))) ≡ kind.Include → include ≡ true
     by true include dictionary mask front back refused e = let wrong : kind.Info ≡ kind.Include = e in absurd (cc)
     by false true dictionary mask front back refused e = refl
     by false false true mask front back refused e = let wrong : kind.Dictionary ≡ kind.Include = e in absurd (cc)
@@ -97,7 +98,8 @@ module _ (outline : Outline) where
 
   acts_fine : (chunks : Chunks) → AllByRecursion (IsItem outline.items) chunks.whole → AllByRecursion (IsFine Fine) (acts_of chunks)
   acts_fine chunks all =
-      form_fine chunks.form (complete_acts chunks.whole ++ tail_acts chunks.tail) (complete_fine chunks.whole all (tail_acts chunks.tail) (tail_fine chunks.tail))
+      form_fine chunks.form (complete_acts chunks.whole ++ tail_acts chunks.tail)
+      (complete_fine chunks.whole all (tail_acts chunks.tail) (tail_fine chunks.tail))
 
   -- an included file needs only what it includes
   abbrev NeedsIncluded : Home → Left → Ending → Type 0
@@ -107,7 +109,7 @@ module _ (outline : Outline) where
       → number_of include.name home.names ≡ Some next.target → NeedFile file ≡ NeedFile other → home.role ≡ Included → IncludesFile home.names outline other
   lacks_included home known file other include next n m e role =
       let list : verdict.Files (next.target ∷ []) ≡ verdict.Files (next.before ++ file ∷ next.others) =
-          subst (λ r. listing r home known next.target ≡ verdict.Files (next.before ++ file ∷ next.others)) role next.list in
+      subst (λ r. listing r home known next.target ≡ verdict.Files (next.before ++ file ∷ next.others)) role next.list in
       let it : next.target ≡ file = alone next.target file next.before next.others (same_list (next.target ∷ []) (next.before ++ file ∷ next.others) list) in
       let same : file ≡ other = cc in
       record { name = include.name; offset = include.offset; has = n; number = m ∙ ap Some (it ∙ same) }
@@ -172,7 +174,8 @@ module _ (outline : Outline) where
     before_same kind.Refused left i = refl
     before_same kind.Passed left i = refl
 
-    header_same : (head : Head) (found : Option FaultKind) (left : Left) → AllNamed None left → at_header home a head found left ≡ at_header home b head found left
+    header_same : (head : Head) (found : Option FaultKind) (left : Left) → AllNamed None left
+        → at_header home a head found left ≡ at_header home b head found left
     header_same head (Some kind) left i = refl
     header_same head None left i = before_same (kind_of head.id) left i
 
@@ -180,7 +183,8 @@ module _ (outline : Outline) where
     act_same (Kind kind) left i = refl
     act_same (Reads head given) left i = ap (λ s. and_then s (at_data home head given)) (header_same head (header_fault home.role left head) left i)
 
-    over_same : (of : Role) (chunks origin : ℕ) (left : Left) → AllNamed None left → at_over of chunks home a origin left ≡ at_over of chunks home b origin left
+    over_same : (of : Role) (chunks origin : ℕ) (left : Left) → AllNamed None left
+        → at_over of chunks home a origin left ≡ at_over of chunks home b origin left
     over_same Page zero origin left i = refl
     over_same Page (suc chunks) origin left i = ap (λ s. after s finished) (resolved_same left.decoded.pending left i)
     over_same Included chunks origin left i = ap (λ s. after s finished) (resolved_same left.decoded.pending left i)
@@ -190,7 +194,8 @@ module _ (outline : Outline) where
     close_same (Breaks kind offset) left i = refl
     close_same (Over origin) left i = over_same home.role left.chunks origin left i
 
-    after_same : (s : Step) (next other : Left → PageRead) → ((left : Left) → AllNamed None left → next left ≡ other left) → Holds AllNamed (NeedsIncluded home) None s → after s next ≡ after s other
+    after_same : (s : Step) (next other : Left → PageRead) → ((left : Left) → AllNamed None left → next left ≡ other left)
+        → Holds AllNamed (NeedsIncluded home) None s → after s next ≡ after s other
     after_same (On left) next other e i = e left i
     after_same (Ends read) next other e i = refl
 
@@ -200,7 +205,7 @@ module _ (outline : Outline) where
     from_same close (act ∷ acts) left all i =
         ap (λ s. after s (read_from home a close acts)) (act_same act left i)
         ∙ after_same (at_act home b act left) (read_from home a close acts) (read_from home b close acts) (λ now j. from_same close acts now all.1 j)
-          (act_holds home b Fine Named AllNamed (NeedsIncluded home) (rules home b) below act left all.0 i)
+        (act_holds home b Fine Named AllNamed (NeedsIncluded home) (rules home b) below act left all.0 i)
 
 pub read_same : (given : Given) (known : Known) (outline : Outline) → given.home.role ≡ Included
     → ((name : List ℕ) (target : ℕ) → number_of name given.home.names ≡ Some target → target < length given.home.names) → IsOutlined given outline
@@ -220,12 +225,12 @@ over_by given outline (Refused fault) e role below it served = tt
 over_by given outline NeedBytes e role below it served =
     let waits : close_in given.mark given.bytes ≡ Waits = (ended given below).quiet e in
     let over : close_in given.mark given.bytes ≡ Over (origin_of (chunks_of given.bytes).form) =
-        ap (close_of (origin_of (chunks_of given.bytes).form)) (outlined_so given outline it).over in
+    ap (close_of (origin_of (chunks_of given.bytes).form)) (outlined_so given outline it).over in
     let wrong : Waits ≡ Over (origin_of (chunks_of given.bytes).form) = sym waits ∙ over in cc
 over_by given outline (NeedOutline file) e role below it served =
     let unknown = subst (λ x. Because given.home given.known x) e (ended given below).because in
     let wrong : verdict.Files (unknown.target ∷ []) ≡ verdict.NeedOutline file =
-        subst (λ r. listing r given.home given.known unknown.target ≡ verdict.NeedOutline file) role unknown.list in cc
+    subst (λ r. listing r given.home given.known unknown.target ≡ verdict.NeedOutline file) role unknown.list in cc
 over_by given outline (NeedFile file) e role below it served =
     let next = subst (λ x. Because given.home given.known x) e (ended given below).because in
     let some = served file (needs_included outline given below it file e role) in

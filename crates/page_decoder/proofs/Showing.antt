@@ -108,7 +108,8 @@ some_on home head given decoded left zero n i e page =
     first_drawing (kind_of head.id) home.table given head.offset (suc left.chunks) left.decoded decoded left.told.drawings (i.first head refl page n)
     (brings (kind_of head.id) home.table given head.offset left.decoded decoded e)
 some_on home head given decoded left (suc chunks) n i e page =
-    some_left left.told.drawings (drawing_by (kind_of head.id) (suc left.chunks) decoded.layers) (i.some page (λ none. let wrong : suc chunks ≡ 0 = sym n ∙ none in cc))
+    some_left left.told.drawings (drawing_by (kind_of head.id) (suc left.chunks) decoded.layers)
+    (i.some page (λ none. let wrong : suc chunks ≡ 0 = sym n ∙ none in cc))
 
 begun : (home : Home) (head : Head) (left : Left) → header_fault home.role left head ≡ None → (other : Head) → Some head ≡ Some other → home.role ≡ Page
     → left.chunks ≡ 0 → kind_of other.id ≡ kind.Info
@@ -127,7 +128,8 @@ rules home known = record {
     some = λ page n. some_on home head given decoded left left.chunks refl i e page;
     first = λ other none. absurd (cc);
     last = last_on (kind_of head.id) (suc left.chunks) left.told.drawings left.decoded.layers decoded.layers
-        (draws (kind_of head.id) home.table given head.offset left.decoded decoded (brings (kind_of head.id) home.table given head.offset left.decoded decoded e)) i.last;
+        (draws (kind_of head.id) home.table given head.offset left.decoded decoded
+        (brings (kind_of head.id) home.table given head.offset left.decoded decoded e)) i.last;
   };
   part = λ head n left i. record { some = i.some; first = λ other none. absurd (cc); last = i.last };
   wrong = λ head n kind offset left i. record { drawn = λ e. absurd (end_of_refused _ e); layers = i.last };
@@ -146,7 +148,8 @@ rules home known = record {
 pub shown : (given : Given) → ((name : List ℕ) (target : ℕ) → number_of name given.home.names ≡ Some target → target < length given.home.names)
     → Shown given.home (read given).left (read given).end
 shown given below =
-    from_holds given.home given.known any_chunk any_include (Shows given.home) (Shown given.home) (rules given.home given.known) below (close_in given.mark given.bytes)
+    from_holds given.home given.known any_chunk any_include (Shows given.home) (Shown given.home) (rules given.home given.known) below
+    (close_in given.mark given.bytes)
     (λ w left i. record { drawn = λ e. absurd (cc); layers = i.last }) (acts_of (chunks_of given.bytes)) at_start (any_acts (acts_of (chunks_of given.bytes)))
     (record { some = λ page n. absurd (n refl); first = λ head none. absurd (cc); last = refl })
 
@@ -163,9 +166,10 @@ own_below home kind offset own fault e =
     subst (λ (f : Fault). f.place.file < length home.names) (fault_is (fault_at kind home.file offset) fault e) own
 
 module _ (home : Home) (known : Known) (own : home.file < length home.names)
-    (of_results : (file : ℕ) (fault : Fault) → file < length home.names → known.results file ≡ Some (result.Refused fault) → fault.place.file < length home.names)
+    (of_results : (file : ℕ) (fault : Fault) → file < length home.names → known.results file ≡ Some (result.Refused fault) → fault.place.file
+    < length home.names)
     (of_graphs : (graph : Graph) (target : ℕ) (fault : Fault) → target < length graph.names → verdict_of graph target ≡ verdict.Refused fault
-      → fault.place.file < length graph.names)
+    → fault.place.file < length graph.names)
     (order : Order) where
   graph_below : (role : Role) (target : ℕ) (fault : Fault) → target < length home.names → listing role home known target ≡ verdict.Refused fault
       → fault.place.file < length home.names
@@ -196,9 +200,10 @@ module _ (home : Home) (known : Known) (own : home.file < length home.names)
 
 pub fault_below : (given : Given) → ((name : List ℕ) (target : ℕ) → number_of name given.home.names ≡ Some target → target < length given.home.names)
     → given.home.file < length given.home.names
-    → ((file : ℕ) (fault : Fault) → file < length given.home.names → given.known.results file ≡ Some (result.Refused fault) → fault.place.file < length given.home.names)
+    → ((file : ℕ) (fault : Fault) → file < length given.home.names → given.known.results file ≡ Some (result.Refused fault) → fault.place.file
+    < length given.home.names)
     → ((graph : Graph) (target : ℕ) (fault : Fault) → target < length graph.names → verdict_of graph target ≡ verdict.Refused fault
-      → fault.place.file < length graph.names)
+    → fault.place.file < length graph.names)
     → Order → FaultBelow given.home (read given).end
 fault_below given below own of_results of_graphs order =
     from_holds given.home given.known any_chunk any_include (λ at left. Unit {0}) (λ left end. FaultBelow given.home end)

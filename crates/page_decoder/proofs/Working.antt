@@ -51,7 +51,8 @@ there library file files e = by (slice_get library file) refl
     by : (found : Option File) → slice_get library file ≡ found → file < length (names_in library)
     by (Some it) s = subst (λ n. file < n) (sym (length_names library)) (slice_get_within library file it s)
     by None s =
-        let wrong : verdict.Files files ≡ verdict.NeedOutline file = sym e ∙ unknown_by (graph_of library) (length (names_in library)) file (ap outline_in_file s) in
+        let wrong : verdict.Files files ≡ verdict.NeedOutline file = sym e
+        ∙ unknown_by (graph_of library) (length (names_in library)) file (ap outline_in_file s) in
         absurd (cc)
 
 pub result_there : (table : List Row) (library : Library) (file : ℕ) (files : List ℕ) → verdict_of (graph_of library) file ≡ verdict.Files files
@@ -65,9 +66,11 @@ listed_result table library file it (verdict.NeedOutline other) v e = let wrong 
 listed_result table library file it (verdict.Refused fault) v e = let wrong : None ≡ Some it = e in absurd (cc)
 
 -- the reading of a page lacks the result of no file
-pub never_lacks : Listed → (table : List Row) (library : Library) (page file : ℕ) → IsNext (run_given table library page).home (run_given table library page).known file → ⊥
+pub never_lacks : Listed → (table : List Row) (library : Library) (page file : ℕ)
+    → IsNext (run_given table library page).home (run_given table library page).known file → ⊥
 never_lacks listed table library page file next =
-    let list = listed (graph_of library) next.target file (next.before ++ file ∷ next.others) next.below next.list (among_behind file next.before next.others) in
+    let list = listed (graph_of library) next.target file (next.before ++ file ∷ next.others) next.below next.list
+    (among_behind file next.before next.others) in
     let wrong : None ≡ Some (res_of table library file).result = sym next.lacking ∙ result_there table library file list.0 list.1 in cc
 
 -- so what it reaches has a list
@@ -77,7 +80,8 @@ pub reached_listed : Listed → (table : List Row) (library : Library) (page fil
     → (files : List ℕ) × (verdict_of (graph_of library) file ≡ verdict.Files files)
 reached_listed listed table library page file (inl it) because = listed_result table library file it.0 (verdict_of (graph_of library) file) refl it.1
 reached_listed listed table library page file (inr e) because =
-    absurd (never_lacks listed table library page file (subst (λ end. Because (run_given table library page).home (run_given table library page).known end) e because))
+    absurd (never_lacks listed table library page file
+    (subst (λ end. Because (run_given table library page).home (run_given table library page).known end) e because))
 
 -- ---- a library whose files are all closed
 
@@ -97,7 +101,8 @@ none_there [] file below e = omega (arith, below)
 none_there (first ∷ files) zero below e = cc
 none_there (first ∷ files) (suc file) below e = none_there files file (omega (arith, below)) e
 
-pub closed_known : (files : Library) → ((file : ℕ) (it : File) → slice_get files file ≡ Some it → it.mark ≢ Open) → ((b : List ℕ) → is_some (outline_of Whole b) ≡ true)
+pub closed_known : (files : Library) → ((file : ℕ) (it : File) → slice_get files file ≡ Some it → it.mark ≢ Open)
+    → ((b : List ℕ) → is_some (outline_of Whole b) ≡ true)
     → ((b : List ℕ) → is_some (outline_of library.Broken b) ≡ true) → (file : ℕ) → file < length files → outlines_in files file ≡ None → ⊥
 closed_known files closed whole broken file below e = by (slice_get files file) refl e
   where
@@ -109,18 +114,20 @@ closed_known files closed whole broken file below e = by (slice_get files file) 
 
 module _ (table : List Row) (library later : Library) (on : LibraryGoesOn library later) (outlines : OutlinesStay)
     (verdicts : (names : List (List ℕ)) (less more : ℕ → Option Outline) (file : ℕ) → KnownOn less more
-      → VerdictOn more (verdict_of (record { names = names; outlines = less }) file) (verdict_of (record { names = names; outlines = more }) file))
+    → VerdictOn more (verdict_of (record { names = names; outlines = less }) file) (verdict_of (record { names = names; outlines = more }) file))
     (res_same : (target file : ℕ) (files : List ℕ) → target < length (names_in library) → verdict_of (graph_of library) target ≡ verdict.Files files
-      → is_among file files ≡ true → res_of table library file ≡ res_of table later file)
-    (itself : (graph : Graph) (file : ℕ) (files : List ℕ) → verdict_of graph file ≡ verdict.Files files → (before : List ℕ) × (files ≡ before ++ file ∷ [])) where
+    → is_among file files ≡ true → res_of table library file ≡ res_of table later file)
+    (itself : (graph : Graph) (file : ℕ) (files : List ℕ) → verdict_of graph file ≡ verdict.Files files → (before : List ℕ)
+    × (files ≡ before ++ file ∷ [])) where
   list_on : (files : List ℕ) (v w : Verdict) → VerdictOn (outlines_in later) v w → v ≡ verdict.Files files → w ≡ verdict.Files files
   list_on files v w (same_verdict e) l = sym e ∙ l
   list_on files v w (was_unknown file outline e known) l = let wrong : verdict.NeedOutline file ≡ verdict.Files files = sym e ∙ l in absurd (cc)
 
-  pub list_stays : (file : ℕ) (files : List ℕ) → verdict_of (graph_of library) file ≡ verdict.Files files → verdict_of (graph_of later) file ≡ verdict.Files files
+  pub list_stays : (file : ℕ) (files : List ℕ) → verdict_of (graph_of library) file ≡ verdict.Files files
+      → verdict_of (graph_of later) file ≡ verdict.Files files
   list_stays file files e =
       let more = list_on files (verdict_of (graph_of library) file) (verdict_of (record { names = names_in library; outlines = outlines_in later }) file)
-          (verdicts (names_in library) (outlines_in library) (outlines_in later) file (outlines_on outlines library later on)) e in
+      (verdicts (names_in library) (outlines_in library) (outlines_in later) file (outlines_on outlines library later on)) e in
       subst (λ names. verdict_of (record { names = names; outlines = outlines_in later }) file ≡ verdict.Files files) (names_stay library later on) more
 
   pub own_stays : (file : ℕ) (files : List ℕ) → verdict_of (graph_of library) file ≡ verdict.Files files → res_of table library file ≡ res_of table later file

@@ -19,9 +19,11 @@ pub mod worked;
 /// left, and so does one whose need isn't met.
 pub fn growth()
     ensures told { (less more : Given) → IsTable less.home.table → Within less more → Below (read less).left.told (read more).left.told }
-    ensures notices { (less more : Given) → IsTable less.home.table → Within less more → Front (notices_of (read less).left.told) (notices_of (read more).left.told) }
+    ensures notices { (less more : Given) → IsTable less.home.table → Within less more
+        → Front (notices_of (read less).left.told) (notices_of (read more).left.told) }
     ensures finished { (less more : Given) → IsTable less.home.table → Within less more → (read less).end ≡ Finished → read more ≡ read less }
-    ensures refused { (less more : Given) (fault : Fault) → IsTable less.home.table → Within less more → (read less).end ≡ Refused fault → read more ≡ read less }
+    ensures refused { (less more : Given) (fault : Fault) → IsTable less.home.table → Within less more → (read less).end ≡ Refused fault
+        → read more ≡ read less }
     ensures unmet { (less more : Given) → IsTable less.home.table → Within less more → Lacks less more (read less).end → read more ≡ read less }
 {
     iff_chunks::laws::chunks_stay();
@@ -40,7 +42,8 @@ pub fn given_grows()
 
 /// A reading of some acts and then of others is that of the first ones, and then, from what these left, of the others.
 pub fn acts()
-    ensures { (home : Home) (known : Known) (close : Close) (acts others : List Act) (left : Left) → read_from home known close (acts ++ others) left ≡ after (step_through home known acts left) (read_from home known close others) }
+    ensures { (home : Home) (known : Known) (close : Close) (acts others : List Act) (left : Left)
+        → read_from home known close (acts ++ others) left ≡ after (step_through home known acts left) (read_from home known close others) }
 {}
 
 /// Why a reading ends. It needs a file that stands in the list of an include's target, behind files that aren't refused; an
@@ -48,11 +51,14 @@ pub fn acts()
 /// known, but for one that it needs.
 pub fn needs()
     ensures because { (given : Given) → Because given.home given.known (read given).end }
-    ensures outline { (given : Given) (file : ℕ) → (read given).end ≡ NeedOutline file → (given.known.outlines file ≡ None) × (file < length given.home.names) }
+    ensures outline { (given : Given) (file : ℕ) → (read given).end ≡ NeedOutline file → (given.known.outlines file ≡ None)
+        × (file < length given.home.names) }
     ensures file { (given : Given) (file : ℕ) → (read given).end ≡ NeedFile file → (given.known.results file ≡ None) × (file < length given.home.names) }
     ensures closed { (given : Given) → given.mark ≢ Open → (read given).end ≢ NeedBytes }
-    ensures reached { (given : Given) (file : ℕ) → is_among file (read given).left.told.reached ≡ true → ((result : Result) × (given.known.results file ≡ Some result)) ⊎ ((read given).end ≡ NeedFile file) }
-    ensures stay_reached { (less more : Given) (file : ℕ) → IsTable less.home.table → Within less more → is_among file (read less).left.told.reached ≡ true → is_among file (read more).left.told.reached ≡ true }
+    ensures reached { (given : Given) (file : ℕ) → is_among file (read given).left.told.reached ≡ true
+        → ((result : Result) × (given.known.results file ≡ Some result)) ⊎ ((read given).end ≡ NeedFile file) }
+    ensures stay_reached { (less more : Given) (file : ℕ) → IsTable less.home.table → Within less more
+        → is_among file (read less).left.told.reached ≡ true → is_among file (read more).left.told.reached ≡ true }
 {
     growth();
     include_graph::laws::verdicts_ask();
@@ -66,7 +72,8 @@ pub fn shows()
     ensures drawn { (given : Given) → given.home.role ≡ Page → (read given).end ≡ Finished → (read given).left.told.drawings ≢ [] }
     ensures layers { (given : Given) → (read given).left.decoded.layers ≡ last_layers (read given).left.told.drawings }
     ensures faults { (given : Given) (fault : Fault) → given.home.file < length given.home.names
-        → ((file : ℕ) (other : Fault) → file < length given.home.names → given.known.results file ≡ Some (RefusedFile other) → other.place.file < length given.home.names)
+        → ((file : ℕ) (other : Fault) → file < length given.home.names → given.known.results file ≡ Some (RefusedFile other) → other.place.file
+        < length given.home.names)
         → (read given).end ≡ Refused fault → fault.place.file < length given.home.names }
 {
     include_graph::laws::lists();

@@ -18,7 +18,8 @@ ghost use Rattle.page_decoder.specs.Needs.{Below, IsOver, IsMade, Built};
 pub fn results_are_the_librarys()
     ensures made { (table : List Row) (library : Library) (results : ℕ → Option Result) (page file : ℕ) → Built table library results
         → IsMade table library results page file
-        → ((list : List ℕ) × (verdict_of (graph_of library) file ≡ Files list)) × (res_of table library file ≡ decode (given_in Included table library file results)) }
+        → ((list : List ℕ) × (verdict_of (graph_of library) file ≡ Files list))
+        × (res_of table library file ≡ decode (given_in Included table library file results)) }
     ensures known { (table : List Row) (library : Library) (results : ℕ → Option Result) (file : ℕ) (result : Result) → Built table library results
         → results file ≡ Some result → results_in table library file ≡ Some result }
     ensures pages { (table : List Row) (library : Library) (results : ℕ → Option Result) (page : ℕ) → Built table library results
@@ -38,7 +39,8 @@ pub fn libraries_go_on()
         → ((other : ℕ) (result : Result) → less other ≡ Some result → more other ≡ Some result)
         → Within (given_in role table library file less) (given_in role table later file more) }
     ensures results { (table : List Row) (library later : Library) (file : ℕ) (files : List ℕ) → IsTable table → LibraryGoesOn library later
-        → verdict_of (graph_of library) file ≡ Files files → (verdict_of (graph_of later) file ≡ Files files) × (res_of table library file ≡ res_of table later file) }
+        → verdict_of (graph_of library) file ≡ Files files → (verdict_of (graph_of later) file ≡ Files files)
+        × (res_of table library file ≡ res_of table later file) }
     ensures given { (table : List Row) (library later : Library) (page : ℕ) → IsTable table → LibraryGoesOn library later
         → Within (run_given table library page) (run_given table later page) }
     ensures told { (table : List Row) (library later : Library) (page : ℕ) → IsTable table → LibraryGoesOn library later

@@ -8,7 +8,8 @@ use Rattle.page_decoder.proofs.Numbering.{number_below}
 use Rattle.page_decoder.proofs.Limiting.{HasBytes, form_bytes, at_most}
 use Rattle.page_decoder.proofs.page_laws.limits.Goals as goal
 
-none_there : (whole : List Chunk) (tail : Tail) → InOrder AtForm (events_of (record { form = None; whole = whole; tail = tail })) → AllByRecursion HasBytes whole
+none_there : (whole : List Chunk) (tail : Tail) → InOrder AtForm (events_of (record { form = None; whole = whole; tail = tail }))
+    → AllByRecursion HasBytes whole
 none_there [] tail order = tt
 none_there (chunk ∷ whole) tail order = absurd order
 

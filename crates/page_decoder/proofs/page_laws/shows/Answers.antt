@@ -9,4 +9,5 @@ pub returns-clause-layers : goal.returns-clause-layers
 returns-clause-layers c given = (shown given (number_below given.home.names)).layers
 
 pub returns-clause-faults : goal.returns-clause-faults
-returns-clause-faults c given fault own results e = fault_below given (number_below given.home.names) own results c.below.ensures.refused c.lists.ensures.order fault e
+returns-clause-faults c given fault own results e =
+    fault_below given (number_below given.home.names) own results c.below.ensures.refused c.lists.ensures.order fault e

@@ -26,7 +26,8 @@ module _ (c : goal.After-outlines_stay) (table : List Row) (library : Library) (
       (subst (λ n. file < n) (length_names library) lacking.1) lacking.0)
   over (NeedFile file) e =
       absurd (never_lacks c.lists.ensures.listed table library page file
-      (subst (λ end. Because (run_given table library page).home (run_given table library page).known end) e (c.needs.ensures.because (run_given table library page))))
+      (subst (λ end. Because (run_given table library page).home (run_given table library page).known end) e
+      (c.needs.ensures.because (run_given table library page))))
 
 pub returns : goal.returns
 returns c table library page below closed = over c table library page below closed (read (run_given table library page)).end refl

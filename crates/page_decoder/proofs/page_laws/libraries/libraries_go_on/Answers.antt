@@ -65,7 +65,8 @@ returns-clause-files c role table library later file less more on results =
     within_library c.outlines_stay.ensures.stays role table library later file less more on results
 
 pub returns-clause-results : goal.returns-clause-results
-returns-clause-results c table library later file files is on e = (lists c table library later is on file files e, owns c table library later is on file files e)
+returns-clause-results c table library later file files is on e =
+    (lists c table library later is on file files e, owns c table library later is on file files e)
 
 pub returns-clause-given : goal.returns-clause-given
 returns-clause-given c table library later page is on = runs c table library later is on page

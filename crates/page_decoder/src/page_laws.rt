@@ -72,8 +72,8 @@ pub fn shows()
     ensures drawn { (given : Given) → given.home.role ≡ Page → (read given).end ≡ Finished → (read given).left.told.drawings ≢ [] }
     ensures layers { (given : Given) → (read given).left.decoded.layers ≡ last_layers (read given).left.told.drawings }
     ensures faults { (given : Given) (fault : Fault) → given.home.file < length given.home.names
-        → ((file : ℕ) (other : Fault) → file < length given.home.names → given.known.results file ≡ Some (RefusedFile other) → other.place.file
-        < length given.home.names)
+        → ((file : ℕ) (other : Fault) → file < length given.home.names → given.known.results file ≡ Some (RefusedFile other)
+        → other.place.file < length given.home.names)
         → (read given).end ≡ Refused fault → fault.place.file < length given.home.names }
 {
     include_graph::laws::lists();

@@ -10,8 +10,8 @@ use Rattle.iff_chunks.specs.Events.{events_of}
 use Rattle.iff_chunks.specs.Growth.{IsGrown, IsStillThere}
 use Rattle.iff_chunks.specs.Order.{AtForm, InOrder}
 use Rattle.iw44_image.specs.Layer.{Data, data_of}
-use Rattle.page_decoder.specs.Headers.{Head, head_of}
-use Rattle.page_decoder.specs.Acts.{Act, Kind, Reads, Close, Waits, Breaks, Over, form_acts, complete_act, open_act, complete_acts, tail_acts, acts_of, origin_of, close_of, close_in}
+use Rattle.page_decoder.specs.Headers.{head_of}
+use Rattle.page_decoder.specs.Acts.{Act, Kind, Reads, Close, Waits, form_acts, complete_act, open_act, complete_acts, tail_acts, acts_of, origin_of, close_of, close_in}
 use Rattle.page_decoder.proofs.Further.{Longer, at_last, at_wait, in_data, behind}
 
 -- what the laws of the container say of a file and its bytes so far

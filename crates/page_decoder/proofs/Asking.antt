@@ -1,5 +1,5 @@
 -- What a reading asks for isn't known, and is a file of the folder.
-use Rattle.std.proofs.Common.{◌≡◌, ◌<◌, ℕ, Option, Some, None, List, [], ◌∷◌, ◌++◌, length, refl, sym, ap, ◌∙◌, subst}
+use Rattle.std.proofs.Common.{◌≡◌, ◌<◌, ℕ, None, List, [], ◌∷◌, ◌++◌, length, subst}
 use Rattle.include_graph.specs.declared.verdicts.Verdict.TheVariants as verdict
 use Rattle.include_graph.specs.Verdicts.{Graph, verdict_of}
 use Rattle.include_graph.specs.Graphs.{InOrder}

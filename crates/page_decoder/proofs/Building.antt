@@ -1,20 +1,19 @@
 -- Results of included files over a library: those that were made out of one another are the library's, and they stay when it goes on.
-use Rattle.std.proofs.Common.{◌≡◌, ◌≢◌, ◌<◌, ◌≤◌, ℕ, zero, suc, ◌+◌, Bool, true, false, Option, Some, None, ◌⊎◌, inl, inr, List, [], ◌∷◌, ◌++◌, length, refl, sym, ap, ◌∙◌, subst, arith}
+use Rattle.std.proofs.Common.{◌≡◌, ◌<◌, ◌≤◌, ℕ, suc, true, Option, Some, None, List, length, refl, sym, ap, ◌∙◌, subst, arith}
 use Rattle.std.specs.Prelude.{slice_get}
 use Rattle.djvu_base.specs.Library.{File, Library}
 use Rattle.zp_table.specs.declared.rows.Row.{Row}
 use Rattle.zp_table.specs.Rows.{IsTable}
 use Rattle.include_graph.specs.declared.outline.Outline.{Outline}
-use Rattle.include_graph.specs.declared.verdicts.Verdict.{Verdict}
 use Rattle.include_graph.specs.declared.verdicts.Verdict.TheVariants as verdict
 use Rattle.include_graph.specs.Outlines.{outline_of}
 use Rattle.include_graph.specs.Verdicts.{Graph, is_among, verdict_of}
-use Rattle.include_graph.specs.Graphs.{InOrder, IsServed, Includes}
+use Rattle.include_graph.specs.Graphs.{IsServed, Includes}
 use Rattle.page_decoder.specs.Results.{Result}
 use Rattle.page_decoder.specs.Given.{Included, Known, Given, Within}
 use Rattle.page_decoder.specs.Read.{FileDone, decode}
 use Rattle.page_decoder.specs.Libraries.{names_in, outline_in_file, outlines_in, bytes_in, mark_in, graph_of, given_in, res, res_of, result_where, results_in, LibraryGoesOn}
-use Rattle.page_decoder.specs.Needs.{IsGood, IsOutlined, IncludesFile, IsMade, IsBuilt, Built}
+use Rattle.page_decoder.specs.Needs.{IsGood, IsOutlined, IncludesFile, IsMade, Built}
 use Rattle.page_decoder.proofs.Asking.{Order}
 use Rattle.page_decoder.proofs.GoingOn.{OutlinesStay, within_library, length_names, length_stays}
 use Rattle.page_decoder.proofs.Ordered.{none_faulty, includes_before, ordered_holds}

@@ -1,5 +1,5 @@
 -- The faults of a library's files stand in its files.
-use Rattle.std.proofs.Common.{◌≡◌, ◌<◌, ℕ, zero, suc, Option, Some, None, List, length, refl, sym, ap, ◌∙◌, subst}
+use Rattle.std.proofs.Common.{◌≡◌, ◌<◌, ℕ, zero, suc, Option, Some, None, List, length, sym, ap, subst}
 use Rattle.djvu_base.specs.declared.faults.Fault.{Fault}
 use Rattle.djvu_base.specs.Library.{Library}
 use Rattle.zp_table.specs.declared.rows.Row.{Row}
@@ -12,7 +12,7 @@ use Rattle.page_decoder.specs.Results as result
 use Rattle.page_decoder.specs.Given.{Included, Given}
 use Rattle.page_decoder.specs.PageRead.{Ending, Finished, Refused, NeedBytes, NeedOutline, NeedFile, Decoded, in_force}
 use Rattle.page_decoder.specs.Read.{FileDone, read, result_by}
-use Rattle.page_decoder.specs.Libraries.{names_in, graph_of, given_in, res, res_of, result_where, results_in, run_given, run_end}
+use Rattle.page_decoder.specs.Libraries.{names_in, graph_of, given_in, res, res_of, result_where, run_given, run_end}
 use Rattle.page_decoder.proofs.GoingOn.{length_names}
 
 -- the law of faults

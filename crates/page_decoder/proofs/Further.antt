@@ -1,6 +1,6 @@
 -- A reading with more given goes on from the reading with less: where the two differ, the shorter one has ended. So one relation on
 -- steps, with the same state on both sides, is kept by each act.
-use Rattle.std.proofs.Common.{◌≡◌, ◌≤◌, ℕ, zero, suc, Bool, true, false, Option, Some, None, List, [], ◌∷◌, ◌++◌, refl, sym, ap, ◌∙◌, subst, arith}
+use Rattle.std.proofs.Common.{◌≡◌, ◌≤◌, ℕ, zero, suc, Bool, true, false, Option, Some, None, List, [], ◌∷◌, ◌++◌, refl, sym, ap, ◌∙◌, subst}
 use Rattle.djvu_base.specs.declared.faults.FaultKind.{FaultKind}
 use Rattle.bit_plane.specs.Pixels.{Pixels}
 use Rattle.zp_table.specs.declared.rows.Row.{Row}
@@ -15,13 +15,13 @@ use Rattle.page_decoder.specs.Kinds as kind
 use Rattle.page_decoder.specs.Results.{Result, Dictionary, Nothing}
 use Rattle.page_decoder.specs.Results as result
 use Rattle.page_decoder.specs.Given.{Role, Page, Included, Home, Known, KnowsMore}
-use Rattle.page_decoder.specs.PageRead.{Ending, Finished, Refused, NeedBytes, NeedOutline, NeedFile, Told, Include, Decoded, Left, PageRead}
+use Rattle.page_decoder.specs.PageRead.{Ending, Finished, Refused, NeedBytes, NeedOutline, NeedFile, Include, Decoded, Left, PageRead}
 use Rattle.page_decoder.specs.Headers.{Head, header_fault}
 use Rattle.page_decoder.specs.ChunkData.{Outcome, Leaves, Unfinished, Fails, Came, came}
 use Rattle.page_decoder.specs.Acts.{Act, Kind, Reads, Close, Waits, Breaks, Over}
-use Rattle.page_decoder.specs.Read.{Step, On, Ends, ends, and_then, after, reaching, counting, at_result, in_files, at_verdict, listing, at_target, at_include, resolved, all_resolved, resolved_before, at_header, at_outcome, at_came, at_data, at_act, finished, at_over, at_close, read_from}
+use Rattle.page_decoder.specs.Read.{Step, On, Ends, and_then, after, reaching, counting, at_result, in_files, at_verdict, listing, at_target, at_include, resolved, all_resolved, resolved_before, at_header, at_outcome, at_came, at_data, at_act, finished, at_over, at_close, read_from}
 use Rattle.page_decoder.specs.Needs.{Below}
-use Rattle.page_decoder.proofs.Retaining.{below_same, below_both, below_more, told_by, then_below, after_below, files_below, verdict_below, resolved_below, outcome_below, came_below, data_below, from_below}
+use Rattle.page_decoder.proofs.Retaining.{below_same, below_both, below_more, told_by, then_below, after_below, files_below, verdict_below, resolved_below, outcome_below, data_below, from_below}
 
 -- a need that was met: by what is known, or by bytes where there are more of them
 abbrev pub Met : Bool → Known → Ending → Type 0

@@ -1,13 +1,12 @@
 -- Libraries that go on: what is given there only grows.
-use Rattle.std.proofs.Common.{◌≡◌, ◌≢◌, ◌<◌, ◌≤◌, ℕ, zero, suc, Option, Some, None, ◌⊎◌, inl, inr, List, [], ◌∷◌, ◌++◌, map, length, refl, sym, ap, ◌∙◌, subst, arith}
+use Rattle.std.proofs.Common.{◌≡◌, ◌≤◌, ℕ, zero, suc, Option, Some, None, ◌⊎◌, inl, inr, List, [], ◌∷◌, ◌++◌, length, refl, sym, ap, ◌∙◌, subst, arith}
 use Rattle.std.specs.Prelude.{slice_get}
-use Rattle.std.proofs.lemmas.List.{append-nil}
 use Rattle.djvu_base.specs.Library.{Mark, Open, File, Library}
 use Rattle.zp_table.specs.declared.rows.Row.{Row}
 use Rattle.include_graph.specs.declared.outline.Outline.{Outline}
 use Rattle.include_graph.specs.Outlines.{outline_of}
 use Rattle.page_decoder.specs.Results.{Result}
-use Rattle.page_decoder.specs.Given.{Role, Home, Given, Front, Within}
+use Rattle.page_decoder.specs.Given.{Role, Given, Front, Within}
 use Rattle.page_decoder.proofs.Retaining.{front_both}
 use Rattle.page_decoder.specs.Libraries.{names_in, outline_in_file, outlines_in, bytes_in, mark_in, given_in, FileGoesOn, LibraryGoesOn}
 

@@ -1,16 +1,16 @@
 -- What an included file includes, by its outline and by its reading.
-use Rattle.std.proofs.Common.{◌≡◌, ◌<◌, ℕ, Bool, true, false, cond, ◌||◌, Option, Some, None, List, [], ◌∷◌, ◌++◌, length, refl, sym, ap, ◌∙◌, subst, arith}
+use Rattle.std.proofs.Common.{◌≡◌, ℕ, Bool, true, false, cond, ◌||◌, Option, Some, None, List, [], ◌∷◌, refl, sym, ap, ◌∙◌, subst}
 use Rattle.std.specs.List.{AllByRecursion, Contains}
 use Rattle.std.proofs.lemmas.List.Elements.{Contains-append_left, Contains-append_right, Contains-push}
 use Rattle.djvu_base.specs.declared.faults.FaultKind.{FaultKind}
 use Rattle.djvu_base.specs.Library.{Mark}
-use Rattle.iff_chunks.specs.Chunks.{Form, Chunk, Tail, InHead, InHeader, InData, InPad, FormEnd, Broken, chunks_of}
+use Rattle.iff_chunks.specs.Chunks.{Chunk, Tail, InHead, InHeader, InData, InPad, FormEnd, Broken, chunks_of}
 use Rattle.iff_chunks.specs.Ends.{file_end}
 use Rattle.include_graph.specs.declared.outline.Outline.{Outline}
 use Rattle.include_graph.specs.declared.outline.OutlineItem.{OutlineItem}
 use Rattle.include_graph.specs.declared.outline.OutlineItem.TheVariants as item
 use Rattle.include_graph.specs.Included.{chunk_fault, is_dictionary, is_include, include_name}
-use Rattle.include_graph.specs.Outlines.{Items, faulty, item_then, unless_faulty, items_at_end, items_at_tail, named_then, chunk_then, items_in, form_fault, outline_by, outlined}
+use Rattle.include_graph.specs.Outlines.{Items, unless_faulty, items_at_end, items_at_tail, named_then, chunk_then, items_in, form_fault, outlined}
 use Rattle.page_decoder.specs.Given.{Given}
 use Rattle.page_decoder.specs.Needs.{HasNoFault, IsOutlined}
 

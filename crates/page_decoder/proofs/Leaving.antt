@@ -1,5 +1,5 @@
 -- What a complete chunk leaves, by its kind.
-use Rattle.std.proofs.Common.{◌≡◌, ℕ, Bool, true, false, cond, leb, Option, Some, None, List, [], ◌∷◌, ◌++◌, length, refl, sym, ap, ◌∙◌}
+use Rattle.std.proofs.Common.{◌≡◌, ℕ, Bool, true, false, cond, leb, Option, Some, None, List, [], ◌∷◌, ◌++◌, length, refl}
 use Rattle.djvu_base.specs.Picture.{Picture}
 use Rattle.djvu_base.specs.declared.faults.FaultKind.{FaultKind}
 use Rattle.zp_table.specs.declared.rows.Row.{Row}
@@ -15,7 +15,7 @@ use Rattle.page_decoder.specs.Reading.{size_in, size_fault, with_mask}
 use Rattle.page_decoder.specs.Kinds.{ChunkKind}
 use Rattle.page_decoder.specs.Kinds as kind
 use Rattle.page_decoder.specs.PageRead.{Decoded}
-use Rattle.page_decoder.specs.ChunkData.{Outcome, Leaves, Unfinished, Fails, once_complete, with_layers, page_of, sized, info_outcome, named, include_outcome, records_in, records_outcome, with_dictionary, dictionary_came, mask_came, layer_outcome, with_front, front_came, with_back, back_with, back_came, came_by}
+use Rattle.page_decoder.specs.ChunkData.{Leaves, Unfinished, Fails, once_complete, with_layers, page_of, sized, named, records_in, records_outcome, with_dictionary, mask_came, layer_outcome, with_front, front_came, with_back, back_with, back_came, came_by}
 
 -- an include is pending, besides those before it
 abbrev pub with_include : List ℕ → ℕ → Decoded → Decoded

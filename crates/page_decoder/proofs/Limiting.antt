@@ -1,13 +1,13 @@
 -- A page has at most 259 drawings: those of its INFO, mask and foreground, and of 256 chunks of its background, whose numbers are bytes.
-use Rattle.std.proofs.Common.{◌≡◌, ◌<◌, ◌≤◌, ℕ, zero, suc, ◌+◌, ◌-◌, Bool, true, false, ◌&&◌, ltb, Option, Some, None, List, [], ◌∷◌, ◌++◌, length, refl, sym, ap, ◌∙◌, subst, arith}
-use Rattle.std.specs.List.{AllByRecursion, list_all}
+use Rattle.std.proofs.Common.{◌≡◌, ◌<◌, ◌≤◌, ℕ, zero, suc, ◌+◌, ◌-◌, true, false, Option, Some, None, List, [], ◌∷◌, ◌++◌, length, refl, sym, ap, ◌∙◌, subst, arith}
+use Rattle.std.specs.List.{AllByRecursion}
 use Rattle.std.specs.Prelude.{nat_lt}
 use Rattle.std.proofs.lemmas.Bool.{and_parts, ltb-true}
 use Rattle.std.proofs.lemmas.List.{length-append}
 use Rattle.std.proofs.lemmas.List.Folds.{list_all-append}
 use Rattle.djvu_base.specs.declared.faults.FaultKind.{FaultKind}
 use Rattle.djvu_base.specs.declared.faults.FaultKind.TheVariants as fault
-use Rattle.iff_chunks.specs.Chunks.{Form, Chunk, Chunks, Tail, InHead, InHeader, InData, InPad, FormEnd, Broken, form_word, chunks_of}
+use Rattle.iff_chunks.specs.Chunks.{Form, Chunk, Tail, InHead, InHeader, InData, InPad, FormEnd, Broken, form_word, chunks_of}
 use Rattle.iff_chunks.specs.Layout.{Laid, AtEnd, TooShort, Beginning, NoId, TooLong, DataArriving, PadMissing, Padded, Unpadded, IsLaidForm}
 use Rattle.zp_table.specs.declared.rows.Row.{Row}
 use Rattle.iw44_image.specs.Layer.{Data, Layer, Allowed, read_layer, read_chunk}
@@ -17,11 +17,11 @@ use Rattle.include_graph.specs.Verdicts.{number_of}
 use Rattle.page_decoder.specs.Reading.{mask_in}
 use Rattle.page_decoder.specs.Kinds.{ChunkKind, kind_of}
 use Rattle.page_decoder.specs.Kinds as kind
-use Rattle.page_decoder.specs.Given.{Role, Page, Home, Known, Given}
-use Rattle.page_decoder.specs.PageRead.{Drawing, Ending, Decoded, Left, at_start}
+use Rattle.page_decoder.specs.Given.{Page, Home, Known, Given}
+use Rattle.page_decoder.specs.PageRead.{Ending, Decoded, Left, at_start}
 use Rattle.page_decoder.specs.Headers.{Head, front_in, second, first_fault, later_fault, page_fault, header_fault}
 use Rattle.page_decoder.specs.ChunkData.{Leaves, back_limit, allowed_on, came_by}
-use Rattle.page_decoder.specs.Acts.{Act, Kind, Reads, form_acts, complete_acts, tail_acts, acts_of, close_in}
+use Rattle.page_decoder.specs.Acts.{Act, form_acts, complete_acts, tail_acts, acts_of, close_in}
 use Rattle.page_decoder.specs.Read.{drawing_by, read}
 use Rattle.page_decoder.specs.Needs.{are_bytes}
 use Rattle.page_decoder.proofs.Leaving.{Brings, brings}

@@ -1,18 +1,17 @@
 -- What holds where a reading ends: its need is one, what it reached is known, and with a known end of the file it waits for no bytes.
-use Rattle.std.proofs.Common.{◌≡◌, ◌≢◌, ◌<◌, ℕ, Bool, true, false, cond, ◌||◌, eqb, Option, Some, ◌⊎◌, inl, inr, List, [], ◌∷◌, ◌++◌, length, refl, sym, ap, ◌∙◌, subst}
+use Rattle.std.proofs.Common.{◌≡◌, ◌≢◌, ◌<◌, ℕ, Bool, true, false, cond, ◌||◌, eqb, Option, Some, ◌⊎◌, inl, inr, List, [], ◌∷◌, length, refl, sym, ap, ◌∙◌, subst}
 use Rattle.std.proofs.lemmas.Bool.{true≢false}
 use Rattle.std.proofs.lemmas.List.Folds.{list_any-append}
-use Rattle.djvu_base.specs.declared.faults.Fault.{Fault}
 use Rattle.djvu_base.specs.declared.faults.FaultKind.{FaultKind}
 use Rattle.djvu_base.specs.declared.faults.FaultKind.TheVariants.{Read}
 use Rattle.djvu_base.specs.Library.{Mark, Open, Whole}
 use Rattle.djvu_base.specs.Library as library
 use Rattle.iff_chunks.specs.Chunks.{Chunk, Tail, InHead, InHeader, InData, InPad, FormEnd, Broken, chunks_of, end_of}
-use Rattle.iff_chunks.specs.Ends.{is_cut, broken_off, closed}
+use Rattle.iff_chunks.specs.Ends.{is_cut, broken_off}
 use Rattle.include_graph.specs.Verdicts.{number_of, is_among}
 use Rattle.page_decoder.specs.Results.{Result}
 use Rattle.page_decoder.specs.Given.{Home, Known, Given, Front}
-use Rattle.page_decoder.specs.PageRead.{Ending, Finished, Refused, NeedBytes, NeedOutline, NeedFile, Told, Left, at_start}
+use Rattle.page_decoder.specs.PageRead.{Ending, NeedBytes, NeedFile, Told, Left, at_start}
 use Rattle.page_decoder.specs.Headers.{Head}
 use Rattle.page_decoder.specs.Acts.{Close, Waits, acts_of, origin_of, close_of, close_in}
 use Rattle.page_decoder.specs.Read.{reaching, read}

@@ -1,5 +1,5 @@
 -- The number of a name is below how many there are.
-use Rattle.std.proofs.Common.{◌≡◌, ◌<◌, ℕ, suc, ◌+◌, Bool, true, false, cond, Option, Some, None, List, [], ◌∷◌, length, refl, sym, ap, ◌∙◌, arith}
+use Rattle.std.proofs.Common.{◌≡◌, ◌<◌, ℕ, suc, ◌+◌, Bool, true, false, cond, Some, None, List, [], ◌∷◌, length, arith}
 use Rattle.std.specs.List.{position_from}
 use Rattle.std.specs.Prelude.{bytes_eq}
 use Rattle.include_graph.specs.Verdicts.{number_of}

@@ -1,9 +1,8 @@
 -- Files in the order of a verdict's list: each one after all that it includes.
-use Rattle.std.proofs.Common.{◌≡◌, ◌<◌, ◌≤◌, ℕ, zero, suc, ◌+◌, Bool, true, false, ◌||◌, eqb, Option, Some, None, ◌⊎◌, inl, inr, List, [], ◌∷◌, ◌++◌, length, refl, sym, ap, ◌∙◌, subst, arith}
+use Rattle.std.proofs.Common.{◌≡◌, ◌≤◌, ℕ, zero, suc, ◌+◌, true, eqb, Some, ◌⊎◌, inl, inr, List, [], ◌∷◌, ◌++◌, length, sym, ap, ◌∙◌, subst, arith}
 use Rattle.std.specs.List.{Contains}
 use Rattle.std.proofs.lemmas.Bool.{eqb-true, true≢false}
 use Rattle.std.proofs.lemmas.List.Elements.{Contains-append_cases, Contains-push_cases}
-use Rattle.include_graph.specs.declared.outline.Outline.{Outline}
 use Rattle.include_graph.specs.declared.outline.OutlineItem.{OutlineItem}
 use Rattle.include_graph.specs.declared.outline.OutlineItem.TheVariants as item
 use Rattle.include_graph.specs.Verdicts.{Graph, number_of, is_among}

@@ -10,7 +10,7 @@ use Rattle.bit_plane.specs.Pixels.{Pixels}
 use Rattle.iw44_image.specs.Layer.{Data}
 use Rattle.include_graph.specs.declared.verdicts.Verdict.{Verdict}
 use Rattle.include_graph.specs.declared.verdicts.Verdict.TheVariants as verdict
-use Rattle.include_graph.specs.Verdicts.{number_of, is_among, fault_at}
+use Rattle.include_graph.specs.Verdicts.{number_of, is_among}
 use Rattle.page_decoder.specs.Kinds.{ChunkKind, kind_of}
 use Rattle.page_decoder.specs.Kinds as kind
 use Rattle.page_decoder.specs.Results.{Result, Dictionary, Nothing}
@@ -18,9 +18,9 @@ use Rattle.page_decoder.specs.Results as result
 use Rattle.page_decoder.specs.Given.{Role, Page, Included, Home, Known}
 use Rattle.page_decoder.specs.PageRead.{Ending, Finished, Refused, NeedBytes, NeedOutline, NeedFile, Include, Decoded, Left, PageRead}
 use Rattle.page_decoder.specs.Headers.{Head, form_fault, header_fault}
-use Rattle.page_decoder.specs.ChunkData.{Outcome, Leaves, Unfinished, Fails, Came, came}
+use Rattle.page_decoder.specs.ChunkData.{Outcome, Leaves, Unfinished, Fails, came}
 use Rattle.page_decoder.specs.Acts.{Act, Kind, Reads, Close, Waits, Breaks, Over}
-use Rattle.page_decoder.specs.Read.{Step, On, Ends, and_then, after, reaching, counting, inheriting, nothing_pending, with_chunk, refused_at, at_result, in_files, at_verdict, listing, at_target, at_include, resolved, all_resolved, resolved_before, at_form, at_header, at_outcome, at_came, at_data, at_act, finished, at_over, at_close, read_from, step_through}
+use Rattle.page_decoder.specs.Read.{Step, On, Ends, and_then, after, reaching, counting, inheriting, nothing_pending, with_chunk, refused_at, at_result, in_files, at_verdict, listing, at_target, at_include, resolved, all_resolved, resolved_before, at_form, at_header, at_outcome, at_data, at_act, finished, at_over, at_close, read_from, step_through}
 use Rattle.page_decoder.specs.Needs.{IsGood, IsNext, IsUnknown}
 
 -- of the file's chunks this is known, by their headers and data

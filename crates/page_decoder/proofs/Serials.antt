@@ -1,7 +1,6 @@
 -- A chunk of a layer that is done begins with its number, and is counted.
-use Rattle.std.proofs.Common.{◌≡◌, ℕ, suc, ◌+◌, Bool, true, false, cond, eqb, Option, Some, None, List, [], ◌∷◌, refl, sym, ap, ◌∙◌, subst}
+use Rattle.std.proofs.Common.{◌≡◌, ℕ, ◌+◌, Bool, true, false, cond, eqb, Option, Some, None, List, [], ◌∷◌, refl, ap, ◌∙◌}
 use Rattle.std.proofs.lemmas.Bool.{eqb-true}
-use Rattle.djvu_base.specs.declared.faults.FaultKind.{FaultKind}
 use Rattle.djvu_base.specs.declared.faults.FaultKind.TheVariants as fault
 use Rattle.zp_table.specs.declared.rows.Row.{Row}
 use Rattle.zp_decoder.specs.Chunk.{Chunk, chunk}
@@ -9,7 +8,7 @@ use Rattle.zp_decoder.specs.Decision.{Interval}
 use Rattle.iw44_slices.specs.declared.steps.SliceStep.{SliceStep}
 use Rattle.iw44_slices.specs.declared.steps.SliceStep.TheVariants as step
 use Rattle.iw44_image.specs.Header.{Opening, Short, Wrong, Opened, missing, read_rest, open_chunk, checked}
-use Rattle.iw44_image.specs.Layer.{Data, Layer, LayerReading, Answer, Done, Need, Fault, Task, Allowed, tasks, layer_after, after_slice, task_reading, chunk_end, read_tasks, with_header, read_opened, opening_of, read_chunk}
+use Rattle.iw44_image.specs.Layer.{Data, Layer, LayerReading, Done, Need, Fault, Task, Allowed, tasks, layer_after, after_slice, task_reading, chunk_end, read_tasks, with_header, read_opened, opening_of, read_chunk}
 
 abbrev IsOpened : Opening → Type 0
 IsOpened Short = ⊥

@@ -1,14 +1,13 @@
 -- The readings of pages over a library: what they need, and their work when the library goes on.
-use Rattle.std.proofs.Common.{◌≡◌, ◌≢◌, ◌<◌, ◌≤◌, ℕ, zero, suc, ◌+◌, Bool, true, false, cond, ◌||◌, eqb, Option, Some, None, is_some, ◌⊎◌, inl, inr, List, [], ◌∷◌, ◌++◌, map, length, refl, sym, ap, ◌∙◌, subst, arith}
+use Rattle.std.proofs.Common.{◌≡◌, ◌≢◌, ◌<◌, ◌≤◌, ℕ, zero, suc, Bool, true, false, cond, ◌||◌, eqb, Option, Some, None, is_some, ◌⊎◌, inl, inr, List, [], ◌∷◌, ◌++◌, length, refl, sym, ap, ◌∙◌, subst, arith}
 use Rattle.std.specs.Prelude.{slice_get, sum_by}
-use Rattle.std.specs.List.{list_any, range_with_len}
+use Rattle.std.specs.List.{list_any}
 use Rattle.std.proofs.lemmas.Bool.{true≢false, eq-eqb}
 use Rattle.std.proofs.lemmas.List.Sums.{sum_by-cons}
 use Rattle.std.proofs.lemmas.Option.{slice_get_within}
 use Rattle.djvu_base.specs.Library.{Mark, Open, Whole, File, Library}
 use Rattle.djvu_base.specs.Library as library
 use Rattle.zp_table.specs.declared.rows.Row.{Row}
-use Rattle.zp_table.specs.Rows.{IsTable}
 use Rattle.include_graph.specs.declared.outline.Outline.{Outline}
 use Rattle.include_graph.specs.declared.verdicts.Verdict.{Verdict}
 use Rattle.include_graph.specs.declared.verdicts.Verdict.TheVariants as verdict
@@ -16,14 +15,13 @@ use Rattle.include_graph.specs.Outlines.{outline_of}
 use Rattle.include_graph.specs.Verdicts.{Graph, is_among, at_outline, visit, verdict_by, verdict_of}
 use Rattle.include_graph.specs.Graphs.{KnownOn, VerdictOn, same_verdict, was_unknown}
 use Rattle.page_decoder.specs.Results.{Result}
-use Rattle.page_decoder.specs.Given.{Page, Given, Within}
-use Rattle.page_decoder.specs.PageRead.{Ending, Finished, Refused, NeedBytes, NeedOutline, NeedFile}
+use Rattle.page_decoder.specs.Given.{Page, Within}
+use Rattle.page_decoder.specs.PageRead.{NeedFile}
 use Rattle.page_decoder.specs.Read.{FileDone, read}
-use Rattle.page_decoder.specs.Libraries.{names_in, outline_in_file, outlines_in, mark_in, graph_of, res_of, result_where, results_in, run_given, run_end, run, is_reached, file_work, work_of, LibraryGoesOn}
-use Rattle.page_decoder.specs.Needs.{Below, IsNext, Because, IsOver}
-use Rattle.page_decoder.proofs.Needing.{front_among}
-use Rattle.page_decoder.proofs.Ruling.{among_last, or_cases}
-use Rattle.page_decoder.proofs.GoingOn.{OutlinesStay, names_stay, outlines_on, within_library, length_names, length_stays}
+use Rattle.page_decoder.specs.Libraries.{names_in, outline_in_file, outlines_in, graph_of, res_of, result_where, results_in, run_given, LibraryGoesOn}
+use Rattle.page_decoder.specs.Needs.{IsNext, Because}
+use Rattle.page_decoder.proofs.Ruling.{or_cases}
+use Rattle.page_decoder.proofs.GoingOn.{OutlinesStay, names_stay, outlines_on, within_library, length_names}
 
 abbrev pub Listed : Type 0
 Listed = (graph : Graph) (target file : ℕ) (files : List ℕ) → target < length graph.names → verdict_of graph target ≡ verdict.Files files

@@ -17,12 +17,11 @@ use Rattle.iw44_image.specs.Layer as iw44
 use Rattle.iw44_image.specs.Samples.{components_of, picture}
 use Rattle.layer_compose.specs.declared.layers.Layers.{Layers}
 use Rattle.layer_compose.specs.Reduction.{reduction_of}
-use Rattle.page_decoder.specs.declared.page.Size.{Size}
 use Rattle.page_decoder.specs.Reading.{size_in, size_fault, blank_page, with_mask}
 use Rattle.page_decoder.specs.Kinds.{ChunkKind, kind_of}
 use Rattle.page_decoder.specs.Kinds as kind
 use Rattle.page_decoder.specs.Headers.{Head}
-use Rattle.page_decoder.specs.PageRead.{Include, Decoded, in_force}
+use Rattle.page_decoder.specs.PageRead.{Decoded, in_force}
 
 -- the most pixels of a background, and of a foreground
 abbrev pub back_limit : ℕ

@@ -13,7 +13,7 @@ use Rattle.include_graph.specs.declared.verdicts.Verdict.TheVariants as verdict
 use Rattle.include_graph.specs.Outlines.{outline_of}
 use Rattle.include_graph.specs.Verdicts.{Graph, is_among, verdict_of}
 use Rattle.page_decoder.specs.Results.{Result, Nothing}
-use Rattle.page_decoder.specs.Given.{Role, Page, Included, Known, Given, Front}
+use Rattle.page_decoder.specs.Given.{Role, Page, Included, Given, Front}
 use Rattle.page_decoder.specs.PageRead.{Drawing, Ending, Finished, Refused, NeedBytes, NeedOutline, NeedFile, PageRead}
 use Rattle.page_decoder.specs.Read.{read, FileDone, decode}
 

@@ -13,7 +13,7 @@ use Rattle.include_graph.specs.Verdicts.{number_of, is_among, verdict_of}
 use Rattle.include_graph.specs.Graphs.{Includes}
 use Rattle.layer_compose.specs.declared.layers.Layers.{Layers}
 use Rattle.page_decoder.specs.Results.{Result, Refused as RefusedFile}
-use Rattle.page_decoder.specs.Given.{Role, Page, Included, Home, Known, Given, Front}
+use Rattle.page_decoder.specs.Given.{Page, Included, Home, Known, Given, Front}
 use Rattle.page_decoder.specs.PageRead.{Drawing, Ending, Finished, Refused, NeedBytes, NeedOutline, NeedFile, Told}
 use Rattle.page_decoder.specs.Read.{listing, read, decode}
 use Rattle.page_decoder.specs.Libraries.{graph_of, given_in}

@@ -15,7 +15,7 @@ use Rattle.page_decoder.specs.Kinds as kind
 use Rattle.page_decoder.specs.Results.{Result, Dictionary, Nothing, result_of}
 use Rattle.page_decoder.specs.Results as result
 use Rattle.page_decoder.specs.Given.{Role, Page, Included, Home, Known, Given}
-use Rattle.page_decoder.specs.PageRead.{Drawing, Ending, Finished, Refused, NeedBytes, NeedOutline, NeedFile, Told, Include, Decoded, Left, PageRead, or_else, in_force, at_start}
+use Rattle.page_decoder.specs.PageRead.{Drawing, Ending, Finished, Refused, NeedBytes, NeedOutline, NeedFile, Include, Decoded, Left, PageRead, or_else, in_force, at_start}
 use Rattle.page_decoder.specs.Headers.{Head, form_fault, header_fault}
 use Rattle.page_decoder.specs.ChunkData.{Outcome, Leaves, Unfinished, Fails, Came, came}
 use Rattle.page_decoder.specs.Acts.{Act, Kind, Reads, Close, Waits, Breaks, Over, acts_of, close_in}

@@ -1,5 +1,5 @@
 -- What an included file gives to the files that include it.
-use Rattle.std.specs.Prelude.{ℕ, List, Option, Some, None}
+use Rattle.std.specs.Prelude.{List, Option, Some, None}
 use Rattle.djvu_base.specs.declared.faults.Fault.{Fault}
 use Rattle.bit_plane.specs.Pixels.{Pixels}
 

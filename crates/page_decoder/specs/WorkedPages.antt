@@ -1,8 +1,7 @@
 -- Pages with includes, colours and flags, and small libraries, whose readings are worked out. Their table is that of one row, with which
 -- each decision is a bit of the input inverted.
-use Rattle.std.specs.Prelude.{ℕ, ◌≡◌, List, [], ◌∷◌, ◌++◌, map, Option, None, codes}
+use Rattle.std.specs.Prelude.{ℕ, ◌≡◌, List, [], ◌∷◌, ◌++◌, map, None, codes}
 use Rattle.djvu_base.specs.Library.{Mark, Whole, File, Library}
-use Rattle.djvu_base.specs.declared.faults.Fault.{Fault}
 use Rattle.djvu_base.specs.declared.faults.FaultKind.{FaultKind}
 use Rattle.iff_chunks.specs.Worked.{form_with, header, page}
 use Rattle.zp_table.specs.declared.rows.Row.{Row}
@@ -10,7 +9,6 @@ use Rattle.zp_table.specs.Listing.{flat_rows}
 use Rattle.layer_compose.specs.Drawing.{sum_of}
 use Rattle.include_graph.specs.Verdicts.{fault_at}
 use Rattle.include_graph.specs.Worked.{included_file, include_of}
-use Rattle.page_decoder.specs.Results.{Result}
 use Rattle.page_decoder.specs.Given.{Page, Known, Given}
 use Rattle.page_decoder.specs.PageRead.{Drawing, Ending, Refused, PageRead}
 use Rattle.page_decoder.specs.Read.{read}

@@ -1,7 +1,6 @@
-use Rattle.std.proofs.Common.{ℕ, List, ◌++◌, Bool, false, sym, ap, subst}
+use Rattle.std.proofs.Common.{ℕ, List, sym, subst}
 use Rattle.zp_table.specs.declared.rows.Row.{Row}
 use Rattle.zp_table.specs.Rows.{IsTable}
-use Rattle.page_decoder.specs.PageRead.{PageRead}
 use Rattle.page_decoder.specs.Given.{Given, Within}
 use Rattle.page_decoder.specs.Read.{read}
 use Rattle.page_decoder.specs.Needs.{Lacks}

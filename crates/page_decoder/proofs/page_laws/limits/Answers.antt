@@ -1,9 +1,8 @@
-use Rattle.std.proofs.Common.{◌≡◌, ℕ, true, Option, Some, None, List, [], ◌∷◌, refl, subst}
+use Rattle.std.proofs.Common.{◌≡◌, Option, Some, None, List, [], ◌∷◌, refl, subst}
 use Rattle.std.specs.List.{AllByRecursion}
 use Rattle.iff_chunks.specs.Chunks.{Form, Chunk, Tail, chunks_of}
 use Rattle.iff_chunks.specs.Events.{events_of}
 use Rattle.iff_chunks.specs.Order.{AtForm, InOrder}
-use Rattle.page_decoder.specs.Needs.{are_bytes}
 use Rattle.page_decoder.proofs.Numbering.{number_below}
 use Rattle.page_decoder.proofs.Limiting.{HasBytes, form_bytes, at_most}
 use Rattle.page_decoder.proofs.page_laws.limits.Goals as goal

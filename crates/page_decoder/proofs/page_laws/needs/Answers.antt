@@ -1,5 +1,4 @@
-use Rattle.std.proofs.Common.{◌≡◌, ◌<◌, ℕ, None, length, sym, subst}
-use Rattle.page_decoder.specs.Given.{Given}
+use Rattle.std.proofs.Common.{subst}
 use Rattle.page_decoder.specs.Read.{read}
 use Rattle.page_decoder.specs.Needs.{Because}
 use Rattle.page_decoder.proofs.Numbering.{number_below}

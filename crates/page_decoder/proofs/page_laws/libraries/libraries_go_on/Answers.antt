@@ -1,4 +1,4 @@
-use Rattle.std.proofs.Common.{◌≡◌, ◌<◌, ◌≤◌, ◌+◌, ℕ, true, List, map, length, sym, ap, ◌∙◌, subst, arith}
+use Rattle.std.proofs.Common.{◌≡◌, ◌<◌, ◌≤◌, ◌+◌, ℕ, true, List, length, ap, subst, arith}
 use Rattle.std.specs.List.{list_any, range_with_len}
 use Rattle.std.specs.Prelude.{sum_by}
 use Rattle.djvu_base.specs.Library.{Library}
@@ -7,7 +7,7 @@ use Rattle.zp_table.specs.Rows.{IsTable}
 use Rattle.include_graph.specs.declared.verdicts.Verdict.TheVariants as verdict
 use Rattle.include_graph.specs.Verdicts.{is_among, verdict_of}
 use Rattle.page_decoder.specs.Given.{Within}
-use Rattle.page_decoder.specs.Read.{FileDone, read}
+use Rattle.page_decoder.specs.Read.{FileDone}
 use Rattle.page_decoder.specs.Libraries.{names_in, graph_of, res_of, run_given, run, is_reached, file_work, work_of, LibraryGoesOn}
 use Rattle.page_decoder.proofs.GoingOn.{same_library, library_both, within_library, length_stays}
 use Rattle.page_decoder.proofs.Building.{res_stays}

@@ -1,13 +1,5 @@
-use Rattle.std.proofs.Common.{◌≡◌, ℕ, List, Option}
-use Rattle.djvu_base.specs.Library.{Library}
-use Rattle.zp_table.specs.declared.rows.Row.{Row}
-use Rattle.include_graph.specs.declared.verdicts.Verdict.TheVariants as verdict
-use Rattle.include_graph.specs.Verdicts.{verdict_of}
-use Rattle.page_decoder.specs.Results.{Result}
-use Rattle.page_decoder.specs.Given.{Page, Included}
-use Rattle.page_decoder.specs.Read.{decode}
-use Rattle.page_decoder.specs.Libraries.{graph_of, given_in, res_of, results_in}
-use Rattle.page_decoder.specs.Needs.{IsMade, Built}
+use Rattle.page_decoder.specs.Given.{Page}
+use Rattle.page_decoder.specs.Libraries.{results_in}
 use Rattle.page_decoder.proofs.GoingOn.{same_library, within_library}
 use Rattle.page_decoder.proofs.Building.{made_results, made_known}
 use Rattle.page_decoder.proofs.page_laws.libraries.results_are_the_librarys.Goals as goal

@@ -16,10 +16,12 @@ use Rattle.iw44_slices.specs.Reading.{Reading, standing, read_on}
 use Rattle.iw44_slices.specs.declared.steps.SliceStep.{SliceStep}
 use Rattle.iw44_slices.specs.declared.steps.SliceStep.TheVariants as step
 use Rattle.iw44_slices.proofs.Lemmas.{Leaves, leaves_room, cut_anywhere, whole_stays, never_exhausted}
-use Rattle.iw44_image.specs.Header.{Header, Opening, Short, Wrong, Opened, Known, First, Later, sized, plain_header, header_by, after_sizes, read_sizes, read_version, read_rest, open_chunk}
-use Rattle.iw44_image.specs.Layer.{Channel, Y, B, R, Task, Layer, LayerReading, Done, Need, Fault, plane_for, tasks, with_header, layer_after, after_slice, task_reading, chunk_end, read_tasks, read_opened, read_chunk}
+use Rattle.iw44_image.specs.declared.headers.Header.{Header}
+use Rattle.iw44_image.specs.Header.{Opening, Short, Wrong, Opened, checked, sized, plain_header, header_by, after_sizes, read_sizes, read_version, read_rest, open_chunk}
+use Rattle.iw44_image.specs.declared.planes.Channel.{Channel}
+use Rattle.iw44_image.specs.declared.planes.Channel.TheVariants.{Y, B, R}
+use Rattle.iw44_image.specs.Layer.{Allowed, Data, any_size, data_of, opening_of, Task, Layer, LayerReading, Done, Need, Fault, plane_for, tasks, with_header, layer_after, after_slice, task_reading, chunk_end, read_tasks, read_opened, read_chunk}
 use Rattle.iw44_image.specs.Growth.{OpenGrows, AreRows}
-use Rattle.iw44_image.specs.Worked.{data_of}
 
 either : (more : List ℕ) (test : Bool) (a b c d : Opening) → OpenGrows more a c → OpenGrows more b d → OpenGrows more (if test then a else b) (if test then c else d)
 either more true a b c d h k = h
@@ -49,14 +51,26 @@ version_grows limit slices (major ∷ []) more ended = tt
 version_grows limit slices (major ∷ minor ∷ later) more ended =
     either more ((major % 128 == 1) && nat_le minor 2) _ _ _ _ (read_grows limit slices major minor later more ended) refl
 
-rest_grows : (limit : ℕ) (known : Known) (slices : ℕ) (bytes more : List ℕ) (ended : Bool) → OpenGrows more (read_rest limit known slices bytes false) (read_rest limit known slices (bytes ++ more) ended)
-rest_grows limit First slices bytes more ended = version_grows limit slices bytes more ended
-rest_grows limit (Later header) slices bytes more ended = refl
+rest_grows : (limit : ℕ) (known : Option Header) (slices : ℕ) (bytes more : List ℕ) (ended : Bool) → OpenGrows more (read_rest limit known slices bytes false) (read_rest limit known slices (bytes ++ more) ended)
+rest_grows limit None slices bytes more ended = version_grows limit slices bytes more ended
+rest_grows limit (Some header) slices bytes more ended = refl
 
-pub open_grows : (limit number : ℕ) (known : Known) (bytes more : List ℕ) (ended : Bool) → OpenGrows more (open_chunk limit number known bytes false) (open_chunk limit number known (bytes ++ more) ended)
+pub open_grows : (limit number : ℕ) (known : Option Header) (bytes more : List ℕ) (ended : Bool) → OpenGrows more (open_chunk limit number known bytes false) (open_chunk limit number known (bytes ++ more) ended)
 open_grows limit number known [] more ended = tt
 open_grows limit number known (serial ∷ []) more ended = tt
 open_grows limit number known (serial ∷ slices ∷ later) more ended = either more (serial == number) _ _ _ _ (rest_grows limit known slices later more ended) refl
+
+checked_grows : (fits : ℕ → ℕ → Bool) (known : Option Header) (more : List ℕ) (short long : Opening) → OpenGrows more short long → OpenGrows more (checked fits known short) (checked fits known long)
+checked_grows fits (Some header) more it grown grows = grows
+checked_grows fits None more Short long grows = tt
+checked_grows fits None more (Wrong kind) long grows = ap (checked fits None) grows
+checked_grows fits None more (Opened header slices zp) long grows =
+    subst (λ (o : Opening). OpenGrows more (checked fits None (Opened header slices zp)) (checked fits None o)) (sym grows)
+    (either more (fits header.width header.height) _ _ _ _ refl refl)
+
+openings_grow : (allowed : Allowed) (bytes more : List ℕ) (ended : Bool) (layer : Layer) → OpenGrows more (opening_of allowed (data_of bytes false) layer) (opening_of allowed (data_of (bytes ++ more) ended) layer)
+openings_grow allowed bytes more ended layer =
+    checked_grows allowed.fits layer.header more _ _ (open_grows allowed.area layer.chunks layer.header bytes more ended)
 
 -- reading on from a layer
 
@@ -202,16 +216,16 @@ tasks_need rows payload slices (next ∷ later) layer place =
     needs_by rows payload next layer place (task_reading (chunk rows payload false) next layer place).answer (λ after at. read_tasks (chunk rows payload false) slices later after at) refl
     (λ after at. tasks_need rows payload slices later after at)
 
-header_counts : (known : Known) (layer : Layer) (header : Header) → (with_header known layer header).decisions ≡ layer.decisions
-header_counts First layer header = refl
-header_counts (Later first) layer header = refl
+header_counts : (known : Option Header) (layer : Layer) (header : Header) → (with_header known layer header).decisions ≡ layer.decisions
+header_counts None layer header = refl
+header_counts (Some first) layer header = refl
 
-table_some : (table : List Row) → IsTable table → 0 < length table
+pub table_some : (table : List Row) → IsTable table → 0 < length table
 table_some table is = grind (arith, common_steps)
 
-header_rows : (known : Known) (table : List Row) (layer : Layer) (header : Header) → IsTable table → AreRows table layer → AreRows table (with_header known layer header)
-header_rows First table layer header is rows = let some = table_some table is in ((λ name. some), ((λ name. some), (λ name. some)))
-header_rows (Later first) table layer header is rows = rows
+header_rows : (known : Option Header) (table : List Row) (layer : Layer) (header : Header) → IsTable table → AreRows table layer → AreRows table (with_header known layer header)
+header_rows None table layer header is rows = let some = table_some table is in ((λ name. some), ((λ name. some), (λ name. some)))
+header_rows (Some first) table layer header is rows = rows
 
 can_begin : (table : List Row) (zp : List ℕ) (ended : Bool) (layer : Layer) (header : Header) → IsTable table → AreRows table layer →
     CanRead (chunk table zp ended) (with_header layer.header layer header) None
@@ -232,11 +246,42 @@ opened_grows table more ended (Opened header slices zp) long layer is rows grows
     subst (λ (o : Opening). (read_tasks (chunk table zp false) slices (tasks header slices layer.slices) (with_header layer.header layer header) None).layer.decisions ≤ (read_opened table ended o layer).layer.decisions)
     (sym grows) (tasks_grow table zp more ended slices (tasks header slices layer.slices) (with_header layer.header layer header) None (can_begin table zp false layer header is rows))
 
-pub chunk_grows : (table : List Row) (limit : ℕ) (bytes more : List ℕ) (ended : Bool) (layer : Layer) → IsTable table → AreRows table layer →
-    (read_chunk table limit (data_of bytes false) layer).layer.decisions ≤ (read_chunk table limit (data_of (bytes ++ more) ended) layer).layer.decisions
-chunk_grows table limit bytes more ended layer is rows =
-    opened_grows table more ended (open_chunk limit layer.chunks layer.header bytes false) (open_chunk limit layer.chunks layer.header (bytes ++ more) ended) layer is rows
-    (open_grows limit layer.chunks layer.header bytes more ended)
+pub chunk_counts : (table : List Row) (allowed : Allowed) (given : Data) (layer : Layer) → IsTable table → AreRows table layer → layer.decisions ≤ (read_chunk table allowed given layer).layer.decisions
+chunk_counts table allowed given layer is rows = opened_counts table given.ended (opening_of allowed given layer) layer is rows
+
+-- the states stay rows of the table
+end_rows : (table : List Row) (ended : Bool) (slices : ℕ) (layer : Layer) → AreRows table layer → AreRows table (chunk_end ended slices layer).layer
+end_rows table true slices layer rows = rows
+end_rows table false slices layer rows = rows
+
+after_rows : (table : List Row) (answer : SliceStep) (layer : Layer) (place : Option Interval) (rest : Layer → Option Interval → LayerReading) → AreRows table layer →
+    AreRows table (rest layer place).layer → AreRows table (after_slice answer layer place rest).layer
+after_rows table step.SliceEnd layer place rest rows later = later
+after_rows table step.NeedBytes layer place rest rows later = rows
+after_rows table step.Exhausted layer place rest rows later = rows
+
+tasks_rows : (from : Chunk) (slices : ℕ) (tasks : List Task) (layer : Layer) (place : Option Interval) → CanRead from layer place → AreRows from.table (read_tasks from slices tasks layer place).layer
+tasks_rows from slices [] layer place can = end_rows from.table from.ended slices layer can.rows
+tasks_rows from slices (next ∷ later) layer place can =
+    let after = can_after from next layer place can in
+    after_rows from.table (task_reading from next layer place).answer (layer_after layer next.channel (task_reading from next layer place)) (task_reading from next layer place).at.place
+    (λ l at. read_tasks from slices later l at) after.rows
+    (tasks_rows from slices later (layer_after layer next.channel (task_reading from next layer place)) (task_reading from next layer place).at.place after)
+
+opened_rows : (table : List Row) (ended : Bool) (it : Opening) (layer : Layer) → IsTable table → AreRows table layer → AreRows table (read_opened table ended it layer).layer
+opened_rows table ended Short layer is rows = rows
+opened_rows table ended (Wrong kind) layer is rows = rows
+opened_rows table ended (Opened header slices zp) layer is rows =
+    tasks_rows (chunk table zp ended) slices (tasks header slices layer.slices) (with_header layer.header layer header) None (can_begin table zp ended layer header is rows)
+
+pub chunk_rows : (table : List Row) (allowed : Allowed) (given : Data) (layer : Layer) → IsTable table → AreRows table layer → AreRows table (read_chunk table allowed given layer).layer
+chunk_rows table allowed given layer is rows = opened_rows table given.ended (opening_of allowed given layer) layer is rows
+
+pub chunk_grows : (table : List Row) (allowed : Allowed) (bytes more : List ℕ) (ended : Bool) (layer : Layer) → IsTable table → AreRows table layer →
+    (read_chunk table allowed (data_of bytes false) layer).layer.decisions ≤ (read_chunk table allowed (data_of (bytes ++ more) ended) layer).layer.decisions
+chunk_grows table allowed bytes more ended layer is rows =
+    opened_grows table more ended (opening_of allowed (data_of bytes false) layer) (opening_of allowed (data_of (bytes ++ more) ended) layer) layer is rows
+    (openings_grow allowed bytes more ended layer)
 
 opened_refused : (table : List Row) (more : List ℕ) (ended : Bool) (short long : Opening) (layer : Layer) (kind : FaultKind) → OpenGrows more short long →
     (read_opened table false short layer).answer ≡ Fault kind → read_opened table ended long layer ≡ read_opened table false short layer
@@ -245,11 +290,11 @@ opened_refused table more ended (Wrong first) long layer kind grows e = ap (λ (
 opened_refused table more ended (Opened header slices zp) long layer kind grows e =
     absurd (let wrong : Need ≡ Fault kind = sym (tasks_need table zp slices (tasks header slices layer.slices) (with_header layer.header layer header) None) ∙ e in cc)
 
-pub chunk_refused : (table : List Row) (limit : ℕ) (bytes more : List ℕ) (ended : Bool) (layer : Layer) (kind : FaultKind) → (read_chunk table limit (data_of bytes false) layer).answer ≡ Fault kind →
-    read_chunk table limit (data_of (bytes ++ more) ended) layer ≡ read_chunk table limit (data_of bytes false) layer
-chunk_refused table limit bytes more ended layer kind e =
-    opened_refused table more ended (open_chunk limit layer.chunks layer.header bytes false) (open_chunk limit layer.chunks layer.header (bytes ++ more) ended) layer kind
-    (open_grows limit layer.chunks layer.header bytes more ended) e
+pub chunk_refused : (table : List Row) (allowed : Allowed) (bytes more : List ℕ) (ended : Bool) (layer : Layer) (kind : FaultKind) → (read_chunk table allowed (data_of bytes false) layer).answer ≡ Fault kind →
+    read_chunk table allowed (data_of (bytes ++ more) ended) layer ≡ read_chunk table allowed (data_of bytes false) layer
+chunk_refused table allowed bytes more ended layer kind e =
+    opened_refused table more ended (opening_of allowed (data_of bytes false) layer) (opening_of allowed (data_of (bytes ++ more) ended) layer) layer kind
+    (openings_grow allowed bytes more ended layer) e
 
 opened_open : (table : List Row) (it : Opening) (layer : Layer) → (read_opened table false it layer).answer ≡ Done → ⊥
 opened_open table Short layer e = cc
@@ -257,8 +302,8 @@ opened_open table (Wrong kind) layer e = cc
 opened_open table (Opened header slices zp) layer e =
     let wrong : Need ≡ Done = sym (tasks_need table zp slices (tasks header slices layer.slices) (with_header layer.header layer header) None) ∙ e in cc
 
-pub chunk_open : (table : List Row) (limit : ℕ) (bytes : List ℕ) (layer : Layer) → (read_chunk table limit (data_of bytes false) layer).answer ≡ Done → ⊥
-chunk_open table limit bytes layer e = opened_open table (open_chunk limit layer.chunks layer.header bytes false) layer e
+pub chunk_open : (table : List Row) (allowed : Allowed) (bytes : List ℕ) (layer : Layer) → (read_chunk table allowed (data_of bytes false) layer).answer ≡ Done → ⊥
+chunk_open table allowed bytes layer e = opened_open table (opening_of allowed (data_of bytes false) layer) layer e
 
 -- a chunk's decisions leave room for fewer
 after_bounded : (answer : SliceStep) (layer : Layer) (place : Option Interval) (n : ℕ) (rest : Layer → Option Interval → LayerReading) → layer.decisions ≤ n →
@@ -276,10 +321,10 @@ tasks_bounded from slices (next ∷ later) layer place can =
     after_bounded (task_reading from next layer place).answer (layer_after layer next.channel (task_reading from next layer place)) (task_reading from next layer place).at.place
     (layer.decisions + room from.payload place) (λ after at. read_tasks from slices later after at) (omega arith) (omega arith)
 
-pub chunk_bounded : (table : List Row) (limit : ℕ) (bytes zp : List ℕ) (ended : Bool) (layer : Layer) (header : Header) (slices : ℕ) → IsTable table → AreRows table layer →
-    open_chunk limit layer.chunks layer.header bytes ended ≡ Opened header slices zp →
-    (read_chunk table limit (data_of bytes ended) layer).layer.decisions ≤ layer.decisions + 0x8000 * (8 * length zp + 177)
-chunk_bounded table limit bytes zp ended layer header slices is rows opened =
+pub chunk_bounded : (table : List Row) (allowed : Allowed) (bytes zp : List ℕ) (ended : Bool) (layer : Layer) (header : Header) (slices : ℕ) → IsTable table → AreRows table layer →
+    opening_of allowed (data_of bytes ended) layer ≡ Opened header slices zp →
+    (read_chunk table allowed (data_of bytes ended) layer).layer.decisions ≤ layer.decisions + 0x8000 * (8 * length zp + 177)
+chunk_bounded table allowed bytes zp ended layer header slices is rows opened =
     let all = tasks_bounded (chunk table zp ended) slices (tasks header slices layer.slices) (with_header layer.header layer header) None (can_begin table zp ended layer header is rows) in
     let begun = header_counts layer.header layer header in
     let room_is : room zp None ≡ 0x8000 * (8 * length zp + 177) = omega arith in

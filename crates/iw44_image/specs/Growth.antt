@@ -1,4 +1,4 @@
--- A chunk of a layer with more bytes.
+-- Chunks of a layer with more bytes.
 use Rattle.std.specs.Prelude.{◌≡◌, ℕ, List, ◌++◌, length, ⊤}
 use Rattle.zp_table.specs.declared.rows.Row.{Row}
 use Rattle.zp_decoder.specs.States.{AreBelow}

@@ -1,16 +1,8 @@
 -- Headers of the chunks of a layer.
-use Rattle.std.specs.Prelude.{ℕ, zero, suc, ◌+◌, ◌*◌, ◌%◌, ◌==◌, Bool, false, not, ◌&&◌, ◌||◌, nat_le, nat_lt, if◌then◌else◌, List, [], ◌∷◌}
+use Rattle.std.specs.Prelude.{ℕ, zero, suc, ◌+◌, ◌*◌, ◌%◌, ◌==◌, Bool, false, not, ◌&&◌, ◌||◌, nat_le, nat_lt, if◌then◌else◌, List, [], ◌∷◌, Option, Some, None}
 use Rattle.djvu_base.specs.declared.faults.FaultKind.{FaultKind}
 use Rattle.djvu_base.specs.declared.faults.FaultKind.TheVariants as fault
-
--- what the first chunk of a layer tells: the size in pixels, whether it is grey, whether chroma has half the size, and after
--- how many slices chroma begins
-pub record Header : Type 0 where
-  pub width : ℕ
-  pub height : ℕ
-  pub grey : Bool
-  pub half : Bool
-  pub delay : ℕ
+use Rattle.iw44_image.specs.declared.headers.Header.{Header}
 
 -- the start of a chunk's data: more of them must come; or the chunk is refused; or the header is there, and then so many
 -- slices and the ZP data so far
@@ -64,18 +56,21 @@ read_version limit slices (major ∷ minor ∷ later) ended =
     if (major % 128 == 1) && nat_le minor 2 then read_sizes limit slices major minor later ended else Wrong fault.IwVersion
 
 -- the first chunk of a layer tells its header, and a later one has none
-pub data Known : Type 0 where
-  First : Known
-  Later : Header → Known
+abbrev pub read_rest : ℕ → Option Header → ℕ → List ℕ → Bool → Opening
+read_rest limit None slices later ended = read_version limit slices later ended
+read_rest limit (Some header) slices later ended = Opened header slices later
 
-abbrev pub read_rest : ℕ → Known → ℕ → List ℕ → Bool → Opening
-read_rest limit First slices later ended = read_version limit slices later ended
-read_rest limit (Later header) slices later ended = Opened header slices later
-
--- a chunk of a layer of at most so many pixels, before which so many chunks came. The serial is checked once the number of
--- slices is there
-abbrev pub open_chunk : ℕ → ℕ → Known → List ℕ → Bool → Opening
+-- a chunk of a layer of at most so many pixels, before which so many chunks came, and of which this header is known. The
+-- serial is checked once the number of slices is there
+abbrev pub open_chunk : ℕ → ℕ → Option Header → List ℕ → Bool → Opening
 open_chunk limit number known [] ended = missing ended
 open_chunk limit number known (serial ∷ []) ended = missing ended
 open_chunk limit number known (serial ∷ slices ∷ later) ended =
     if serial == number then read_rest limit known slices later ended else Wrong fault.IwSerial
+
+-- a size that isn't taken is refused once the first header is there, before anything behind it is read
+abbrev pub checked : (ℕ → ℕ → Bool) → Option Header → Opening → Opening
+checked fits (Some header) opening = opening
+checked fits None Short = Short
+checked fits None (Wrong kind) = Wrong kind
+checked fits None (Opened header slices zp) = if fits header.width header.height then Opened header slices zp else Wrong fault.LayerSize

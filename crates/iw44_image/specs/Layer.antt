@@ -1,5 +1,5 @@
 -- The chunks of a layer: its planes, slice by slice.
-use Rattle.std.specs.Prelude.{ℕ, zero, suc, ◌+◌, ◌-◌, Bool, true, false, ◌&&◌, not, nat_le, if◌then◌else◌, List, [], ◌∷◌, ◌++◌, Option, None}
+use Rattle.std.specs.Prelude.{ℕ, zero, suc, ◌+◌, ◌-◌, Bool, true, false, ◌&&◌, not, nat_le, if◌then◌else◌, List, [], ◌∷◌, ◌++◌, Option, Some, None}
 use Rattle.djvu_base.specs.declared.faults.FaultKind.{FaultKind}
 use Rattle.djvu_base.specs.declared.faults.FaultKind.TheVariants as fault
 use Rattle.zp_table.specs.declared.rows.Row.{Row}
@@ -7,16 +7,14 @@ use Rattle.zp_decoder.specs.Chunk.{Chunk, chunk}
 use Rattle.zp_decoder.specs.Decision.{Interval}
 use Rattle.zp_decoder.specs.States.{fresh}
 use Rattle.iw44_blocks.specs.Plane.{Plane, zero_plane}
-use Rattle.iw44_slices.specs.Reading.{States, Reading, standing, plane_of, read_slice}
+use Rattle.iw44_slices.specs.Slice.{Course, slice_course}
+use Rattle.iw44_slices.specs.Reading.{States, Reading, standing, plane_of, read_on}
 use Rattle.iw44_slices.specs.declared.steps.SliceStep.{SliceStep}
 use Rattle.iw44_slices.specs.declared.steps.SliceStep.TheVariants as step
-use Rattle.iw44_image.specs.Header.{Header, Opening, Short, Wrong, Opened, Known, First, Later, open_chunk}
-
--- the planes of an image: y, and b and r where it has colours
-pub data Channel : Type 0 where
-  Y : Channel
-  B : Channel
-  R : Channel
+use Rattle.iw44_image.specs.declared.headers.Header.{Header}
+use Rattle.iw44_image.specs.declared.planes.Channel.{Channel}
+use Rattle.iw44_image.specs.declared.planes.Channel.TheVariants.{Y, B, R}
+use Rattle.iw44_image.specs.Header.{Opening, Short, Wrong, Opened, open_chunk, checked}
 
 -- the coefficients and the contexts of a plane
 pub record Coded : Type 0 where
@@ -66,7 +64,7 @@ tasks header (suc count) from = slice_tasks header from ++ tasks header count (f
 
 -- what was read of a layer: its header once it is known, its planes, how many slices and chunks are done, and the decisions of all chunks
 pub record Layer : Type 0 where
-  pub header : Known
+  pub header : Option Header
   pub planes : Planes
   pub slices : ℕ
   pub chunks : ℕ
@@ -104,9 +102,12 @@ after_slice step.SliceEnd layer place rest = rest layer place
 after_slice step.NeedBytes layer place rest = ends Need layer
 after_slice step.Exhausted layer place rest = ends (Fault fault.ZpExhausted) layer
 
+-- what is left of a slice of a plane
+abbrev pub course_reading : Chunk → Channel → Course → Layer → Option Interval → Reading
+course_reading from channel course layer place = read_on from course (standing (plane_for layer.planes channel).states place layer.decisions)
+
 abbrev pub task_reading : Chunk → Task → Layer → Option Interval → Reading
-task_reading from next layer place =
-    read_slice from next.slice (plane_for layer.planes next.channel).plane (standing (plane_for layer.planes next.channel).states place layer.decisions)
+task_reading from next layer place = course_reading from next.channel (slice_course next.slice (plane_for layer.planes next.channel).plane) layer place
 
 -- a chunk is done once its slices are and all its data came
 abbrev pub chunk_end : Bool → ℕ → Layer → LayerReading
@@ -122,10 +123,10 @@ read_tasks from slices (next ∷ later) layer place =
     (λ after at. read_tasks from slices later after at)
 
 -- the first header makes the planes
-abbrev pub with_header : Known → Layer → Header → Layer
-with_header First layer header =
-    record { header = Later header; planes = new_planes header; slices = layer.slices; chunks = layer.chunks; decisions = layer.decisions }
-with_header (Later known) layer header = layer
+abbrev pub with_header : Option Header → Layer → Header → Layer
+with_header None layer header =
+    record { header = Some header; planes = new_planes header; slices = layer.slices; chunks = layer.chunks; decisions = layer.decisions }
+with_header (Some known) layer header = layer
 
 -- the decoder starts anew in each chunk; coefficients and contexts go on
 abbrev pub read_opened : List Row → Bool → Opening → Layer → LayerReading
@@ -139,8 +140,23 @@ pub record Data : Type 0 where
   pub bytes : List ℕ
   pub ended : Bool
 
-abbrev pub read_chunk : List Row → ℕ → Data → Layer → LayerReading
-read_chunk table limit given layer = read_opened table given.ended (open_chunk limit layer.chunks layer.header given.bytes given.ended) layer
+abbrev pub data_of : List ℕ → Bool → Data
+data_of bytes ended = record { bytes = bytes; ended = ended }
+
+-- which layers are taken: up to an area in pixels, and with a width and a height that pass a test
+pub record Allowed : Type 0 where
+  pub area : ℕ
+  pub fits : ℕ → ℕ → Bool
+
+-- every size up to an area
+abbrev pub any_size : ℕ → Allowed
+any_size area = record { area = area; fits = λ width height. true }
+
+abbrev pub opening_of : Allowed → Data → Layer → Opening
+opening_of allowed given layer = checked allowed.fits layer.header (open_chunk allowed.area layer.chunks layer.header given.bytes given.ended)
+
+abbrev pub read_chunk : List Row → Allowed → Data → Layer → LayerReading
+read_chunk table allowed given layer = read_opened table given.ended (opening_of allowed given layer) layer
 
 abbrev pub after_chunk : Answer → Layer → (Layer → LayerReading) → LayerReading
 after_chunk Done layer rest = rest layer
@@ -148,18 +164,22 @@ after_chunk Need layer rest = ends Need layer
 after_chunk (Fault kind) layer rest = ends (Fault kind) layer
 
 -- the chunks of a layer in order, each from where the one before ended
-abbrev pub read_chunks : List Row → ℕ → List Data → Layer → LayerReading
-read_chunks table limit [] layer = ends Done layer
-read_chunks table limit (given ∷ later) layer =
-    after_chunk (read_chunk table limit given layer).answer (read_chunk table limit given layer).layer (λ after. read_chunks table limit later after)
+abbrev pub read_chunks : List Row → Allowed → List Data → Layer → LayerReading
+read_chunks table allowed [] layer = ends Done layer
+read_chunks table allowed (given ∷ later) layer =
+    after_chunk (read_chunk table allowed given layer).answer (read_chunk table allowed given layer).layer (λ after. read_chunks table allowed later after)
 
 -- a layer of which nothing was read; its size isn't known
 abbrev pub no_header : Header
 no_header = record { width = 0; height = 0; grey = true; half = false; delay = 0 }
 
-abbrev pub new_layer : Layer
-new_layer = record { header = First; planes = new_planes no_header; slices = 0; chunks = 0; decisions = 0 }
+abbrev pub header_or : Option Header → Header
+header_or None = no_header
+header_or (Some header) = header
 
--- a layer of at most so many pixels, with a state table, out of its chunks
-abbrev pub read_layer : List Row → ℕ → List Data → LayerReading
-read_layer table limit chunks = read_chunks table limit chunks new_layer
+abbrev pub new_layer : Layer
+new_layer = record { header = None; planes = new_planes no_header; slices = 0; chunks = 0; decisions = 0 }
+
+-- a layer, with a state table, out of its chunks
+abbrev pub read_layer : List Row → Allowed → List Data → LayerReading
+read_layer table allowed chunks = read_chunks table allowed chunks new_layer

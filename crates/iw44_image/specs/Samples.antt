@@ -6,7 +6,7 @@ use Rattle.djvu_base.specs.Picture.{Picture}
 use Rattle.iw44_blocks.specs.Plane.{Plane, grid_of}
 use Rattle.iw44_blocks.specs.Lattice.{value_at}
 use Rattle.iw44_lifting.specs.Lift.{lifted}
-use Rattle.iw44_image.specs.Header.{Header}
+use Rattle.iw44_image.specs.declared.headers.Header.{Header}
 use Rattle.iw44_image.specs.Layer.{Planes}
 
 -- a number brought between a least and a largest one
@@ -56,25 +56,32 @@ half_value plane x y = value_at (lifted 2 (grid_of plane)) (2 * (x / 2)) (2 * (y
 abbrev pub chroma_value : Bool → Plane → ℕ → ℕ → ℤ
 chroma_value half plane x y = if half then half_value plane x y else full_value plane x y
 
+-- the coefficients of an image: a grey one uses the first plane
+pub record Components : Type 0 where
+  pub y : Plane
+  pub b : Plane
+  pub r : Plane
+
+abbrev pub components_of : Planes → Components
+components_of planes = record { y = planes.y.plane; b = planes.b.plane; r = planes.r.plane }
+
 -- the pixel in column x from the left and row y from the bottom
-abbrev pub pixel : Header → Planes → ℕ → ℕ → Colour
-pixel header planes x y =
-    if header.grey then grey (sample_of (full_value planes.y.plane x y))
-    else colour (sample_of (full_value planes.y.plane x y)) (sample_of (chroma_value header.half planes.b.plane x y))
-    (sample_of (chroma_value header.half planes.r.plane x y))
+abbrev pub pixel : Header → Components → ℕ → ℕ → Colour
+pixel header it x y =
+    if header.grey then grey (sample_of (full_value it.y x y))
+    else colour (sample_of (full_value it.y x y)) (sample_of (chroma_value header.half it.b x y)) (sample_of (chroma_value header.half it.r x y))
 
 -- red, green and blue of a pixel, by their number
 abbrev pub channel_of : ℕ → Colour → ℕ
 channel_of number it = if number == 0 then it.red else if number == 1 then it.green else it.blue
 
 -- sample n of a picture, whose rows come from the top: three for each pixel
-abbrev pub sample_at : Header → Planes → ℕ → ℕ
-sample_at header planes n = channel_of (n % 3) (pixel header planes (n / 3 % header.width) (header.height - 1 - n / 3 / header.width))
+abbrev pub sample_at : Header → Components → ℕ → ℕ
+sample_at header it n = channel_of (n % 3) (pixel header it (n / 3 % header.width) (header.height - 1 - n / 3 / header.width))
 
--- the picture of the planes
-abbrev pub picture : Header → Planes → Picture
-picture header planes = record {
+abbrev pub picture : Header → Components → Picture
+picture header it = record {
   width = header.width;
   height = header.height;
-  samples = map (sample_at header planes) (range_with_len 0 (3 * header.width * header.height));
+  samples = map (sample_at header it) (range_with_len 0 (3 * header.width * header.height));
 }

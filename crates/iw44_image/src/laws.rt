@@ -1,14 +1,15 @@
 //! Laws of the definitions, and worked values: each is a clause of a function that does nothing.
-ghost use Rattle.std.specs.Prelude.{◌≡◌, ◌≢◌, ℕ, ◌≤◌, ◌≤ℤ◌, Bool, true, false, ℤ, pos, negsuc, ◌-ℤ◌, List, [], ◌∷◌, ◌++◌, ◌+◌, ◌*◌, length};
+ghost use Rattle.std.specs.Prelude.{◌≡◌, ◌≢◌, ℕ, ◌≤◌, ◌≤ℤ◌, Bool, true, false, ℤ, pos, negsuc, ◌-ℤ◌, List, [], ◌∷◌, ◌++◌, ◌+◌, ◌*◌, length, Option, None};
 ghost use Rattle.djvu_base.specs.declared.faults.FaultKind.{FaultKind};
 ghost use Rattle.djvu_base.specs.declared.faults.FaultKind.TheVariants as fault;
 ghost use Rattle.zp_table.specs.declared.rows.Row.{Row};
 ghost use Rattle.zp_table.specs.Rows.{IsTable};
-ghost use Rattle.iw44_image.specs.Header.{Header, Known, Short, Wrong, Opened, open_chunk};
-ghost use Rattle.iw44_image.specs.Layer.{Layer, Done, Need, Fault, read_chunk};
+ghost use Rattle.iw44_image.specs.declared.headers.Header.{Header};
+ghost use Rattle.iw44_image.specs.Header.{Short, Wrong, Opened, open_chunk, checked};
+ghost use Rattle.iw44_image.specs.Layer.{Layer, Data, Allowed, Done, Need, Fault, any_size, data_of, opening_of, after_chunk, ends, read_chunk, read_chunks, read_layer, new_layer};
 ghost use Rattle.iw44_image.specs.Samples.{grey, colour, sample_of};
 ghost use Rattle.iw44_image.specs.Growth.{OpenGrows, AreRows};
-ghost use Rattle.iw44_image.specs.Worked.{data_of, first_opening, one_chunk, two_chunks, picture_of};
+ghost use Rattle.iw44_image.specs.Worked.{first_opening, one_chunk, two_chunks, layer_picture};
 
 /// Grey is colour without chroma: of a sample y it is what colour is of -1 - y.
 pub fn grey_is_colour_without_chroma()
@@ -17,26 +18,70 @@ pub fn grey_is_colour_without_chroma()
 
 /// With more bytes the start of a chunk goes on as it began: a refusal stays, and so does a header.
 pub fn headers_stay()
-    ensures { (limit number : ℕ) (known : Known) (bytes more : List ℕ) (ended : Bool) →
+    ensures { (limit number : ℕ) (known : Option Header) (bytes more : List ℕ) (ended : Bool) →
         OpenGrows more (open_chunk limit number known bytes false) (open_chunk limit number known (bytes ++ more) ended) }
 {}
 
 /// With more bytes a chunk of a layer only goes on: a refusal stays, with all that was read; while bytes may come the chunk
 /// isn't done; and its decisions don't fall.
 pub fn more_bytes_only_go_on()
-    ensures refused { (table : List Row) (limit : ℕ) (bytes more : List ℕ) (ended : Bool) (layer : Layer) (kind : FaultKind) →
-        (read_chunk table limit (data_of bytes false) layer).answer ≡ Fault kind →
-        read_chunk table limit (data_of (bytes ++ more) ended) layer ≡ read_chunk table limit (data_of bytes false) layer }
-    ensures open_end { (table : List Row) (limit : ℕ) (bytes : List ℕ) (layer : Layer) → (read_chunk table limit (data_of bytes false) layer).answer ≢ Done }
-    ensures decisions { (table : List Row) (limit : ℕ) (bytes more : List ℕ) (ended : Bool) (layer : Layer) → IsTable table → AreRows table layer →
-        (read_chunk table limit (data_of bytes false) layer).layer.decisions ≤ (read_chunk table limit (data_of (bytes ++ more) ended) layer).layer.decisions }
+    ensures refused { (table : List Row) (allowed : Allowed) (bytes more : List ℕ) (ended : Bool) (layer : Layer) (kind : FaultKind) →
+        (read_chunk table allowed (data_of bytes false) layer).answer ≡ Fault kind →
+        read_chunk table allowed (data_of (bytes ++ more) ended) layer ≡ read_chunk table allowed (data_of bytes false) layer }
+    ensures open_end { (table : List Row) (allowed : Allowed) (bytes : List ℕ) (layer : Layer) → (read_chunk table allowed (data_of bytes false) layer).answer ≢ Done }
+    ensures decisions { (table : List Row) (allowed : Allowed) (bytes more : List ℕ) (ended : Bool) (layer : Layer) → IsTable table → AreRows table layer →
+        (read_chunk table allowed (data_of bytes false) layer).layer.decisions ≤ (read_chunk table allowed (data_of (bytes ++ more) ended) layer).layer.decisions }
+{}
+
+/// A layer is read chunk by chunk: where some chunks are done, further ones are read from where these ended, and where they
+/// aren't, further ones change nothing. So what holds of a chunk holds of the last one of a layer. Decisions don't fall.
+pub fn layers_go_on()
+    ensures appended { (table : List Row) (allowed : Allowed) (chunks later : List Data) →
+        read_layer table allowed (chunks ++ later) ≡
+        after_chunk (read_layer table allowed chunks).answer (read_layer table allowed chunks).layer (λ layer. read_chunks table allowed later layer) }
+    ensures done { (table : List Row) (allowed : Allowed) (chunks later : List Data) → (read_layer table allowed chunks).answer ≡ Done →
+        read_layer table allowed (chunks ++ later) ≡ read_chunks table allowed later (read_layer table allowed chunks).layer }
+    ensures last { (table : List Row) (allowed : Allowed) (chunks : List Data) (given : Data) → (read_layer table allowed chunks).answer ≡ Done →
+        read_layer table allowed (chunks ++ given ∷ []) ≡ read_chunk table allowed given (read_layer table allowed chunks).layer }
+    ensures rows { (table : List Row) (allowed : Allowed) (chunks : List Data) → IsTable table → AreRows table (read_layer table allowed chunks).layer }
+    ensures decisions { (table : List Row) (allowed : Allowed) (chunks later : List Data) → IsTable table →
+        (read_layer table allowed chunks).layer.decisions ≤ (read_layer table allowed (chunks ++ later)).layer.decisions }
+{}
+
+/// With more bytes in its last chunk a layer only goes on: a refusal stays, with all that was read; while bytes may come the
+/// layer isn't done; and its decisions don't fall.
+pub fn layers_grow()
+    ensures refused { (table : List Row) (allowed : Allowed) (chunks : List Data) (bytes more : List ℕ) (ended : Bool) (kind : FaultKind) →
+        (read_layer table allowed (chunks ++ data_of bytes false ∷ [])).answer ≡ Fault kind →
+        read_layer table allowed (chunks ++ data_of (bytes ++ more) ended ∷ []) ≡ read_layer table allowed (chunks ++ data_of bytes false ∷ []) }
+    ensures open_end { (table : List Row) (allowed : Allowed) (chunks : List Data) (bytes : List ℕ) →
+        (read_layer table allowed (chunks ++ data_of bytes false ∷ [])).answer ≢ Done }
+    ensures decisions { (table : List Row) (allowed : Allowed) (chunks : List Data) (bytes more : List ℕ) (ended : Bool) → IsTable table →
+        (read_layer table allowed (chunks ++ data_of bytes false ∷ [])).layer.decisions ≤ (read_layer table allowed (chunks ++ data_of (bytes ++ more) ended ∷ [])).layer.decisions }
+{}
+
+/// A layer's size is checked once its first header is there. One that isn't taken is refused, and nothing behind the header
+/// is read; one that is taken changes nothing.
+pub fn sizes_are_checked_first()
+    ensures refused { (table : List Row) (allowed : Allowed) (given : Data) (layer : Layer) (header : Header) (slices : ℕ) (zp : List ℕ) → layer.header ≡ None →
+        opening_of (any_size allowed.area) given layer ≡ Opened header slices zp → allowed.fits header.width header.height ≡ false →
+        read_chunk table allowed given layer ≡ ends (Fault fault.LayerSize) layer }
+    ensures taken { (table : List Row) (allowed : Allowed) (given : Data) (layer : Layer) (header : Header) (slices : ℕ) (zp : List ℕ) →
+        opening_of (any_size allowed.area) given layer ≡ Opened header slices zp → allowed.fits header.width header.height ≡ true →
+        read_chunk table allowed given layer ≡ read_chunk table (any_size allowed.area) given layer }
+    ensures later { (table : List Row) (allowed : Allowed) (given : Data) (layer : Layer) (header : Header) → layer.header ≡ Some header →
+        read_chunk table allowed given layer ≡ read_chunk table (any_size allowed.area) given layer }
+    ensures short { (table : List Row) (allowed : Allowed) (given : Data) (layer : Layer) → opening_of (any_size allowed.area) given layer ≡ Short →
+        read_chunk table allowed given layer ≡ read_chunk table (any_size allowed.area) given layer }
+    ensures wrong { (table : List Row) (allowed : Allowed) (given : Data) (layer : Layer) (kind : FaultKind) → opening_of (any_size allowed.area) given layer ≡ Wrong kind →
+        read_chunk table allowed given layer ≡ read_chunk table (any_size allowed.area) given layer }
 {}
 
 /// A chunk adds at most 32,768 decisions for each bit of its ZP data and 177 bits more.
 pub fn decisions_of_a_chunk_are_bounded()
-    ensures { (table : List Row) (limit : ℕ) (bytes zp : List ℕ) (ended : Bool) (layer : Layer) (header : Header) (slices : ℕ) → IsTable table → AreRows table layer →
-        open_chunk limit layer.chunks layer.header bytes ended ≡ Opened header slices zp →
-        (read_chunk table limit (data_of bytes ended) layer).layer.decisions ≤ layer.decisions + 0x8000 * (8 * length zp + 177) }
+    ensures { (table : List Row) (allowed : Allowed) (bytes zp : List ℕ) (ended : Bool) (layer : Layer) (header : Header) (slices : ℕ) → IsTable table → AreRows table layer →
+        opening_of allowed (data_of bytes ended) layer ≡ Opened header slices zp →
+        (read_chunk table allowed (data_of bytes ended) layer).layer.decisions ≤ layer.decisions + 0x8000 * (8 * length zp + 177) }
 {}
 
 /// Headers: grey of one pixel, with and without the last byte; colours at full and at half size; and those that are refused,
@@ -76,11 +121,11 @@ pub fn worked_samples()
 pub fn worked_grey_layers()
     ensures answer { (one_chunk (0 ∷ 1 ∷ 0x81 ∷ 2 ∷ 0 ∷ 1 ∷ 0 ∷ 1 ∷ 0 ∷ []) true).answer ≡ Done }
     ensures decisions { (one_chunk (0 ∷ 1 ∷ 0x81 ∷ 2 ∷ 0 ∷ 1 ∷ 0 ∷ 1 ∷ 0 ∷ []) true).layer.decisions ≡ 1 }
-    ensures middle { (picture_of (one_chunk (0 ∷ 1 ∷ 0x81 ∷ 2 ∷ 0 ∷ 1 ∷ 0 ∷ 1 ∷ 0 ∷ []) true).layer).samples ≡ 127 ∷ 127 ∷ 127 ∷ [] }
-    ensures black { (picture_of (one_chunk (0 ∷ 1 ∷ 0x81 ∷ 2 ∷ 0 ∷ 1 ∷ 0 ∷ 1 ∷ 0 ∷ 0x3F ∷ []) true).layer).samples ≡ 0 ∷ 0 ∷ 0 ∷ [] }
+    ensures middle { (layer_picture (one_chunk (0 ∷ 1 ∷ 0x81 ∷ 2 ∷ 0 ∷ 1 ∷ 0 ∷ 1 ∷ 0 ∷ []) true).layer).samples ≡ 127 ∷ 127 ∷ 127 ∷ [] }
+    ensures black { (layer_picture (one_chunk (0 ∷ 1 ∷ 0x81 ∷ 2 ∷ 0 ∷ 1 ∷ 0 ∷ 1 ∷ 0 ∷ 0x3F ∷ []) true).layer).samples ≡ 0 ∷ 0 ∷ 0 ∷ [] }
     ensures black_decisions { (one_chunk (0 ∷ 1 ∷ 0x81 ∷ 2 ∷ 0 ∷ 1 ∷ 0 ∷ 1 ∷ 0 ∷ 0x3F ∷ []) true).layer.decisions ≡ 3 }
-    ensures white { (picture_of (one_chunk (0 ∷ 1 ∷ 0x81 ∷ 2 ∷ 0 ∷ 1 ∷ 0 ∷ 1 ∷ 0 ∷ 0x1F ∷ []) true).layer).samples ≡ 255 ∷ 255 ∷ 255 ∷ [] }
-    ensures pair { (picture_of (one_chunk (0 ∷ 1 ∷ 0x81 ∷ 2 ∷ 0 ∷ 2 ∷ 0 ∷ 1 ∷ 0 ∷ 0x3F ∷ []) true).layer).samples ≡ 0 ∷ 0 ∷ 0 ∷ 0 ∷ 0 ∷ 0 ∷ [] }
+    ensures white { (layer_picture (one_chunk (0 ∷ 1 ∷ 0x81 ∷ 2 ∷ 0 ∷ 1 ∷ 0 ∷ 1 ∷ 0 ∷ 0x1F ∷ []) true).layer).samples ≡ 255 ∷ 255 ∷ 255 ∷ [] }
+    ensures pair { (layer_picture (one_chunk (0 ∷ 1 ∷ 0x81 ∷ 2 ∷ 0 ∷ 2 ∷ 0 ∷ 1 ∷ 0 ∷ 0x3F ∷ []) true).layer).samples ≡ 0 ∷ 0 ∷ 0 ∷ 0 ∷ 0 ∷ 0 ∷ [] }
     ensures needs { (one_chunk (0 ∷ 1 ∷ 0x81 ∷ 2 ∷ 0 ∷ 1 ∷ 0 ∷ 1 ∷ 0 ∷ 0x3F ∷ []) false).answer ≡ Need }
     ensures no_decision { (one_chunk (0 ∷ 1 ∷ 0x81 ∷ 2 ∷ 0 ∷ 1 ∷ 0 ∷ 1 ∷ 0 ∷ 0x3F ∷ []) false).layer.decisions ≡ 0 }
     ensures later_serial { (two_chunks (0 ∷ 1 ∷ 0x81 ∷ 2 ∷ 0 ∷ 1 ∷ 0 ∷ 1 ∷ 0 ∷ []) (0 ∷ 1 ∷ [])).answer ≡ Fault fault.IwSerial }
@@ -90,8 +135,8 @@ pub fn worked_grey_layers()
 /// Layers of one pixel with colours, at full size and at half size: all three planes are 0.
 pub fn worked_colour_layers()
     ensures decisions { (one_chunk (0 ∷ 1 ∷ 1 ∷ 2 ∷ 0 ∷ 1 ∷ 0 ∷ 1 ∷ 0x80 ∷ []) true).layer.decisions ≡ 3 }
-    ensures full { (picture_of (one_chunk (0 ∷ 1 ∷ 1 ∷ 2 ∷ 0 ∷ 1 ∷ 0 ∷ 1 ∷ 0x80 ∷ []) true).layer).samples ≡ 128 ∷ 128 ∷ 128 ∷ [] }
+    ensures full { (layer_picture (one_chunk (0 ∷ 1 ∷ 1 ∷ 2 ∷ 0 ∷ 1 ∷ 0 ∷ 1 ∷ 0x80 ∷ []) true).layer).samples ≡ 128 ∷ 128 ∷ 128 ∷ [] }
     ensures half_decisions { (one_chunk (0 ∷ 1 ∷ 1 ∷ 2 ∷ 0 ∷ 1 ∷ 0 ∷ 1 ∷ 0 ∷ []) true).layer.decisions ≡ 3 }
-    ensures half { (picture_of (one_chunk (0 ∷ 1 ∷ 1 ∷ 2 ∷ 0 ∷ 1 ∷ 0 ∷ 1 ∷ 0 ∷ []) true).layer).samples ≡ 128 ∷ 128 ∷ 128 ∷ [] }
+    ensures half { (layer_picture (one_chunk (0 ∷ 1 ∷ 1 ∷ 2 ∷ 0 ∷ 1 ∷ 0 ∷ 1 ∷ 0 ∷ []) true).layer).samples ≡ 128 ∷ 128 ∷ 128 ∷ [] }
     ensures delayed { (one_chunk (0 ∷ 1 ∷ 1 ∷ 2 ∷ 0 ∷ 1 ∷ 0 ∷ 1 ∷ 0x81 ∷ []) true).layer.decisions ≡ 1 }
 {}

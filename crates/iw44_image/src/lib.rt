@@ -5,4 +5,6 @@
 //! IW44 in the DjVu Reference, version 3; the numbers are this project's own profile after it (`docs/iw44.md`).
 #![tactic(auto)]
 
+mod headers;
 pub mod laws;
+mod planes;

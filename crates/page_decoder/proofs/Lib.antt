@@ -24,3 +24,46 @@ mod Growing
 mod Staying
 -- law ends
 mod Finishing
+-- the reading of what was given: laws of page_laws
+-- Further, Comparing
+mod Retaining
+-- Coming, Acting, Comparing
+mod Further
+-- law growth of page_laws
+mod Coming
+-- Comparing
+mod Acting
+-- law growth of page_laws
+mod Comparing
+-- law acts of page_laws
+mod Running
+-- Ruling
+mod Numbering
+-- Needing
+mod Ruling
+-- law needs of page_laws
+mod Needing
+-- law needs of page_laws
+mod Asking
+-- Showing, Serving
+mod Leaving
+-- law shows of page_laws
+mod Showing
+-- Serving
+mod Including
+-- law included_files of page_laws
+mod Serving
+-- Building
+mod Ordered
+-- Building, Working
+mod GoingOn
+-- laws results_are_the_librarys and libraries_go_on of page_laws
+mod Building
+-- laws libraries_go_on and closed_libraries of page_laws
+mod Working
+-- Limiting
+mod Serials
+-- law limits of page_laws
+mod Limiting
+-- law faults_stand_in_files of page_laws
+mod FaultPlaces

@@ -16,3 +16,17 @@ pub mod Worked
 -- the inside of this crate
 pub mod Walk
 pub mod Brought
+-- the reading of a page with all its chunks, over what is given of other files
+pub use Rattle.djvu_base.specs.Announced
+pub use Rattle.include_graph.specs.Graphs
+pub mod Kinds
+pub mod Results
+pub mod Given
+pub mod PageRead
+pub mod Headers
+pub mod ChunkData
+pub mod Acts
+pub mod Read
+pub mod Libraries
+pub mod Needs
+pub mod WorkedPages

@@ -17,6 +17,7 @@ mod drawings;
 mod ends;
 pub mod laws;
 mod page;
+pub mod page_laws;
 mod places;
 mod reading;
 mod walk;

@@ -1,219 +1,430 @@
--- A reader of a mask while bytes are pushed, once they end, and once they are decoded.
-use Rattle.std.proofs.Common.{◌≡◌, ◌≤◌, ◌+◌, ℕ, Bool, true, false, List, [], ◌++◌, length, refl, sym, ap, subst, ◌∙◌, arith}
-use Rattle.std.specs.Prelude.{Option, Some, None, Result, Ok, Err, OnOk, is_ok, if◌then◌else◌}
+-- What a reader was fed, at each step and in each answer.
+use Rattle.std.proofs.Common.{◌≡◌, ◌≢◌, ◌≤◌, ◌+◌, ℕ, Bool, true, false, suc, List, [], ◌∷◌, ◌++◌, length, refl, sym, ap, subst, ◌∙◌, arith}
+use Rattle.std.specs.Prelude.{Option, Some, None, Result, Ok, Err, OnOk, OnErr}
+use Rattle.std.proofs.lemmas.List.{append-nil}
 use Rattle.zp_table.specs.declared.rows.Row.{Row}
-use Rattle.std.proofs.lemmas.List.{length-append, append-nil}
-use Rattle.djvu_base.specs.Meter.{ticked}
+use Rattle.zp_table.specs.Rows.{IsTable}
+use Rattle.djvu_base.specs.Meter.{ticked, TicksExactly}
+use Rattle.zp_decoder.specs.Chunk.{Chunk, chunk}
 use Rattle.bit_plane.specs.Pixels.{Pixels}
+use Rattle.jb2_records.specs.declared.steps.Field.TheVariants as field
+use Rattle.jb2_records.specs.declared.steps.Step.{Step}
+use Rattle.jb2_records.specs.declared.machine.Machine.{Machine}
+use Rattle.jb2_records.specs.declared.machine.Halt.{Halt}
+use Rattle.jb2_records.specs.declared.machine.Halt.TheVariants as halt
 use Rattle.jb2_records.specs.declared.reader.Jb2Step.{Jb2Step}
 use Rattle.jb2_records.specs.declared.reader.Jb2Step.TheVariants as answer
-use Rattle.jb2_records.specs.Records.{placed_shapes}
-use Rattle.jb2_records.specs.Reading.{Input, Outcome, records_of}
-use Rattle.jb2_records.specs.Mask.{mask_of, mask_drawn}
-use Rattle.jb2_records.specs.Reader.{Masking, Fed, Settles, input_of, standing}
-use Rattle.jb2_records.specs.Holding.{IsFinal, IsHeld, IsDecoded, with_decoded}
-use Rattle.zp_decoder.specs.Chunk.{Chunk, chunk}
+use Rattle.jb2_records.specs.Records.{Record, placed_shapes}
 use Rattle.jb2_records.specs.Coding.{chunk_start}
-use Rattle.jb2_records.specs.Telling.{Parts, Stands}
-use Rattle.jb2_records.specs.Drawing.{Task, Scene, drawn, Shows, IsBegun, DrawsAll}
-use Rattle.jb2_records.specs.Growth.{GoesOn}
+use Rattle.jb2_records.specs.Reading.{Input, Purpose, Dictionary, Mask, Outcome, records_of, most_records}
+use Rattle.jb2_records.specs.Growth.{IsSound}
+use Rattle.jb2_records.specs.Taking.{Becomes, stays, grows, with_bytes}
+use Rattle.jb2_records.specs.Telling.{Parts, Stands, Grows}
+use Rattle.jb2_records.specs.Library.{Library, library_of, Keeps}
+use Rattle.jb2_records.specs.Picture.{Picture, Draws, Shows}
+use Rattle.jb2_records.specs.Mask.{mask_of, mask_drawn}
+use Rattle.jb2_records.specs.Steps.{behind, from_number}
+use Rattle.jb2_records.specs.Machine.{with_chunk, Follows, Holds, Stays, HaltsAt, HaltFits, IsLater, Fits}
+use Rattle.jb2_records.specs.Machine.{IsPictured}
+use Rattle.jb2_records.specs.ReaderState.{Kept, ReaderState, Source, input_of, answered_by, state_of, Settles, IsAt, Fed, KeptFits}
+use Rattle.jb2_records.specs.ReaderState.{IsHeld, IsDrawnFor, answer_of, step_of}
+use Rattle.jb2_records.proofs.Ending.{any_count}
 use Rattle.jb2_records.proofs.Growing.{records_go_on}
+use Rattle.jb2_records.proofs.Adding.{blank_first}
+use Rattle.jb2_records.proofs.Suspending.{sound_becomes}
+use Rattle.jb2_records.proofs.Lengthening.{holds_units, holds_decisions, keeps_there, draws_there, holds_grows}
 
--- a reader with more bytes
-abbrev pub grown : Masking → List ℕ → Bool → Masking
-grown reader more ended = record reader { ended = ended; kept = record { bytes = reader.kept.bytes ++ more; mask = reader.kept.mask } }
-
-mask_same : (width height : ℕ) (shorter longer : Input) → longer.inherited ≡ shorter.inherited → records_of longer ≡ records_of shorter → mask_drawn width height shorter ≡ mask_drawn width height longer
-mask_same width height shorter longer dictionary records =
-    ap (λ (l : List Pixels). mask_of width height (placed_shapes l (records_of shorter).records)) (sym dictionary)
-    ∙ ap (λ (o : Outcome). mask_of width height (placed_shapes longer.inherited o.records)) (sym records)
-
-settles_on : (width height : ℕ) (shorter longer : Input) (answered : Option Jb2Step) (units decisions : ℕ) (mask : Pixels) → longer.inherited ≡ shorter.inherited →
-    GoesOn (records_of shorter) (records_of longer) → IsFinal answered → Settles shorter width height answered units decisions mask → Settles longer width height answered units decisions mask
-settles_on width height shorter longer None units decisions mask dictionary goes final settles = tt
-settles_on width height shorter longer (Some step) units decisions mask dictionary goes final settles =
-    let same : records_of longer ≡ records_of shorter = goes.settled (λ needs. final (settles.0 ∙ needs)) in (
-      settles.0 ∙ ap (λ (o : Outcome). o.answer) (sym same),
-      settles.1 ∙ ap (λ (o : Outcome). ticked (length o.records) 0) (sym same),
-      settles.2 ∙ ap (λ (o : Outcome). ticked o.decisions 0) (sym same),
-      λ finished. settles.3 finished ∙ mask_same width height shorter longer dictionary same,
-    )
-
-fed_grown : (reader : Masking) (more : List ℕ) (ended : Bool) → IsHeld reader → reader.ended ≡ false → Fed (reader.kept.bytes ++ more) (grown reader more ended)
-unfolding Fed
-fed_grown reader more ended held goes =
-    let some : Input = input_of reader reader.kept.bytes in
-    let all : Input = input_of (grown reader more ended) (reader.kept.bytes ++ more) in
-    let on : GoesOn (records_of some) (records_of all) = records_go_on some more ended held.rows goes in
-    let longer : length (records_of all).records ≡ length on.later + length (records_of some).records = ap length on.entries ∙ length-append on.later (records_of some).records in
-    let units : reader.units ≤ ticked (length (records_of some).records) 0 = held.fed.1 in
-    let decisions : reader.decisions ≤ ticked (records_of some).decisions 0 = held.fed.2 in
-    let fewer : (records_of some).decisions ≤ (records_of all).decisions = on.decisions in (
-      refl,
-      omega arith,
-      omega arith,
-      settles_on reader.width reader.height some all reader.answered reader.units reader.decisions reader.kept.mask refl on held.final held.fed.3,
-    )
-
--- more bytes come
-pub held_grown : (reader : Masking) (more : List ℕ) (ended : Bool) → IsHeld reader → reader.ended ≡ false → IsHeld (grown reader more ended)
-held_grown reader more ended held goes = record { size = held.size; rows = held.rows; final = held.final; fed = fed_grown reader more ended held goes }
-
--- the bytes end
-held_ended : (reader : Masking) (b : Bool) → IsHeld reader → reader.ended ≡ b → IsHeld (record reader { ended = true })
-held_ended reader true held is = subst (λ (b : Bool). IsHeld (record reader { ended = b })) is held
-held_ended reader false held is =
-    subst (λ (bytes : List ℕ). IsHeld (record reader { ended = true; kept = record { bytes = bytes; mask = reader.kept.mask } })) (append-nil reader.kept.bytes) (held_grown reader [] true held is)
-
-pub held_end : (reader : Masking) → IsHeld reader → IsHeld (record reader { ended = true })
-held_end reader held = held_ended reader reader.ended held refl
-
--- what a reader that was fed a payload keeps
-pub fed_bytes : (payload : List ℕ) (reader : Masking) → Fed payload reader → reader.kept.bytes ≡ payload
-unfolding Fed
-fed_bytes payload reader fed = fed.0
-
--- a reader that holds its bytes is fed whatever it was fed
-pub fed_held : (payload : List ℕ) (reader : Masking) → IsHeld reader → reader.kept.bytes ≡ payload → Fed payload reader
-fed_held payload reader held same = subst (λ (bytes : List ℕ). Fed bytes reader) same held.fed
-
--- counts of a reader that was fed a payload are at most the definition's
-pub fed_at_most : (payload : List ℕ) (reader : Masking) → Fed payload reader →
-    (reader.units ≤ ticked (length (records_of (input_of reader payload)).records) 0) × (reader.decisions ≤ ticked (records_of (input_of reader payload)).decisions 0)
-unfolding Fed
-fed_at_most payload reader fed = (fed.1, fed.2)
-
--- a new reader
-pub fed_new : (reader : Masking) → reader.kept.bytes ≡ [] → reader.answered ≡ None → reader.units ≡ 0 → reader.decisions ≡ 0 → Fed [] reader
-unfolding Fed
-fed_new reader bytes answered units decisions = (
-  bytes,
-  omega arith,
-  omega arith,
-  subst (λ (a : Option Jb2Step). Settles (input_of reader []) reader.width reader.height a reader.units reader.decisions reader.kept.mask) (sym answered) tt,
-)
-
--- what was decoded is kept
-
-final_standing : (step : Jb2Step) → IsFinal (standing step None)
-final_standing answer.Finished = λ same. cc
-final_standing answer.NeedBytes = tt
-final_standing (answer.Refused kind) = λ same. cc
-final_standing answer.OutOfMemory = tt
-
-settles_standing : (input : Input) (width height : ℕ) (step : Jb2Step) (units decisions : ℕ) (mask : Pixels) → step ≡ (records_of input).answer → units ≡ ticked (length (records_of input).records) 0 →
-    decisions ≡ ticked (records_of input).decisions 0 → mask ≡ mask_drawn width height input → Settles input width height (standing step None) units decisions mask
-settles_standing input width height answer.Finished units decisions mask same entries made drawn = (same, entries, made, λ finished. drawn)
-settles_standing input width height answer.NeedBytes units decisions mask same entries made drawn = tt
-settles_standing input width height (answer.Refused kind) units decisions mask same entries made drawn = (same, entries, made, λ finished. drawn)
-settles_standing input width height answer.OutOfMemory units decisions mask same entries made drawn = tt
-
-pub fed_decoded : (reader : Masking) (told : Jb2Step) (records made : ℕ) (picture : Pixels) → IsDecoded reader told records made picture → Fed reader.kept.bytes (with_decoded reader told records made picture)
-unfolding Fed
-fed_decoded reader told records made picture is =
-    let entries : records ≡ ticked (length (records_of (input_of reader reader.kept.bytes)).records) 0 = is.entries in
-    let decided : made ≡ ticked (records_of (input_of reader reader.kept.bytes)).decisions 0 = is.decided in (
-      refl,
-      omega arith,
-      omega arith,
-      settles_standing (input_of reader reader.kept.bytes) reader.width reader.height told records made picture is.same entries decided is.drawn,
-    )
-
-pub held_decoded : (reader : Masking) (told : Jb2Step) (records made : ℕ) (picture : Pixels) → IsHeld reader → IsDecoded reader told records made picture → IsHeld (with_decoded reader told records made picture)
-held_decoded reader told records made picture held is = record {
-  size = held.size;
-  rows = held.rows;
-  final = final_standing told;
-  fed = fed_decoded reader told records made picture is;
+-- an answer that stands, where its counts and what it came to are the same
+pub settles_along : (input later : Input) (told : Jb2Step) (old new : Machine) → records_of later ≡ records_of input → later.inherited ≡ input.inherited →
+    later.purpose ≡ input.purpose →
+    new.coder.count ≡ old.coder.count → new.library ≡ old.library → new.picture ≡ old.picture → new.units ≡ old.units → Settles input told old →
+    Settles later told new
+settles_along input later told old new same inherited purpose count same_library same_picture units settles = record {
+  answers = record {
+    same = ap (λ (o : Outcome). o.answer) same ∙ settles.answers.same;
+    units = units ∙ settles.answers.units ∙ ap (λ (o : Outcome). ticked (length o.records) 0) (sym same);
+    decisions = count ∙ settles.answers.decisions ∙ ap (λ (o : Outcome). ticked o.decisions 0) (sym same);
+  };
+  keeps = λ ends. subst (λ (l : Library). Keeps later (records_of later).records l) (sym same_library)
+      (subst (λ (o : Outcome). Keeps later o.records old.library) (sym same)
+      (keeps_there input later (records_of input).records old.library inherited purpose (settles.keeps ends)));
+  draws = λ ends. subst (λ (p : Option Picture). Draws later (records_of later).records p) (sym same_picture)
+      (subst (λ (o : Outcome). Draws later o.records old.picture) (sym same)
+      (draws_there input later (records_of input).records old.picture inherited purpose (settles.draws ends)));
 }
 
--- counts don't fall
-pub units_grow : (reader : Masking) (told : Jb2Step) (records made : ℕ) (picture : Pixels) → IsHeld reader → IsDecoded reader told records made picture → reader.units ≤ records
+-- ---- what is answered
+
+pub halts_answer : (input : Input) (halts : Halt) (machine : Machine) → HaltsAt input halts machine → answer_of halts ≢ answer.OutOfMemory →
+    answer_of halts ≡ (records_of input).answer
+halts_answer input (halt.NeedBytes at) machine (holds, answers) some = sym answers.same
+halts_answer input (halt.OutOfMemory at) machine holds some = absurd (some refl)
+halts_answer input (halt.Refused kind) machine answers some = sym answers.same
+halts_answer input halt.Finished machine finishes some = sym finishes.answers.same
+
+pub halts_units : (input : Input) (halts : Halt) (machine : Machine) → HaltsAt input halts machine → answer_of halts ≢ answer.OutOfMemory →
+    TicksExactly (length (records_of input).records) 0 machine.units
+halts_units input (halt.NeedBytes at) machine (holds, answers) some = answers.units
+halts_units input (halt.OutOfMemory at) machine holds some = absurd (some refl)
+halts_units input (halt.Refused kind) machine answers some = answers.units
+halts_units input halt.Finished machine finishes some = finishes.answers.units
+
+pub halts_decisions : (input : Input) (halts : Halt) (machine : Machine) → HaltsAt input halts machine → answer_of halts ≢ answer.OutOfMemory →
+    TicksExactly (records_of input).decisions 0 machine.coder.count
+halts_decisions input (halt.NeedBytes at) machine (holds, answers) some = answers.decisions
+halts_decisions input (halt.OutOfMemory at) machine holds some = absurd (some refl)
+halts_decisions input (halt.Refused kind) machine answers some = answers.decisions
+halts_decisions input halt.Finished machine finishes some = finishes.answers.decisions
+
+pub halts_at : (input : Input) (halts : Halt) (machine : Machine) → HaltsAt input halts machine → IsAt input (step_of halts) (answer_of halts) machine
+halts_at input (halt.NeedBytes at) machine (holds, answers) = holds
+halts_at input (halt.OutOfMemory at) machine holds = holds
+halts_at input (halt.Refused kind) machine answers = record { answers = answers; keeps = λ ends. absurd (cc); draws = λ ends. absurd (cc) }
+halts_at input halt.Finished machine finishes = record { answers = finishes.answers; keeps = λ ends. finishes.keeps; draws = λ ends. finishes.draws }
+
+pub halts_fit : (halts : Halt) (machine : Machine) → HaltFits halts machine.library machine.picture → KeptFits (step_of halts) (answer_of halts) machine
+halts_fit (halt.NeedBytes at) machine fits = fits
+halts_fit (halt.OutOfMemory at) machine fits = fits
+halts_fit (halt.Refused kind) machine fits = ((λ e. cc, λ e. cc), λ ends. absurd (cc))
+halts_fit halt.Finished machine fits = ((λ e. cc, λ e. cc), λ ends. fits)
+
+-- ---- counts in each state
+
+pub at_units : (input : Input) (at : Option Step) (told : Jb2Step) (machine : Machine) → IsAt input at told machine →
+    machine.units ≤ ticked (length (records_of input).records) 0
+at_units input (Some at) told machine holds = holds_units input at machine holds
+at_units input None told machine settles = let is = settles.answers.units in omega (arith, is)
+
+pub at_decisions : (input : Input) (at : Option Step) (told : Jb2Step) (machine : Machine) → IsAt input at told machine →
+    machine.coder.count ≤ ticked (records_of input).decisions 0
+at_decisions input (Some at) told machine holds = holds_decisions input at machine holds
+at_decisions input None told machine settles = let is = settles.answers.decisions in omega (arith, is)
+
+-- ---- bytes that come
+
+-- what is kept, in its parts
+abbrev kept_at : Option Step → Jb2Step → Machine → Kept
+kept_at at told machine = record { step = at; answer = told; machine = machine }
+
+abbrev input_at : List Row → List ℕ → Bool → Machine → Input
+input_at rows payload ended machine = record { chunk = chunk rows payload ended; inherited = machine.library.inherited; purpose = machine.library.purpose }
+
+same_on : (input : Input) (later : Chunk) → Becomes input.chunk later → IsTable input.chunk.table → (records_of input).answer ≢ answer.NeedBytes →
+    records_of (with_chunk input later) ≡ records_of input
+same_on input later (stays is) table final = ap (λ (from : Chunk). records_of (with_chunk input from)) is
+same_on input later (grows goes more ended is) table final =
+    ap (λ (from : Chunk). records_of (with_chunk input from)) is ∙ (records_go_on input more ended table goes).settled final
+
+settles_on : (later : Chunk) (rows : List Row) (payload : List ℕ) (ended : Bool) (told : Jb2Step) (old new : Machine) →
+    Becomes (chunk rows payload ended) later → IsTable rows → told ≢ answer.NeedBytes →
+    new.coder.count ≡ old.coder.count → new.library ≡ old.library → new.picture ≡ old.picture → new.units ≡ old.units →
+    Settles (input_at rows payload ended old) told old →
+    Settles (with_chunk (input_at rows payload ended old) later) told new
+settles_on later rows payload ended told old new becomes table final count same_library same_picture same_units settles =
+    settles_along (input_at rows payload ended old) (with_chunk (input_at rows payload ended old) later) told old new
+    (same_on (input_at rows payload ended old) later becomes table (λ needs. final (sym settles.answers.same ∙ needs))) refl refl count same_library
+    same_picture same_units settles
+
+is_at_on : (at : Option Step) (told : Jb2Step) (machine : Machine) (coder : Parts) (rows : List Row) (payload : List ℕ) (ended : Bool) (later : Chunk) →
+    Becomes (chunk rows payload ended) later → Grows (chunk rows payload ended) later machine.coder coder → coder.count ≡ machine.coder.count →
+    IsTable rows → KeptFits at told machine →
+    IsAt (input_at rows payload ended machine) at told machine →
+    IsAt (with_chunk (input_at rows payload ended machine) later) at told (record machine { coder = coder })
+is_at_on (Some at) told machine coder rows payload ended later becomes on count table fits holds =
+    holds_grows (input_at rows payload ended machine) later at machine (record machine { coder = coder }) becomes on refl refl refl holds
+is_at_on None told machine coder rows payload ended later becomes on count table fits settles =
+    settles_on later rows payload ended told machine (record machine { coder = coder }) becomes table fits.0.0 count refl refl refl settles
+
+fed_on : (at : Option Step) (told : Jb2Step) (machine : Machine) (coder : Parts) (payload all : List ℕ) (ended : Bool) →
+    Becomes (chunk machine.coder.zp.table payload machine.coder.unread.ended) (chunk machine.coder.zp.table all ended) →
+    Grows (chunk machine.coder.zp.table payload machine.coder.unread.ended) (chunk machine.coder.zp.table all ended) machine.coder coder →
+    coder.zp.table ≡ machine.coder.zp.table → coder.unread.ended ≡ ended → coder.count ≡ machine.coder.count → IsTable machine.coder.zp.table →
+    KeptFits at told machine →
+    Fed payload (state_of (kept_at at told machine)) → Fed all (state_of (kept_at at told (record machine { coder = coder })))
 unfolding Fed
-units_grow reader told records made picture held is =
-    let before : reader.units ≤ ticked (length (records_of (input_of reader reader.kept.bytes)).records) 0 = held.fed.1 in
-    let entries : records ≡ ticked (length (records_of (input_of reader reader.kept.bytes)).records) 0 = is.entries in
-    omega arith
+fed_on at told machine coder payload all ended becomes on same_table same_end count table fits fed =
+    subst (λ (rows : List Row). IsAt (input_at rows all coder.unread.ended machine) at told (record machine { coder = coder })) (sym same_table)
+    (subst (λ (e : Bool). IsAt (input_at machine.coder.zp.table all e machine) at told (record machine { coder = coder })) (sym same_end)
+    (is_at_on at told machine coder machine.coder.zp.table payload machine.coder.unread.ended (chunk machine.coder.zp.table all ended) becomes on count
+    table fits fed))
 
-pub decisions_grow : (reader : Masking) (told : Jb2Step) (records made : ℕ) (picture : Pixels) → IsHeld reader → IsDecoded reader told records made picture → reader.decisions ≤ made
+fits_with : (at : Option Step) (told : Jb2Step) (machine : Machine) (coder : Parts) → KeptFits at told machine →
+    KeptFits at told (record machine { coder = coder })
+fits_with (Some at) told machine coder fits = fits
+fits_with None told machine coder fits = fits
+
+-- bytes behind an answer that stands
+pub fed_still : (at : Option Step) (told : Jb2Step) (machine : Machine) (payload piece : List ℕ) → at ≡ None → machine.coder.unread.ended ≡ false →
+    IsHeld (kept_at at told machine) →
+    Fed payload (state_of (kept_at at told machine)) → Fed (payload ++ piece) (state_of (kept_at at told machine))
 unfolding Fed
-decisions_grow reader told records made picture held is =
-    let before : reader.decisions ≤ ticked (records_of (input_of reader reader.kept.bytes)).decisions 0 = held.fed.2 in
-    let decided : made ≡ ticked (records_of (input_of reader reader.kept.bytes)).decisions 0 = is.decided in
-    omega arith
+fed_still (Some at) told machine payload piece is goes held fed = absurd (cc)
+fed_still None told machine payload piece is goes held fed =
+    settles_on (chunk machine.coder.zp.table (payload ++ piece) machine.coder.unread.ended) machine.coder.zp.table payload machine.coder.unread.ended told
+    machine machine
+    (grows goes piece machine.coder.unread.ended refl) held.table held.fits.0.0 refl refl refl refl fed
 
--- a standing answer is the definition's, with its counts
-pub settled_answer : (reader : Masking) (payload : List ℕ) (step : Jb2Step) → Fed payload reader → reader.answered ≡ Some step → step ≡ (records_of (input_of reader payload)).answer
-unfolding Fed
-settled_answer reader payload step fed is =
-    let settles = subst (λ (a : Option Jb2Step). Settles (input_of reader payload) reader.width reader.height a reader.units reader.decisions reader.kept.mask) is fed.3 in settles.0
+module _ {T E : Type 0} (piece : List ℕ) (at : Option Step) (told : Jb2Step) (machine : Machine) (coder : Parts) where
+  pub fed_pushed : (result : Result T E) → OnOk result ((source : Chunk) → Grows source (with_bytes source piece false) machine.coder coder) →
+      coder.zp.table ≡ machine.coder.zp.table → coder.unread.ended ≡ false → coder.count ≡ machine.coder.count → machine.coder.unread.ended ≡ false →
+      IsHeld (kept_at at told machine) →
+      OnOk result ((payload : List ℕ) → Fed payload (state_of (kept_at at told machine)) →
+      Fed (payload ++ piece) (state_of (kept_at at told (record machine { coder = coder }))))
+  fed_pushed (Ok value) on same_table same_end count goes held = λ payload fed.
+      fed_on at told machine coder payload (payload ++ piece) false (grows goes piece false refl)
+      (on (chunk machine.coder.zp.table payload machine.coder.unread.ended)) same_table same_end count held.table held.fits fed
+  fed_pushed (Err error) on same_table same_end count goes held = tt
 
-pub settled_units : (reader : Masking) (payload : List ℕ) (step : Jb2Step) → Fed payload reader → reader.answered ≡ Some step → reader.units ≡ ticked (length (records_of (input_of reader payload)).records) 0
-unfolding Fed
-settled_units reader payload step fed is =
-    let settles = subst (λ (a : Option Jb2Step). Settles (input_of reader payload) reader.width reader.height a reader.units reader.decisions reader.kept.mask) is fed.3 in settles.1
+  pub held_pushed : (result : Result T E) → OnOk result ((source : Chunk) → Grows source (with_bytes source piece false) machine.coder coder) →
+      OnErr result (coder ≡ machine.coder) →
+      coder.zp.table ≡ machine.coder.zp.table → coder.unread.ended ≡ false → coder.count ≡ machine.coder.count → machine.coder.unread.ended ≡ false →
+      IsHeld (kept_at at told machine) →
+      IsHeld (kept_at at told (record machine { coder = coder }))
+  held_pushed (Ok value) on same same_table same_end count goes held = record {
+    table = subst IsTable (sym same_table) held.table;
+    fits = fits_with at told machine coder held.fits;
+    payload = held.payload ++ piece;
+    fed = fed_on at told machine coder held.payload (held.payload ++ piece) false (grows goes piece false refl)
+        (on (chunk machine.coder.zp.table held.payload machine.coder.unread.ended))
+        same_table same_end count held.table held.fits held.fed;
+  }
+  held_pushed (Err error) on same same_table same_end count goes held = subst (λ (p : Parts). IsHeld (kept_at at told (record machine { coder = p })))
+      (sym same) held
 
-pub settled_decisions : (reader : Masking) (payload : List ℕ) (step : Jb2Step) → Fed payload reader → reader.answered ≡ Some step → reader.decisions ≡ ticked (records_of (input_of reader payload)).decisions 0
-unfolding Fed
-settled_decisions reader payload step fed is =
-    let settles = subst (λ (a : Option Jb2Step). Settles (input_of reader payload) reader.width reader.height a reader.units reader.decisions reader.kept.mask) is fed.3 in settles.2
+-- the end
+becomes_ended : (rows : List Row) (payload : List ℕ) (ended : Bool) → Becomes (chunk rows payload ended) (chunk rows payload true)
+becomes_ended rows payload true = stays refl
+becomes_ended rows payload false = grows refl [] true (ap (λ (l : List ℕ). chunk rows l true) (sym (append-nil payload)))
 
-pub settled_mask : (reader : Masking) (payload : List ℕ) → Fed payload reader → reader.answered ≡ Some answer.Finished → reader.kept.mask ≡ mask_drawn reader.width reader.height (input_of reader payload)
-unfolding Fed
-settled_mask reader payload fed is =
-    let settles = subst (λ (a : Option Jb2Step). Settles (input_of reader payload) reader.width reader.height a reader.units reader.decisions reader.kept.mask) is fed.3 in settles.3 refl
+module _ (at : Option Step) (told : Jb2Step) (machine : Machine) (coder : Parts) (on : (source : Chunk) →
+    Grows source (chunk source.table source.payload true) machine.coder coder)
+    (same_table : coder.zp.table ≡ machine.coder.zp.table) (same_end : coder.unread.ended ≡ true) (count : coder.count ≡ machine.coder.count)
+    (held : IsHeld (kept_at at told machine)) where
+  pub fed_ended : (payload : List ℕ) → Fed payload (state_of (kept_at at told machine)) →
+      Fed payload (state_of (kept_at at told (record machine { coder = coder })))
+  fed_ended payload fed =
+      fed_on at told machine coder payload payload true (becomes_ended machine.coder.zp.table payload machine.coder.unread.ended)
+      (on (chunk machine.coder.zp.table payload machine.coder.unread.ended)) same_table same_end count held.table held.fits fed
 
--- bytes that were pushed, or for which there was no memory
-pub held_pushed : (reader : Masking) (piece bytes : List ℕ) (is_pushed : Bool) → bytes ≡ (if is_pushed then reader.kept.bytes ++ piece else reader.kept.bytes) → reader.ended ≡ false → IsHeld reader →
-    IsHeld (record reader { kept = record { bytes = bytes; mask = reader.kept.mask } })
-held_pushed reader piece bytes true is goes held =
-    subst (λ (l : List ℕ). IsHeld (record reader { kept = record { bytes = l; mask = reader.kept.mask } })) (sym is)
-    (subst (λ (b : Bool). IsHeld (record reader { ended = b; kept = record { bytes = reader.kept.bytes ++ piece; mask = reader.kept.mask } })) (sym goes) (held_grown reader piece false held goes))
-held_pushed reader piece bytes false is goes held =
-    subst (λ (l : List ℕ). IsHeld (record reader { kept = record { bytes = l; mask = reader.kept.mask } })) (sym is) held
+  pub held_ended : IsHeld (kept_at at told (record machine { coder = coder }))
+  held_ended = record {
+    table = subst IsTable (sym same_table) held.table;
+    fits = fits_with at told machine coder held.fits;
+    payload = held.payload;
+    fed = fed_ended held.payload held.fed;
+  }
 
-pub fed_pushed : {T E : Type 0} (reader : Masking) (piece bytes : List ℕ) (result : Result T E) → bytes ≡ (if is_ok result then reader.kept.bytes ++ piece else reader.kept.bytes) → reader.ended ≡ false → IsHeld reader →
-    OnOk result ((payload : List ℕ) → Fed payload reader → Fed (payload ++ piece) (record reader { kept = record { bytes = bytes; mask = reader.kept.mask } }))
-fed_pushed reader piece bytes (Ok value) is goes held = λ payload fed.
-    fed_held (payload ++ piece) (record reader { kept = record { bytes = bytes; mask = reader.kept.mask } }) (held_pushed reader piece bytes true is goes held)
-    (is ∙ ap (λ (l : List ℕ). l ++ piece) (fed_bytes payload reader fed))
-fed_pushed reader piece bytes (Err error) is goes held = tt
+-- ---- a new reader
 
-pub fed_end : (payload : List ℕ) (reader : Masking) → IsHeld reader → Fed payload reader → Fed payload (record reader { ended = true })
-fed_end payload reader held fed = fed_held payload (record reader { ended = true }) (held_end reader held) (fed_bytes payload reader fed)
+module _ (rows : List Row) (inherited : List Pixels) (purpose : Purpose) (machine : Machine) (first : Step)
+    (keeps : (input : Input) → input.inherited ≡ inherited → input.purpose ≡ purpose → Keeps input [] machine.library) where
+  abbrev no_bytes : Input
+  no_bytes = record { chunk = chunk rows [] false; inherited = inherited; purpose = purpose }
 
--- what is decoded is kept
-pub held_stored : (reader : Masking) (told : Jb2Step) (records made : ℕ) (picture : Pixels) (kept : Option Jb2Step) → kept ≡ standing told None → IsHeld reader → IsDecoded reader told records made picture →
-    IsHeld (record reader { width = picture.width; height = picture.height; answered = kept; units = records; decisions = made; kept = record { bytes = reader.kept.bytes; mask = picture } })
-held_stored reader told records made picture kept same held is =
-    let stored : IsHeld (with_decoded reader told records made picture) = held_decoded reader told records made picture held is in
-    subst (λ (k : Option Jb2Step). IsHeld (record reader { width = picture.width; height = picture.height; answered = k; units = records; decisions = made; kept = record { bytes = reader.kept.bytes; mask = picture } })) (sym same)
-    (subst (λ (w : ℕ). IsHeld (record reader { width = w; height = picture.height; answered = standing told None; units = records; decisions = made; kept = record { bytes = reader.kept.bytes; mask = picture } })) (sym (ap (λ (m : Pixels). m.width) is.drawn))
-    (subst (λ (h : ℕ). IsHeld (record reader { height = h; answered = standing told None; units = records; decisions = made; kept = record { bytes = reader.kept.bytes; mask = picture } })) (sym (ap (λ (m : Pixels). m.height) is.drawn)) stored))
+  pub new_source : machine.coder.zp.table ≡ rows →
+      ◌≡◌ {A = Source} (record { table = machine.coder.zp.table; inherited = machine.library.inherited; purpose = machine.library.purpose })
+      (record { table = rows; inherited = inherited; purpose = purpose })
+  new_source table =
+      ap (λ (r : List Row). record { table = r; inherited = machine.library.inherited; purpose = machine.library.purpose }) table
+      ∙ ap (λ (l : Library). record { table = rows; inherited = l.inherited; purpose = l.purpose }) (keeps no_bytes refl refl).is
 
--- a reader's bytes, decoded
-abbrev pub task_of : Masking → Task
-task_of reader = record { chunk = chunk reader.table reader.kept.bytes reader.ended; inherited = reader.inherited; width = reader.width; height = reader.height }
+  pub new_unstarted : machine.library.started ≡ false
+  new_unstarted = ap (λ (l : Library). l.started) (keeps no_bytes refl refl).is
 
-pub begun_here : (reader : Masking) (table : List Row) (bytes : List ℕ) (inherited : List Pixels) (width height : ℕ) (parts : Parts) (scene : Scene) → IsHeld reader → table ≡ reader.table → bytes ≡ reader.kept.bytes → inherited ≡ reader.inherited →
-    width ≡ reader.width → height ≡ reader.height → Stands (chunk table bytes reader.ended) chunk_start parts →
-    ((source : Chunk) → Shows (drawn (record { chunk = source; inherited = inherited; width = width; height = height }) []) scene) → IsBegun (task_of reader) parts scene
-begun_here reader table bytes inherited width height parts scene held same_table same_bytes same_inherited same_width same_height stands shows = record {
-  stands = subst (λ (t : List Row). Stands (chunk t reader.kept.bytes reader.ended) chunk_start parts) same_table
-      (subst (λ (b : List ℕ). Stands (chunk table b reader.ended) chunk_start parts) same_bytes stands);
-  shows = subst (λ (l : List Pixels). Shows (drawn (record { chunk = chunk reader.table reader.kept.bytes reader.ended; inherited = l; width = reader.width; height = reader.height }) []) scene) same_inherited
-      (subst (λ (w : ℕ). Shows (drawn (record { chunk = chunk reader.table reader.kept.bytes reader.ended; inherited = inherited; width = w; height = reader.height }) []) scene) same_width
-      (subst (λ (h : ℕ). Shows (drawn (record { chunk = chunk reader.table reader.kept.bytes reader.ended; inherited = inherited; width = width; height = h }) []) scene) same_height
-      (shows (chunk reader.table reader.kept.bytes reader.ended))));
-  table = held.rows;
-}
+  new_follows : (later : Chunk) → Becomes (chunk rows [] false) later → Stands (chunk rows [] false) chunk_start machine.coder →
+      Follows (with_chunk no_bytes later) [] chunk_start (from_number (with_chunk no_bytes later) [] [] field.Kind chunk_start)
+  unfolding behind
+  new_follows later becomes stands =
+      let sound : IsSound later chunk_start = sound_becomes (chunk rows [] false) later chunk_start becomes stands.sound in
+      record {
+        same = sym (any_count (with_chunk no_bytes later) (suc (most_records later.payload)) sound.table (omega arith));
+        less = omega arith;
+      }
 
-pub decoded_all : (reader : Masking) (told : Jb2Step) (records made : ℕ) (picture : Pixels) (parts : Parts) (scene : Scene) → DrawsAll (task_of reader) told records parts scene → made ≡ parts.count → picture ≡ scene.mask →
-    IsDecoded reader told records made picture
-decoded_all reader told records made picture parts scene all count mask = record {
-  same = all.same;
-  some = all.some;
-  entries = all.entries;
-  decided = count ∙ all.decisions;
-  drawn = mask ∙ all.picture;
-}
+  pub new_stays : Stands (chunk rows [] false) chunk_start machine.coder → machine.picture ≡ None → machine.units ≡ 0 →
+      Stays no_bytes (λ later before text at. from_number later before text field.Kind at) machine
+  new_stays stands none units = record {
+    before = [];
+    text = [];
+    at = chunk_start;
+    sound = stands.sound;
+    goes = λ later becomes. new_follows later becomes stands;
+    stands_there = stands;
+    keeps = keeps no_bytes refl refl;
+    draws = subst (λ (p : Option Picture). Draws no_bytes [] p) (sym none) (blank_first no_bytes);
+    count = units;
+  }
+
+  pub new_fed : (told : Jb2Step) → Stands (chunk rows [] false) chunk_start machine.coder → machine.coder.zp.table ≡ rows →
+      machine.coder.unread.ended ≡ false → machine.picture ≡ None → machine.units ≡ 0 →
+      ((input : Input) → Stays input (λ later before text at. from_number later before text field.Kind at) machine → Holds input first machine) →
+      Fed [] (state_of (kept_at (Some first) told machine))
+  unfolding Fed
+  new_fed told stands table ended none units asks =
+      let same : machine.library ≡ library_of no_bytes [] = (keeps no_bytes refl refl).is in
+      subst (λ (r : List Row). Holds
+      (record { chunk = chunk r [] machine.coder.unread.ended; inherited = machine.library.inherited; purpose = machine.library.purpose }) first machine)
+      (sym table)
+      (subst (λ (e : Bool). Holds (record { chunk = chunk rows [] e; inherited = machine.library.inherited; purpose = machine.library.purpose }) first
+      machine) (sym ended)
+      (subst (λ (l : Library). Holds (record { chunk = chunk rows [] false; inherited = l.inherited; purpose = l.purpose }) first machine) (sym same)
+      (asks no_bytes (new_stays stands none units))))
+
+  pub new_held : (told : Jb2Step) → Stands (chunk rows [] false) chunk_start machine.coder → machine.coder.zp.table ≡ rows →
+      machine.coder.unread.ended ≡ false → machine.picture ≡ None → machine.units ≡ 0 →
+      ((input : Input) → Stays input (λ later before text at. from_number later before text field.Kind at) machine → Holds input first machine) →
+      Fits first machine.library machine.picture → IsHeld (kept_at (Some first) told machine)
+  new_held told stands table ended none units asks fits = record {
+    table = subst IsTable (sym table) stands.sound.table;
+    fits = fits;
+    payload = [];
+    fed = new_fed told stands table ended none units asks;
+  }
+
+-- ---- what is answered, of what is kept
+
+module _ (at : Option Step) (told : Jb2Step) (machine : Machine) where
+  abbrev there : ReaderState
+  there = state_of (kept_at at told machine)
+
+  pub fed_at_most : (payload : List ℕ) → Fed payload there →
+      (machine.units ≤ ticked (length (records_of (input_of there payload)).records) 0) ×
+      (machine.coder.count ≤ ticked (records_of (input_of there payload)).decisions 0)
+  unfolding Fed
+  fed_at_most payload fed = (at_units (input_of there payload) at told machine fed, at_decisions (input_of there payload) at told machine fed)
+
+  pub fed_stands : (payload : List ℕ) → at ≡ None → Fed payload there → Settles (input_of there payload) told machine
+  unfolding Fed
+  fed_stands payload is fed = subst (λ (a : Option Step). IsAt (input_of there payload) a told machine) is fed
+
+-- ---- a run of the machine
+
+module _ (at : Step) (told : Jb2Step) (old new : Machine) (halts : Halt) (later : IsLater old new) (runs : (input : Input) → Holds input at old →
+    HaltsAt input halts new) where
+  run_fed : (payload : List ℕ) → Fed payload (state_of (kept_at (Some at) told old)) → Fed payload (state_of (kept_at (step_of halts) (answer_of halts) new))
+  unfolding Fed
+  run_fed payload fed =
+      let (count, units, room, same_table, same_end, inherited, purpose) = later in
+      subst (λ (r : List Row). IsAt
+      (record { chunk = chunk r payload new.coder.unread.ended; inherited = new.library.inherited; purpose = new.library.purpose }) (step_of halts)
+      (answer_of halts) new) (sym same_table)
+      (subst (λ (e : Bool). IsAt (record { chunk = chunk old.coder.zp.table payload e; inherited = new.library.inherited; purpose = new.library.purpose })
+      (step_of halts) (answer_of halts) new) (sym same_end)
+      (subst (λ (l : List Pixels). IsAt
+      (record { chunk = chunk old.coder.zp.table payload old.coder.unread.ended; inherited = l; purpose = new.library.purpose }) (step_of halts)
+      (answer_of halts) new) (sym inherited)
+      (subst (λ (p : Purpose). IsAt (record { chunk = chunk old.coder.zp.table payload old.coder.unread.ended; inherited = old.library.inherited; purpose =
+      p }) (step_of halts) (answer_of halts) new) (sym purpose)
+      (halts_at (input_at old.coder.zp.table payload old.coder.unread.ended old) halts new
+      (runs (input_at old.coder.zp.table payload old.coder.unread.ended old) fed)))))
+
+  run_halts : (payload : List ℕ) → Fed payload (state_of (kept_at (Some at) told old)) →
+      HaltsAt (input_of (state_of (kept_at (Some at) told old)) payload) halts new
+  unfolding Fed
+  run_halts payload fed = runs (input_of (state_of (kept_at (Some at) told old)) payload) fed
+
+  run_at_most : (payload : List ℕ) → Fed payload (state_of (kept_at (Some at) told old)) →
+      (new.units ≤ ticked (length (records_of (input_of (state_of (kept_at (Some at) told old)) payload)).records) 0)
+      × (new.coder.count ≤ ticked (records_of (input_of (state_of (kept_at (Some at) told old)) payload)).decisions 0)
+  run_at_most payload fed =
+      let input : Input = input_of (state_of (kept_at (Some at) told old)) payload in
+      let there : IsAt input (step_of halts) (answer_of halts) new = halts_at input halts new (run_halts payload fed) in
+      (at_units input (step_of halts) (answer_of halts) new there, at_decisions input (step_of halts) (answer_of halts) new there)
+
+  run_held : HaltFits halts new.library new.picture → IsHeld (kept_at (Some at) told old) → IsHeld (kept_at (step_of halts) (answer_of halts) new)
+  run_held fits held =
+      let (count, units, room, same_table, same_end, inherited, purpose) = later in
+      record {
+        table = subst IsTable (sym same_table) held.table;
+        fits = halts_fit halts new fits;
+        payload = held.payload;
+        fed = run_fed held.payload held.fed;
+      }
+
+module _ (found next : Option Step) (at : Step) (told given : Jb2Step) (old new : Machine) (halts : Halt) (some : found ≡ Some at)
+    (given_is : given ≡ answer_of halts) (next_is : next ≡ step_of halts)
+    (later : IsLater old new) (runs : (input : Input) → Holds input at old → HaltsAt input halts new) where
+  abbrev was : ReaderState
+  was = state_of (kept_at found told old)
+
+  ran_at : (payload : List ℕ) → Fed payload was → HaltsAt (input_of was payload) halts new
+  ran_at payload fed = run_halts at told old new halts later runs payload (subst (λ (f : Option Step). Fed payload (state_of (kept_at f told old))) some fed)
+
+  pub ran_answer : (payload : List ℕ) → Fed payload was → given ≢ answer.OutOfMemory → given ≡ (records_of (input_of was payload)).answer
+  ran_answer payload fed memory = given_is ∙ halts_answer (input_of was payload) halts new (ran_at payload fed) (λ e. memory (given_is ∙ e))
+
+  pub ran_units : (payload : List ℕ) → Fed payload was → given ≢ answer.OutOfMemory →
+      TicksExactly (length (records_of (input_of was payload)).records) 0 new.units
+  ran_units payload fed memory = halts_units (input_of was payload) halts new (ran_at payload fed) (λ e. memory (given_is ∙ e))
+
+  pub ran_decisions : (payload : List ℕ) → Fed payload was → given ≢ answer.OutOfMemory →
+      TicksExactly (records_of (input_of was payload)).decisions 0 new.coder.count
+  ran_decisions payload fed memory = halts_decisions (input_of was payload) halts new (ran_at payload fed) (λ e. memory (given_is ∙ e))
+
+  pub ran_at_most : (payload : List ℕ) → Fed payload was →
+      (new.units ≤ ticked (length (records_of (input_of was payload)).records) 0) × (new.coder.count ≤ ticked (records_of (input_of was payload)).decisions 0)
+  ran_at_most payload fed = run_at_most at told old new halts later runs payload
+      (subst (λ (f : Option Step). Fed payload (state_of (kept_at f told old))) some fed)
+
+  pub ran_fed : (payload : List ℕ) → Fed payload was → Fed payload (state_of (kept_at next given new))
+  ran_fed payload fed =
+      subst (λ (n : Option Step). Fed payload (state_of (kept_at n given new))) (sym next_is)
+      (subst (λ (g : Jb2Step). Fed payload (state_of (kept_at (step_of halts) g new))) (sym given_is)
+      (run_fed at told old new halts later runs payload (subst (λ (f : Option Step). Fed payload (state_of (kept_at f told old))) some fed)))
+
+  pub ran_held : HaltFits halts new.library new.picture → IsHeld (kept_at found told old) → IsHeld (kept_at next given new)
+  ran_held fits held =
+      subst (λ (n : Option Step). IsHeld (kept_at n given new)) (sym next_is)
+      (subst (λ (g : Jb2Step). IsHeld (kept_at (step_of halts) g new)) (sym given_is)
+      (run_held at told old new halts later runs fits (subst (λ (f : Option Step). IsHeld (kept_at f told old)) some held)))
+
+-- ---- once the records ended
+
+ended_here : (at : Option Step) (told : Jb2Step) → answered_by at told ≡ Some answer.Finished → (at ≡ None) × (told ≡ answer.Finished)
+ended_here (Some at) told is = absurd (cc)
+ended_here None told is = (refl, cc)
+
+module _ (at : Option Step) (told : Jb2Step) (machine : Machine) (ended : answered_by at told ≡ Some answer.Finished) where
+  pub finished_keeps : (payload : List ℕ) → Fed payload (state_of (kept_at at told machine)) →
+      Keeps (input_of (state_of (kept_at at told machine)) payload) (records_of (input_of (state_of (kept_at at told machine)) payload)).records
+      machine.library
+  finished_keeps payload fed = (fed_stands at told machine payload (ended_here at told ended).0 fed).keeps (ended_here at told ended).1
+
+  pub finished_draws : (payload : List ℕ) → Fed payload (state_of (kept_at at told machine)) →
+      Draws (input_of (state_of (kept_at at told machine)) payload) (records_of (input_of (state_of (kept_at at told machine)) payload)).records
+      machine.picture
+  finished_draws payload fed = (fed_stands at told machine payload (ended_here at told ended).0 fed).draws (ended_here at told ended).1
+
+drawn_for : (input : Input) (before : List Record) (shapes : Library) (purpose : Purpose) (picture : Option Picture) → input.purpose ≡ purpose →
+    shapes.purpose ≡ purpose →
+    IsPictured shapes picture → shapes.started ≡ true → Draws input before picture → IsDrawnFor purpose picture
+drawn_for input before shapes Dictionary picture is same pictured started draws = tt
+drawn_for input before shapes (Mask width height) None is same pictured started draws = let none = pictured started in absurd (cc)
+drawn_for input before shapes (Mask width height) (Some picture) is same pictured started draws = let size = draws.purpose in (cc, cc)
+
+-- a mask has its picture
+pub finished_drawn : (at : Option Step) (told : Jb2Step) (machine : Machine) → answered_by at told ≡ Some answer.Finished → IsHeld (kept_at at told machine) →
+    IsDrawnFor machine.library.purpose machine.picture
+finished_drawn (Some at) told machine ended held = absurd (cc)
+finished_drawn None told machine ended held =
+    let fits = held.fits.1 cc in
+    drawn_for (input_of (state_of (kept_at None told machine)) held.payload)
+    (records_of (input_of (state_of (kept_at None told machine)) held.payload)).records machine.library
+    machine.library.purpose machine.picture refl refl fits.0 fits.1 (finished_draws None told machine ended held.payload held.fed)
+
+drawn_width : (purpose : Purpose) (found : Option Picture) (picture : Picture) (width height : ℕ) → found ≡ Some picture → IsDrawnFor purpose found →
+    purpose ≡ Mask width height →
+    (picture.mask.width ≡ width) × (picture.mask.height ≡ height)
+drawn_width purpose found picture width height some drawn is =
+    let there : IsDrawnFor (Mask width height) (Some picture) =
+    subst (λ (f : Option Picture). IsDrawnFor (Mask width height) f) some (subst (λ (p : Purpose). IsDrawnFor p found) is drawn) in
+    there
+
+pub drawn_mask : (input : Input) (found : Option Picture) (picture : Picture) (width height : ℕ) → found ≡ Some picture → IsDrawnFor input.purpose found →
+    input.purpose ≡ Mask width height →
+    Draws input (records_of input).records found → picture.mask ≡ mask_drawn width height input
+drawn_mask input found picture width height some drawn is draws =
+    let shows : Shows input (records_of input).records picture = subst (λ (f : Option Picture). Draws input (records_of input).records f) some draws in
+    let size : (picture.mask.width ≡ width) × (picture.mask.height ≡ height) = drawn_width input.purpose found picture width height some drawn is in
+    shows.mask ∙ ap (λ (w : ℕ). mask_of w picture.mask.height (placed_shapes input.inherited (records_of input).records)) size.0
+    ∙ ap (λ (h : ℕ). mask_of width h (placed_shapes input.inherited (records_of input).records)) size.1

@@ -1,18 +1,22 @@
 -- The lemmas of this crate, lowest first; above each stand the functions and laws whose clauses it ends in, or the files that cite it.
--- Finishing
-mod Bounding
--- Numbering; src/unread.rt
+-- Unread::decide, Numbering, Sketching
 mod Offering
 -- Unread::number
 mod Numbering
--- src/coder.rt
+-- Unread::shape
+mod Sketching
+-- Coder::push, Coder::end
+mod Arriving
+-- Coder::number
 mod Calling
+-- Coder::flag, Coder::row
+mod Deciding
+-- Coder::direct, Coder::refined
+mod Shaping
+-- Finishing
+mod Bounding
 -- Continuing
 mod Following
--- src/records.rt, src/shapes.rt
-mod Joining
--- read_steps, read_relative, read_place
-mod Moving
 -- Continuing, Ending, Leaving
 mod Keeping
 -- Growing, Leaving
@@ -23,23 +27,30 @@ mod Leaving
 mod Ending
 -- laws more_bytes_go_on
 mod Growing
--- src/reader.rt
-mod Feeding
--- Dictionary::shape, Scene::shape_at
-mod Libraries
--- read_records
-mod Looping
--- src/records.rt
-mod Recording
--- src/records.rt
-mod Exits
 -- Finishing
 mod Settling
 -- laws records_end
 mod Finishing
--- Scene::place, Scene::place_plain, next_spot
+-- Library::take, Library::into_dictionary
+mod Libraries
+-- Picture::place, Picture::place_plain, next_spot
 mod Showing
--- read_own, read_refinement
-mod Sizing
--- read_comment
-mod Texting
+-- the readers; Library::start, Library::take
+mod Adding
+-- Machine::kind
+mod Resting
+-- src/numbers.rt
+mod Waiting
+-- the steps of a machine
+mod Lasting
+mod Suspending
+mod Stepping
+mod Entering
+-- src/marks.rt
+mod Marking
+-- src/shapes.rt
+mod Making
+-- Feeding
+mod Lengthening
+-- the readers
+mod Feeding

@@ -10,8 +10,11 @@ pub mod Mask
 pub mod Reader
 pub mod Growth
 pub mod Sides
+pub mod Library
+pub mod Picture
 pub mod Taking
 pub mod Telling
-pub mod Drawing
-pub mod Holding
+pub mod Steps
+pub mod Machine
+pub mod ReaderState
 pub mod Worked

@@ -13,18 +13,31 @@
 
 mod checks;
 mod coder;
+mod dict_reader;
 mod dictionary;
+mod fields;
 mod frames;
+mod kept;
 pub mod laws;
+mod library;
+mod limits;
+mod machine;
 mod marks;
+mod numbers;
+mod picture;
+mod purpose;
 mod reader;
 mod records;
-mod scene;
+mod results;
+mod shape_readers;
 mod shapes;
+mod starts;
+mod steps;
 mod stops;
 mod types;
 mod unread;
 
+pub use dict_reader::DictReader;
 pub use dictionary::Dictionary;
 pub use reader::{Jb2Step, MaskReader};
-pub use types::RecordType;
+pub use results::{FileResult, SharedDictionary};

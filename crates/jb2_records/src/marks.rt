@@ -1,53 +1,132 @@
-//! Where the marks of records are placed (`specs/Reading.antt`).
-ghost use Rattle.std.specs.Prelude.{◌≡◌, List, OnOk};
-ghost use Rattle.zp_decoder.specs.Chunk.{Chunk};
-ghost use Rattle.jb2_records.specs.Records.{Record, Relative};
-ghost use Rattle.jb2_records.specs.Coding.{Coder as Place};
-ghost use Rattle.jb2_records.specs.Reading.{read_steps, read_relative, read_place};
-ghost use Rattle.jb2_records.specs.Telling.{Stands, Told};
-ghost use Rattle.jb2_records.specs.Sides.{IsShape};
-ghost use Rattle.jb2_records.specs.Drawing.{Task, input_for, drawn, relative_of, Shows, IsPlaceable};
+//! Steps that keep shapes and place them.
+ghost use Rattle.std.specs.Prelude.{◌≡◌, ◌<◌, ◌≤ℤ◌, pos, List, length};
+ghost use Rattle.std.specs.Arc.{arc_value};
+ghost use Rattle.bit_plane.specs.Ink.{unsigned};
+ghost use Rattle.jb2_records.specs.declared.steps.Step.TheVariants as step;
+ghost use Rattle.jb2_records.specs.declared.steps.Mark.TheVariants as mark;
+ghost use Rattle.jb2_records.specs.Coding.{Got, checked};
+ghost use Rattle.jb2_records.specs.Records.{Plain};
+ghost use Rattle.jb2_records.specs.Reading.{Input, place_fault};
+ghost use Rattle.jb2_records.specs.Library.{IsAddable};
+ghost use Rattle.jb2_records.specs.Machine.{IsPictured, HasPicture, Fits, ResultFits, Stays, Holds, Moves, IsLater, IsBelow};
 
-use crate::coder::Coder;
-use crate::frames::Steps;
-use crate::scene::Scene;
-use crate::shapes::{LEAST, MOST};
-use crate::stops::{Stop, check};
+use crate::frames::{Frame, Steps};
+use crate::machine::{Halt, Machine};
+use crate::steps::{Mark, Origin, Step};
 use bit_plane::Plane;
-use jb2_numbers::Root;
+use std::sync::Arc;
 
-/// How far right and up a mark stands.
-fn read_steps(coder: &mut Coder, is_new: bool) -> Result<Steps, Stop>
-    ensures { (source : Chunk) (at : Place) → Stands source at coder.old →
-        Told relative_of source (read_steps source is_new at) result coder.new }
-{
-    let (x, y) = if is_new {
-        (Root::NewRowX, Root::NewRowY)
-    } else {
-        (Root::SameRowX, Root::SameRowY)
-    };
-    let dx = coder.read_number(x, LEAST, MOST)?;
-    let dy = coder.read_number(y, LEAST, MOST)?;
-    Ok(Steps { is_new, dx, dy })
-}
+impl Machine {
+    /// Keeps a shape that isn't placed.
+    pub(crate) fn keep(&mut self, made: Origin, shape: Arc<Plane>) -> Result<Step, Halt>
+        requires { Fits (step.Keep made shape) self.old.library self.old.picture }
+        ensures fits { ResultFits result self.new.library self.new.picture }
+        ensures below { IsBelow 1 result }
+        ensures later { IsLater self.old self.new }
+        ensures moves { (input : Input) → Holds input (step.Keep made shape) self.old → Moves input result self.new }
+    {
+        match self.library.keep(&shape) {
+            Ok(()) => Ok(self.next_record()),
+            Err(_) => Err(Halt::OutOfMemory(Step::Keep(made, shape))),
+        }
+    }
 
-/// How a mark is placed.
-fn read_relative(coder: &mut Coder) -> Result<Steps, Stop>
-    ensures { (source : Chunk) (at : Place) → Stands source at coder.old →
-        Told relative_of source (read_relative source at) result coder.new }
-{
-    let is_new = coder.read_row()?;
-    read_steps(coder, is_new)
-}
+    /// Places a mark whose place was read.
+    pub(crate) fn place(&mut self, mark: Mark, steps: Steps) -> Result<Step, Halt>
+        requires { Fits (step.Place mark steps) self.old.library self.old.picture }
+        ensures fits { ResultFits result self.new.library self.new.picture }
+        ensures below { IsBelow 11 result }
+        ensures later { IsLater self.old self.new }
+        ensures moves { (input : Input) → Holds input (step.Place mark steps) self.old → Moves input result self.new }
+    {
+        match mark {
+            Mark::Both(made, shape) => self.place_both(made, shape, steps),
+            Mark::Image(made, shape) => self.place_image(made, shape, steps),
+            Mark::Copy(number) => self.place_copy(number, steps),
+        }
+    }
 
-/// The place of a mark with this shape.
-pub(crate) fn read_place(coder: &mut Coder, scene: &Scene, shape: &Plane) -> Result<Steps, Stop>
-    requires { IsShape shape.now }
-    ensures told { (task : Task) (before : List Record) (make : Relative → Record) (at : Place) → Stands task.chunk at coder.old → Shows (drawn task before) scene.now →
-        Told (λ steps. make (relative_of steps)) task.chunk (read_place (input_for task) before shape.now make at) result coder.new }
-    ensures fits { OnOk result (IsPlaceable shape.now scene.now) }
-{
-    let steps = read_relative(coder)?;
-    check(scene.place_fault(shape))?;
-    Ok(steps)
+    /// Keeps a shape and places it.
+    fn place_both(&mut self, made: Origin, shape: Arc<Plane>, steps: Steps) -> Result<Step, Halt>
+        requires { Fits (step.Place (mark.Both made shape) steps) self.old.library self.old.picture }
+        ensures fits { ResultFits result self.new.library self.new.picture }
+        ensures below { IsBelow 11 result }
+        ensures later { IsLater self.old self.new }
+        ensures moves { (input : Input) → Holds input (step.Place (mark.Both made shape) steps) self.old → Moves input result self.new }
+    {
+        let Some(picture) = &mut self.picture else {
+            unreachable!()
+        };
+        if let Some(fault) = picture.place_fault(&shape) {
+            return Err(Halt::Refused(fault));
+        }
+        if self.library.keep(&shape).is_err() {
+            return Err(Halt::OutOfMemory(Step::Place(Mark::Both(made, shape), steps)));
+        }
+        picture.place(&shape, Frame::whole(&shape), steps);
+        Ok(self.next_record())
+    }
+
+    /// Places a shape that isn't kept.
+    fn place_image(&mut self, made: Origin, shape: Arc<Plane>, steps: Steps) -> Result<Step, Halt>
+        requires { Fits (step.Place (mark.Image made shape) steps) self.old.library self.old.picture }
+        ensures fits { ResultFits result self.new.library self.new.picture }
+        ensures below { IsBelow 11 result }
+        ensures later { IsLater self.old self.new }
+        ensures moves { (input : Input) → Holds input (step.Place (mark.Image made shape) steps) self.old → Moves input result self.new }
+    {
+        let Some(picture) = &mut self.picture else {
+            unreachable!()
+        };
+        if let Some(fault) = picture.place_fault(&shape) {
+            return Err(Halt::Refused(fault));
+        }
+        self.library.add(&shape);
+        picture.place(&shape, Frame::whole(&shape), steps);
+        Ok(self.next_record())
+    }
+
+    /// Places a shape of the library, by its ink.
+    fn place_copy(&mut self, number: u32, steps: Steps) -> Result<Step, Halt>
+        requires { Fits (step.Place (mark.Copy number) steps) self.old.library self.old.picture }
+        ensures fits { ResultFits result self.new.library self.new.picture }
+        ensures below { IsBelow 11 result }
+        ensures later { IsLater self.old self.new }
+        ensures moves { (input : Input) → Holds input (step.Place (mark.Copy number) steps) self.old → Moves input result self.new }
+    {
+        let Some(picture) = &mut self.picture else {
+            unreachable!()
+        };
+        let shape = self.library.shape(number);
+        if let Some(fault) = picture.place_fault(shape.plane()) {
+            return Err(Halt::Refused(fault));
+        }
+        picture.place(shape.plane(), shape.frame(), steps);
+        Ok(self.next_record())
+    }
+
+    /// Places a shape by its left side and its top.
+    pub(crate) fn plain(&mut self, shape: Arc<Plane>, left: i32, top: i32) -> Result<Step, Halt>
+        requires pictured { IsPictured self.old.library self.old.picture }
+        requires picture { HasPicture self.old.picture }
+        requires room { IsAddable (arc_value shape) self.old.library }
+        requires some_left { pos 1 ≤ℤ left }
+        requires some_top { pos 1 ≤ℤ top }
+        ensures fits { ResultFits result self.new.library self.new.picture }
+        ensures below { IsBelow 13 result }
+        ensures later { IsLater self.old self.new }
+        ensures moves { (input : Input) →
+            Stays input (λ later before text at. checked (place_fault later before (arc_value shape)) at (λ at. Got (Plain (arc_value shape) (unsigned left) (unsigned top)) at)) self.old →
+            Moves input result self.new }
+    {
+        let Some(picture) = &mut self.picture else {
+            unreachable!()
+        };
+        if let Some(fault) = picture.place_fault(&shape) {
+            return Err(Halt::Refused(fault));
+        }
+        self.library.add(&shape);
+        picture.place_plain(&shape, left, top);
+        Ok(self.next_record())
+    }
 }

@@ -1,27 +1,28 @@
 //! The bytes of a chunk that its decoder hasn't taken yet. A decoder takes few bytes at a time, so whatever is decided may
 //! want more of them: each call here offers them, and asks again, until it is answered or nothing is left.
-ghost use Rattle.std.specs.Prelude.{◌≡◌, ◌≢◌, ◌-◌, ◌<◌, ◌≤◌, ℕ, ℤ, Bool, true, false, List, [], drop, length, Option, None, IfOk};
+ghost use Rattle.std.specs.Prelude.{◌≡◌, ◌≢◌, ◌-◌, ◌<◌, ◌≤◌, ℕ, Bool, true, false, List, [], ◌++◌, drop, length, Option, OnOk, OnErr};
 ghost use Rattle.djvu_base.specs.Meter.{TicksExactly};
 ghost use Rattle.zp_table.specs.Rows.{IsTable};
 ghost use Rattle.zp_decoder.specs.Decision.{Interval};
-ghost use Rattle.zp_decoder.specs.Decoder.{Fed, bytes_wanted, is_all};
+ghost use Rattle.zp_decoder.specs.Decoder.{Fed, bytes_wanted, is_all, room_left};
+ghost use Rattle.zp_decoder.specs.Chunk.{Chunk};
+ghost use Rattle.zp_decoder.specs.States.{AreBelow};
+ghost use Rattle.bit_plane.specs.Pixels.{Pixels};
 ghost use Rattle.jb2_numbers.specs.Kept.{states_of};
 ghost use Rattle.jb2_numbers.specs.Contexts.{Name};
-ghost use Rattle.zp_decoder.specs.Chunk.{Chunk};
 ghost use Rattle.jb2_numbers.specs.Number.{Wanted};
-ghost use Rattle.jb2_numbers.specs.Reader.{AreBounds};
-ghost use Rattle.zp_decoder.specs.States.{AreBelow};
+ghost use Rattle.jb2_numbers.specs.Reader.{AreBounds, IsUnderway, StaysWithin};
 ghost use Rattle.jb2_shapes.specs.Numbers as cells;
-ghost use Rattle.jb2_shapes.specs.Shape.{progress, direct_context, direct_reading, IsWhole};
-ghost use Rattle.jb2_shapes.specs.Refined.{refined_reading};
-ghost use Rattle.jb2_records.specs.Taking.{Feeds, Takes, TakesMore, Decides, Pends, Counts, HasDrawn};
+ghost use Rattle.jb2_shapes.specs.Shape.{Progress, reading_of, IsWhole};
+ghost use Rattle.jb2_records.specs.Taking.{room_of, Feeds, Takes, TakesMore, Decides, Advances, Pends, Counts, context_of, IsOf, DrawsOn, HasDrawn};
 
-use djvu_base::Meter;
-use jb2_numbers::{NumberContexts, NumberReader, NumberStep, laws as numbers};
-use jb2_shapes::{DirectReader, RefineReader, ShapeContexts, ShapeStep, laws as shapes};
+use crate::shape_readers::ShapeReader;
+use djvu_base::CountMeter;
+use jb2_numbers::{NumberContexts, NumberReader, NumberStep};
+use jb2_shapes::laws::cuts_change_nothing;
+use jb2_shapes::{ShapeContexts, ShapeStep};
 use std::alloc::{AllocError, Global};
 use std::marker::Model;
-use zp_decoder::laws::taken_bytes_decide;
 use zp_decoder::{Decision, ZpDecoder};
 use zp_table::Table;
 
@@ -46,17 +47,40 @@ impl Model for Unread {
 }
 
 impl Unread {
-    /// These bytes of a chunk, and maybe all.
-    pub(crate) fn new(alloc: Global, bytes: &[u8], is_whole: bool) -> Result<Unread, AllocError>
-        ensures { IfOk result (λ unread. unread ≡ record { left = bytes.now; ended = is_whole }) }
+    /// No byte of a chunk arrived.
+    pub(crate) fn new(alloc: Global) -> Unread
+        ensures { result ≡ record { left = []; ended = false } }
     {
-        let mut kept = Vec::new(alloc);
-        kept.extend_from_slice(bytes)?;
-        Ok(Unread {
-            bytes: kept,
+        Unread {
+            bytes: Vec::new(alloc),
             taken: 0,
-            is_whole,
-        })
+            is_whole: false,
+        }
+    }
+
+    /// Keeps further bytes. Those that were taken are let go once they are as many as the others.
+    pub(crate) fn push(&mut self, piece: &[u8]) -> Result<(), AllocError>
+        ensures ok { OnOk result (self.new ≡ record { left = self.old.left ++ piece.now; ended = self.old.ended }) }
+        ensures err { OnErr result (self.new ≡ self.old) }
+    {
+        if self.taken >= self.bytes.len() - self.taken {
+            drop_front(&mut self.bytes, self.taken);
+            self.taken = 0;
+        }
+        self.bytes.extend_from_slice(piece)
+    }
+
+    /// No byte follows, which the decoder is told once it took all.
+    pub(crate) fn end(&mut self, zp: &mut ZpDecoder)
+        requires { Feeds self.old zp.old }
+        ensures left { self.new ≡ record { left = self.old.left; ended = true } }
+        ensures fed { (payload : List ℕ) (place : Option Interval) → Fed payload place zp.old → Fed payload place zp.new }
+        ensures again { self.old.ended ≡ true → zp.new ≡ zp.old }
+        ensures feeds { Feeds self.new zp.new }
+        ensures table { zp.new.table ≡ zp.old.table }
+    {
+        self.is_whole = true;
+        finish(zp, is_all(behind(self.bytes.as_slice(), self.taken), true));
     }
 
     /// Offers what is left to the decoder, and tells it the end once nothing is: whether it took any.
@@ -64,9 +88,12 @@ impl Unread {
         requires { Feeds self.old zp.old }
         ensures takes { TakesMore self.old self.new zp.old zp.new }
         ensures fewer { result ≡ true → length self.new.left < length self.old.left }
-        ensures all { result ≡ false → (taken : List ℕ) (place : Option Interval) → Fed taken place zp.old → 0 < bytes_wanted taken place → self.old.left ≡ [] }
+        ensures all { result ≡ false → (taken : List ℕ) (place : Option Interval) → Fed taken place zp.old →
+            0 < bytes_wanted taken place → self.old.left ≡ [] }
+        ensures room { room_of self.new zp.new ≡ room_of self.old zp.old }
         ensures feeds { Feeds self.new zp.new }
         ensures table { zp.new.table ≡ zp.old.table }
+        ensures ended { self.new.ended ≡ self.old.ended }
     {
         zp.was_fed();
         let left = behind(self.bytes.as_slice(), self.taken);
@@ -84,21 +111,23 @@ impl Unread {
     }
 
     /// Decides a bit in a context. A bit ticks the meter once.
-    pub(crate) fn decide<M: Meter>(
+    pub(crate) fn decide(
         &mut self,
         zp: &mut ZpDecoder,
         state: &mut u8,
-        meter: &mut M,
+        meter: &mut CountMeter,
     ) -> Decision
         requires feeds { Feeds self.old zp.old }
         requires below { state.old < length zp.old.table }
         ensures decides { (source : Chunk) (place : Option Interval) → Takes source place self.old zp.old →
-            Decides source place state.old (M.count meter.old) result state.new self.new zp.new (M.count meter.new) }
+            Decides source place state.old meter.old result state.new self.new zp.new meter.new }
+        ensures more { meter.old ≤ meter.new }
+        ensures room { room_of self.new zp.new ≤ room_of self.old zp.old }
         ensures feeds { Feeds self.new zp.new }
         ensures below { state.new < length zp.new.table }
         ensures table { zp.new.table ≡ zp.old.table }
+        ensures ended { self.new.ended ≡ self.old.ended }
     {
-        taken_bytes_decide();
         'bytes: loop {
             let decision = zp.decode(state, meter);
             zp.was_fed();
@@ -112,27 +141,32 @@ impl Unread {
     }
 
     /// Reads a number on. Each coded decision ticks the meter once.
-    pub(crate) fn number<M: Meter>(
+    pub(crate) fn number(
         &mut self,
         reader: &mut NumberReader,
         contexts: &mut NumberContexts,
         zp: &mut ZpDecoder,
-        meter: &mut M,
+        meter: &mut CountMeter,
     ) -> NumberStep
         requires feeds { Feeds self.old zp.old }
         requires below { AreBelow (length zp.old.table) (states_of contexts.old) }
-        ensures counts { (wanted : Wanted) (source : Chunk) (before : ℕ) (states : Name → ℕ) (place : Option Interval) → result ≢ NumberStep.OutOfMemory → AreBounds wanted.low wanted.high →
-            Pends wanted source before states place reader.old contexts.old self.old zp.old (M.count meter.old) →
-            Counts wanted source before states place result contexts.new self.new zp.new (M.count meter.new) }
+        ensures counts { (wanted : Wanted) (source : Chunk) (before : ℕ) (states : Name → ℕ) (place : Option Interval) → result ≢ NumberStep.OutOfMemory →
+            AreBounds wanted.low wanted.high → Pends wanted source before states place reader.old contexts.old self.old zp.old meter.old →
+            Counts wanted source before states place result contexts.new self.new zp.new meter.new }
+        ensures pends { (wanted : Wanted) (source : Chunk) (before : ℕ) (states : Name → ℕ) (place : Option Interval) →
+            AreBounds wanted.low wanted.high → Pends wanted source before states place reader.old contexts.old self.old zp.old meter.old →
+            Pends wanted source before states place reader.new contexts.new self.new zp.new meter.new }
+        ensures within { (wanted : Wanted) → AreBounds wanted.low wanted.high → IsUnderway wanted reader.old → StaysWithin wanted result reader.new }
+        ensures more { (wanted : Wanted) → AreBounds wanted.low wanted.high → IsUnderway wanted reader.old → meter.old ≤ meter.new }
+        ensures room { (wanted : Wanted) → AreBounds wanted.low wanted.high → IsUnderway wanted reader.old →
+            room_of self.new zp.new ≤ room_of self.old zp.old }
         ensures feeds { Feeds self.new zp.new }
         ensures below { AreBelow (length zp.new.table) (states_of contexts.new) }
         ensures table { zp.new.table ≡ zp.old.table }
+        ensures ended { self.new.ended ≡ self.old.ended }
     {
-        taken_bytes_decide();
-        numbers::cuts_change_nothing();
         'bytes: loop {
-            let step = reader.advance(contexts, zp, meter);
-            zp.was_fed();
+            let step = advance(reader, contexts, zp, meter);
             if !is_unknown(step) {
                 return step;
             }
@@ -143,31 +177,39 @@ impl Unread {
     }
 
     /// Reads a shape on. Each pixel ticks the meter once.
-    pub(crate) fn direct<M: Meter>(
+    pub(crate) fn shape<R: ShapeReader>(
         &mut self,
-        reader: &mut DirectReader,
+        reader: &mut R,
         contexts: &mut ShapeContexts,
         zp: &mut ZpDecoder,
-        meter: &mut M,
+        meter: &mut CountMeter,
     ) -> ShapeStep
         requires feeds { Feeds self.old zp.old }
         requires below { AreBelow (length zp.old.table) (cells.states_of contexts.old) }
-        ensures draws { (source : Chunk) (place : Option Interval) → Takes source place self.old zp.old →
-            HasDrawn (direct_reading source.table source.payload source.ended (progress reader.old (cells.states_of contexts.old) place)) source result reader.new (cells.states_of contexts.new) self.new zp.new }
-        ensures done { result ≡ ShapeStep.Done → IsWhole reader.new }
-        ensures width { reader.new.shape.width ≡ reader.old.shape.width }
-        ensures height { reader.new.shape.height ≡ reader.old.shape.height }
-        ensures grows { reader.old.number ≤ reader.new.number }
-        ensures ticks { TicksExactly (reader.new.number - reader.old.number) (M.count meter.old) (M.count meter.new) }
+        ensures drawn { (source : Chunk) (of : Option Pixels) (width height : ℕ) (start : Progress) →
+            IsOf of width height (R.matched reader.old) (R.sketch reader.old) →
+            DrawsOn (context_of of width height) source start (R.sketch reader.old) (cells.states_of contexts.old) self.old zp.old →
+            HasDrawn (reading_of (context_of of width height) source.table source.payload source.ended start)
+            source result (R.sketch reader.new) (cells.states_of contexts.new) self.new zp.new }
+        ensures waits { (source : Chunk) (of : Option Pixels) (width height : ℕ) (start : Progress) → result ≡ ShapeStep.NeedBytes →
+            IsOf of width height (R.matched reader.old) (R.sketch reader.old) →
+            DrawsOn (context_of of width height) source start (R.sketch reader.old) (cells.states_of contexts.old) self.old zp.old →
+            DrawsOn (context_of of width height) source start (R.sketch reader.new) (cells.states_of contexts.new) self.new zp.new }
+        ensures done { result ≡ ShapeStep.Done → IsWhole (R.sketch reader.new) }
+        ensures matched { R.matched reader.new ≡ R.matched reader.old }
+        ensures width { (R.sketch reader.new).shape.width ≡ (R.sketch reader.old).shape.width }
+        ensures height { (R.sketch reader.new).shape.height ≡ (R.sketch reader.old).shape.height }
+        ensures grows { (R.sketch reader.old).number ≤ (R.sketch reader.new).number }
+        ensures ticks { TicksExactly ((R.sketch reader.new).number - (R.sketch reader.old).number) meter.old meter.new }
+        ensures room { room_of self.new zp.new ≤ room_of self.old zp.old }
         ensures feeds { Feeds self.new zp.new }
         ensures below { AreBelow (length zp.new.table) (cells.states_of contexts.new) }
         ensures table { zp.new.table ≡ zp.old.table }
+        ensures ended { self.new.ended ≡ self.old.ended }
     {
-        taken_bytes_decide();
-        shapes::cuts_change_nothing();
+        cuts_change_nothing();
         'bytes: loop {
-            let step = reader.advance(contexts, zp, meter);
-            zp.was_fed();
+            let step = reader.read_on(contexts, zp, meter);
             if !is_unfinished(step) {
                 return step;
             }
@@ -176,42 +218,37 @@ impl Unread {
             }
         }
     }
+}
 
-    /// Reads a refined shape on. Each pixel ticks the meter once.
-    pub(crate) fn refined<M: Meter>(
-        &mut self,
-        reader: &mut RefineReader,
-        contexts: &mut ShapeContexts,
-        zp: &mut ZpDecoder,
-        meter: &mut M,
-    ) -> ShapeStep
-        requires feeds { Feeds self.old zp.old }
-        requires below { AreBelow (length zp.old.table) (cells.states_of contexts.old) }
-        ensures draws { (source : Chunk) (place : Option Interval) → Takes source place self.old zp.old →
-            HasDrawn (refined_reading reader.old.matched source.table source.payload source.ended (progress reader.old.sketch (cells.states_of contexts.old) place)) source result reader.new.sketch (cells.states_of contexts.new) self.new zp.new }
-        ensures done { result ≡ ShapeStep.Done → IsWhole reader.new.sketch }
-        ensures matched { reader.new.matched ≡ reader.old.matched }
-        ensures width { reader.new.sketch.shape.width ≡ reader.old.sketch.shape.width }
-        ensures height { reader.new.sketch.shape.height ≡ reader.old.sketch.shape.height }
-        ensures grows { reader.old.sketch.number ≤ reader.new.sketch.number }
-        ensures ticks { TicksExactly (reader.new.sketch.number - reader.old.sketch.number) (M.count meter.old) (M.count meter.new) }
-        ensures feeds { Feeds self.new zp.new }
-        ensures below { AreBelow (length zp.new.table) (cells.states_of contexts.new) }
-        ensures table { zp.new.table ≡ zp.old.table }
-    {
-        taken_bytes_decide();
-        shapes::cuts_change_nothing();
-        'bytes: loop {
-            let step = reader.advance(contexts, zp, meter);
-            zp.was_fed();
-            if !is_unfinished(step) {
-                return step;
-            }
-            if !self.offer(zp) {
-                return step;
-            }
-        }
-    }
+/// Reads a number on, as far as the bytes taken go.
+fn advance(
+    reader: &mut NumberReader,
+    contexts: &mut NumberContexts,
+    zp: &mut ZpDecoder,
+    meter: &mut CountMeter,
+) -> NumberStep
+    requires table { IsTable zp.old.table }
+    requires below { AreBelow (length zp.old.table) (states_of contexts.old) }
+    ensures advances { Advances reader.old reader.new contexts.old contexts.new zp.old zp.new meter.old meter.new result }
+    ensures within { (wanted : Wanted) → AreBounds wanted.low wanted.high → IsUnderway wanted reader.old → StaysWithin wanted result reader.new }
+    ensures more { (wanted : Wanted) → IsUnderway wanted reader.old → meter.old ≤ meter.new }
+    ensures room { (wanted : Wanted) → IsUnderway wanted reader.old → room_left zp.new ≤ room_left zp.old }
+    ensures below { AreBelow (length zp.new.table) (states_of contexts.new) }
+    ensures table { zp.new.table ≡ zp.old.table }
+    ensures ended { zp.new.ended ≡ zp.old.ended }
+{
+    zp.was_fed();
+    let step = reader.advance(contexts, zp, meter);
+    zp.was_fed();
+    step
+}
+
+/// Lets the first bytes go.
+fn drop_front(bytes: &mut Vec<u8>, count: usize)
+    requires { count ≤ length bytes.old.items }
+    ensures { bytes.new.items ≡ drop count bytes.old.items }
+{
+    drop(bytes.drain(..count));
 }
 
 /// The bytes behind so many.
@@ -223,7 +260,7 @@ fn behind(bytes: &[u8], count: usize) -> &[u8]
 }
 
 /// Whether the decoder took the whole chunk, where these bytes are left.
-pub(crate) fn is_all(left: &[u8], is_whole: bool) -> bool
+fn is_all(left: &[u8], is_whole: bool) -> bool
     ensures { result ≡ is_all left.now is_whole }
 {
     is_whole && left.is_empty()
@@ -231,8 +268,9 @@ pub(crate) fn is_all(left: &[u8], is_whole: bool) -> bool
 
 /// Tells a decoder the end, where its chunk ended.
 fn finish(zp: &mut ZpDecoder, is_whole: bool)
-    requires { zp.old.ended ≡ false }
+    requires { is_whole ≡ false → zp.old.ended ≡ false }
     ensures fed { (payload : List ℕ) (place : Option Interval) → Fed payload place zp.old → Fed payload place zp.new }
+    ensures same { zp.old.ended ≡ is_whole → zp.new ≡ zp.old }
     ensures table { zp.new.table ≡ zp.old.table }
     ensures ended { zp.new.ended ≡ is_whole }
 {

@@ -8,7 +8,8 @@ ghost use Rattle.jb2_shapes.specs.Refined.{IsShift, shift};
 ghost use Rattle.bit_plane.specs.Rows.{IsRun};
 
 use crate::canvas::Canvas;
-use bit_plane::Plane;
+use bit_plane::laws::ink_laws;
+use bit_plane::{InkBox, Plane};
 use std::marker::Model;
 use std::sync::Arc;
 
@@ -32,13 +33,14 @@ impl Model for Matching {
 }
 
 impl Matching {
-    /// The matched shape, whose ink lies in the middle of a shape of this size.
-    pub(crate) fn new(matched: Arc<Plane>, width: u32, height: u32) -> Matching
+    /// The matched shape, whose ink lies in this box and in the middle of a shape of this size.
+    pub(crate) fn new(matched: Arc<Plane>, ink: InkBox, width: u32, height: u32) -> Matching
+        requires { ink ≡ ink_box_of (arc_value matched) }
         ensures matched { result.matched ≡ arc_value matched }
         ensures right { result.right ≡ shift width (extent (ink_box_of (arc_value matched)).left (ink_box_of (arc_value matched)).right) (ink_box_of (arc_value matched)).right }
         ensures up { result.up ≡ shift height (extent (ink_box_of (arc_value matched)).bottom (ink_box_of (arc_value matched)).top) (ink_box_of (arc_value matched)).top }
     {
-        let ink = matched.ink_box();
+        ink_laws();
         Matching {
             shape: matched,
             right: shift(width, ink.width(), ink.right),

@@ -2,6 +2,7 @@
 ghost use Rattle.std.specs.Prelude.{◌≡◌, ℕ, ◌-◌, ◌*◌, ◌≤◌, length, List, Option, IfOk};
 ghost use Rattle.std.specs.Arc.{arc_value};
 ghost use Rattle.bit_plane.specs.Pixels.{area_limit, side_limit};
+ghost use Rattle.bit_plane.specs.Ink.{ink_box_of};
 ghost use Rattle.djvu_base.specs.Meter.{TicksExactly};
 ghost use Rattle.zp_decoder.specs.Decision.{Interval};
 ghost use Rattle.zp_decoder.specs.Decoder.{Fed, room_left};
@@ -17,7 +18,7 @@ use crate::matching::Matching;
 use crate::pixels::read_pixel;
 use crate::steps::ShapeStep;
 use crate::windows::RefinedWindow;
-use bit_plane::Plane;
+use bit_plane::{InkBox, Plane};
 use djvu_base::Meter;
 use std::alloc::{AllocError, Global};
 use std::marker::Model;
@@ -59,9 +60,27 @@ impl RefineReader {
         requires area { width * height ≤ area_limit }
         ensures { IfOk result (λ reader. reader ≡ record { matched = arc_value matched; sketch = empty_sketch width height }) }
     {
+        let ink = matched.ink_box();
+        RefineReader::begin_beside(alloc, width, height, matched, ink)
+    }
+
+    /// The same where the matched shape's ink box is known.
+    pub fn begin_beside(
+        alloc: Global,
+        width: u32,
+        height: u32,
+        matched: Arc<Plane>,
+        ink: InkBox,
+    ) -> Result<RefineReader, AllocError>
+        requires width { width ≤ side_limit }
+        requires height { height ≤ side_limit }
+        requires area { width * height ≤ area_limit }
+        requires ink { ink ≡ ink_box_of (arc_value matched) }
+        ensures { IfOk result (λ reader. reader ≡ record { matched = arc_value matched; sketch = empty_sketch width height }) }
+    {
         Ok(RefineReader {
             canvas: Canvas::new(alloc, width, height)?,
-            matching: Matching::new(matched, width, height),
+            matching: Matching::new(matched, ink, width, height),
         })
     }
 

@@ -145,9 +145,11 @@ module _ {T : Type 0} (is_end : T → Bool) (width : ℕ) (board : RowBoardView)
         → (n ≤ puts row) × IsPrefix (values width reader row n) (put_values width holder row)
     read_prefix reader n is extends few known =
         let both = known_is_prefix rows board.board.owners holds.is_board.laid puts holder.hold all holder_rows.in_rows knows.extends knows.owns knows.lawful
-        row holds.inside holds.right reader.hold n extends few known in
-        (both.0, (
-          both.1.0,
-          values_by holder holder.hold (puts row) holds.is_seat
-              ∙ (both.1.1 ∙ ap (λ l. l ++ both.1.0) (sym (values_by reader reader.hold n is))),
-        ))
+        row holds.inside holds.right reader.hold n extends few known in (
+          both.0,
+          (
+            both.1.0,
+            values_by holder holder.hold (puts row) holds.is_seat
+                ∙ (both.1.1 ∙ ap (λ l. l ++ both.1.0) (sym (values_by reader reader.hold n is))),
+          ),
+        )

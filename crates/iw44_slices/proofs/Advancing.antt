@@ -198,8 +198,10 @@ keeps_bit old_plane old_reader old before plane new_plane contexts new spot new_
             stands = stands_next slice was.left plane new_plane contexts new spot new_spot bit taken was.stands;
             fed = decided.fed ask.asked payload was.here ask.names was.fed;
             grows = omega arith;
-            ticks = subst (λ (n : ℕ). TicksExactly n before new_count) more (ticks_next (was.number - decisions) before count new_count was.ticks decided.ticks);
-            same = was.same ∙ bit_same was.left question payload was.here contexts new spot new_spot zp new_zp count new_count was.number bit ask decided was.fed;
+            ticks = subst (λ (n : ℕ). TicksExactly n before new_count) more
+                (ticks_next (was.number - decisions) before count new_count was.ticks decided.ticks);
+            same = was.same
+                ∙ bit_same was.left question payload was.here contexts new spot new_spot zp new_zp count new_count was.number bit ask decided was.fed;
           };
       somewhere = (
         keeps.somewhere.0,

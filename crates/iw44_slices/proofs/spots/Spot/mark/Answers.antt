@@ -1,7 +1,6 @@
-use Rattle.std.proofs.Common.{◌≡◌, ◌<◌, ◌+◌, ◌*◌, ℕ, true, sym, ◌∙◌, ap, subst, arith}
+use Rattle.std.proofs.Common.{◌≡◌, ◌<◌, ◌+◌, ◌*◌, ℕ, true, subst, arith}
 use Rattle.std.proofs.lemmas.List.{get_or-replicate}
 use Rattle.iw44_blocks.specs.Plane.{coefficient}
-use Rattle.iw44_slices.specs.Bands.{band_of, first_bucket, bucket_count}
 use Rattle.iw44_slices.specs.Slice.{Place, is_zero}
 use Rattle.iw44_slices.specs.Reader.{place_in, first_at, count_at}
 use Rattle.iw44_slices.proofs.Passing.{blank_marks}

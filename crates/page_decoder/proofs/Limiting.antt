@@ -26,7 +26,7 @@ use Rattle.page_decoder.specs.Read.{drawing_by, read}
 use Rattle.page_decoder.specs.Needs.{are_bytes}
 use Rattle.page_decoder.proofs.Leaving.{Brings, brings}
 use Rattle.page_decoder.proofs.Serials.{begins_so, counts_so}
-use Rattle.page_decoder.proofs.Ruling.{Rules, IsFine, from_holds, any_include, any_includes}
+use Rattle.page_decoder.proofs.Ruling.{Rules, IsComplete, acts_fine, from_holds, any_include, any_includes}
 
 -- the data of chunks are bytes of the file
 
@@ -63,18 +63,9 @@ form_bytes bytes form whole tail laid all =
 abbrev Fine : Head → Data → Type 0
 Fine head given = given.ended ≡ true → are_bytes given.bytes ≡ true
 
-complete_fine : (whole : List Chunk) (acts : List Act) → AllByRecursion HasBytes whole → AllByRecursion (IsFine Fine) acts
-    → AllByRecursion (IsFine Fine) (complete_acts whole ++ acts)
-complete_fine [] acts all rest = rest
-complete_fine (chunk ∷ whole) acts all rest = (λ ended. all.0, complete_fine whole acts all.1 rest)
-
-tail_fine : (tail : Tail) → AllByRecursion (IsFine Fine) (tail_acts tail)
-tail_fine InHead = tt
-tail_fine (InHeader offset bytes) = tt
-tail_fine (InData chunk) = (λ ended. let wrong : false ≡ true = ended in absurd (cc), tt)
-tail_fine (InPad offset is_last) = tt
-tail_fine FormEnd = tt
-tail_fine (Broken kind offset) = tt
+bytes_fine : (whole : List Chunk) → AllByRecursion HasBytes whole → AllByRecursion (IsComplete Fine) whole
+bytes_fine [] all = tt
+bytes_fine (chunk ∷ whole) all = (λ ended. all.0, bytes_fine whole all.1)
 
 -- ---- counts
 
@@ -291,18 +282,13 @@ rules home known last = record {
   finishes = λ left some i page. most home None left i page;
 }
 
-form_fine : (form : Option Form) (acts : List Act) → AllByRecursion (IsFine Fine) acts → AllByRecursion (IsFine Fine) (form_acts form ++ acts)
-form_fine None acts all = all
-form_fine (Some form) acts all = (tt, all)
-
 pub at_most : (given : Given) → ((name : List ℕ) (target : ℕ) → number_of name given.home.names ≡ Some target → target < length given.home.names) → LastChunk
     → AllByRecursion HasBytes (chunks_of given.bytes).whole → given.home.role ≡ Page → length (read given).left.told.drawings ≤ 259
 at_most given below last all =
     from_holds given.home given.known Fine any_include (IsLimited given.home) (AtMost given.home) (rules given.home given.known last) below
     (close_in given.mark given.bytes)
     (λ w left i page. most given.home None left i page) (acts_of (chunks_of given.bytes)) at_start
-    (form_fine (chunks_of given.bytes).form (complete_acts (chunks_of given.bytes).whole ++ tail_acts (chunks_of given.bytes).tail)
-    (complete_fine (chunks_of given.bytes).whole (tail_acts (chunks_of given.bytes).tail) all (tail_fine (chunks_of given.bytes).tail)))
+    (acts_fine Fine (chunks_of given.bytes) (bytes_fine (chunks_of given.bytes).whole all) (λ chunk ended. let wrong : false ≡ true = ended in absurd (cc)))
     (λ page. record {
       none = λ n. refl;
       counts = record { bare = λ e. refl; told = omega arith; few = omega arith; back = λ layers e. absurd (cc) };

@@ -7,7 +7,8 @@ use Rattle.djvu_base.specs.declared.faults.Fault.{Fault}
 use Rattle.djvu_base.specs.declared.faults.FaultKind.{FaultKind}
 use Rattle.djvu_base.specs.declared.faults.FaultKind.TheVariants as fault
 use Rattle.bit_plane.specs.Pixels.{Pixels}
-use Rattle.iw44_image.specs.Layer.{Data}
+use Rattle.iff_chunks.specs.Chunks.{Form, Chunk, Chunks, Tail, InHead, InHeader, InData, InPad, FormEnd, Broken}
+use Rattle.iw44_image.specs.Layer.{Data, data_of}
 use Rattle.include_graph.specs.declared.verdicts.Verdict.{Verdict}
 use Rattle.include_graph.specs.declared.verdicts.Verdict.TheVariants as verdict
 use Rattle.include_graph.specs.Verdicts.{number_of, is_among}
@@ -17,9 +18,9 @@ use Rattle.page_decoder.specs.Results.{Result, Dictionary, Nothing}
 use Rattle.page_decoder.specs.Results as result
 use Rattle.page_decoder.specs.Given.{Role, Page, Included, Home, Known}
 use Rattle.page_decoder.specs.PageRead.{Ending, Finished, Refused, NeedBytes, NeedOutline, NeedFile, Include, Decoded, Left, PageRead}
-use Rattle.page_decoder.specs.Headers.{Head, form_fault, header_fault}
+use Rattle.page_decoder.specs.Headers.{Head, head_of, form_fault, header_fault}
 use Rattle.page_decoder.specs.ChunkData.{Outcome, Leaves, Unfinished, Fails, came}
-use Rattle.page_decoder.specs.Acts.{Act, Kind, Reads, Close, Waits, Breaks, Over}
+use Rattle.page_decoder.specs.Acts.{Act, Kind, Reads, Close, Waits, Breaks, Over, form_acts, complete_acts, tail_acts, acts_of}
 use Rattle.page_decoder.specs.Read.{Step, On, Ends, and_then, after, reaching, counting, inheriting, nothing_pending, with_chunk, refused_at, at_result, in_files, at_verdict, listing, at_target, at_include, resolved, all_resolved, resolved_before, at_form, at_header, at_outcome, at_data, at_act, finished, at_over, at_close, read_from, step_through}
 use Rattle.page_decoder.specs.Needs.{IsGood, IsNext, IsUnknown}
 
@@ -246,6 +247,37 @@ module _ (home : Home) (known : Known) (fine : Head → Data → Type 0) (named 
   from_holds close waits (act ∷ acts) left all i =
       after_holds None (at_act home known act left) (read_from home known close acts) (λ now j. from_holds close waits acts now all.1 j)
       (act_holds act left all.0 i)
+
+-- the acts of a file, by its chunks
+
+abbrev pub IsComplete : (Head → Data → Type 0) → Chunk → Type 0
+IsComplete fine chunk = fine (head_of chunk) (data_of chunk.bytes true)
+
+complete_fine : (fine : Head → Data → Type 0) (whole : List Chunk) (acts : List Act) → AllByRecursion (IsComplete fine) whole
+    → AllByRecursion (IsFine fine) acts
+    → AllByRecursion (IsFine fine) (complete_acts whole ++ acts)
+complete_fine fine [] acts all rest = rest
+complete_fine fine (chunk ∷ whole) acts all rest = (all.0, complete_fine fine whole acts all.1 rest)
+
+tail_fine : (fine : Head → Data → Type 0) (tail : Tail) → ((chunk : Chunk) → fine (head_of chunk) (data_of chunk.bytes false))
+    → AllByRecursion (IsFine fine) (tail_acts tail)
+tail_fine fine InHead part = tt
+tail_fine fine (InHeader offset bytes) part = tt
+tail_fine fine (InData chunk) part = (part chunk, tt)
+tail_fine fine (InPad offset is_last) part = tt
+tail_fine fine FormEnd part = tt
+tail_fine fine (Broken kind offset) part = tt
+
+form_fine : (fine : Head → Data → Type 0) (form : Option Form) (acts : List Act) → AllByRecursion (IsFine fine) acts
+    → AllByRecursion (IsFine fine) (form_acts form ++ acts)
+form_fine fine None acts all = all
+form_fine fine (Some form) acts all = (tt, all)
+
+pub acts_fine : (fine : Head → Data → Type 0) (chunks : Chunks) → AllByRecursion (IsComplete fine) chunks.whole
+    → ((chunk : Chunk) → fine (head_of chunk) (data_of chunk.bytes false)) → AllByRecursion (IsFine fine) (acts_of chunks)
+acts_fine fine chunks all part =
+    form_fine fine chunks.form (complete_acts chunks.whole ++ tail_acts chunks.tail)
+    (complete_fine fine chunks.whole (tail_acts chunks.tail) all (tail_fine fine chunks.tail part))
 
 -- where nothing is known of chunks and includes
 abbrev pub any_chunk : Head → Data → Type 0

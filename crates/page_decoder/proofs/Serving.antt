@@ -27,7 +27,7 @@ use Rattle.page_decoder.proofs.Leaving.{Brings, brings}
 use Rattle.page_decoder.proofs.Including.{IsItem, outlined_so}
 use Rattle.page_decoder.proofs.Asking.{same_list, alone}
 use Rattle.page_decoder.proofs.Needing.{ended}
-use Rattle.page_decoder.proofs.Ruling.{Rules, IsFine, Holds, from_holds, act_holds}
+use Rattle.page_decoder.proofs.Ruling.{Rules, IsFine, IsComplete, acts_fine, Holds, from_holds, act_holds}
 
 -- the identifier of an include
 include_kind : (id : List ℕ) → kind_of id ≡ kind.Include → is_include id ≡ true
@@ -78,27 +78,13 @@ module _ (outline : Outline) where
   chunk_named kind.Refused table given offset before decoded f b all = subst (λ (d : Decoded). AllByRecursion Named d.pending) (sym b) all
   chunk_named kind.Passed table given offset before decoded f b all = subst (λ (d : Decoded). AllByRecursion Named d.pending) (sym b) all
 
-  complete_fine : (whole : List Chunk) → AllByRecursion (IsItem outline.items) whole → (acts : List Act) → AllByRecursion (IsFine Fine) acts
-      → AllByRecursion (IsFine Fine) (complete_acts whole ++ acts)
-  complete_fine [] all acts rest = rest
-  complete_fine (chunk ∷ whole) all acts rest = (λ k ended name n. all.0 (include_kind chunk.id k) name n, complete_fine whole all.1 acts rest)
+  items_fine : (whole : List Chunk) → AllByRecursion (IsItem outline.items) whole → AllByRecursion (IsComplete Fine) whole
+  items_fine [] all = tt
+  items_fine (chunk ∷ whole) all = (λ k ended name n. all.0 (include_kind chunk.id k) name n, items_fine whole all.1)
 
-  tail_fine : (tail : Tail) → AllByRecursion (IsFine Fine) (tail_acts tail)
-  tail_fine InHead = tt
-  tail_fine (InHeader offset bytes) = tt
-  tail_fine (InData chunk) = (λ k ended. let wrong : false ≡ true = ended in absurd (cc), tt)
-  tail_fine (InPad offset is_last) = tt
-  tail_fine FormEnd = tt
-  tail_fine (Broken kind offset) = tt
-
-  form_fine : (form : Option Form) (acts : List Act) → AllByRecursion (IsFine Fine) acts → AllByRecursion (IsFine Fine) (form_acts form ++ acts)
-  form_fine None acts all = all
-  form_fine (Some form) acts all = (tt, all)
-
-  acts_fine : (chunks : Chunks) → AllByRecursion (IsItem outline.items) chunks.whole → AllByRecursion (IsFine Fine) (acts_of chunks)
-  acts_fine chunks all =
-      form_fine chunks.form (complete_acts chunks.whole ++ tail_acts chunks.tail)
-      (complete_fine chunks.whole all (tail_acts chunks.tail) (tail_fine chunks.tail))
+  file_fine : (bytes : List ℕ) → AllByRecursion (IsItem outline.items) (chunks_of bytes).whole → AllByRecursion (IsFine Fine) (acts_of (chunks_of bytes))
+  file_fine bytes all =
+      acts_fine Fine (chunks_of bytes) (items_fine (chunks_of bytes).whole all) (λ chunk k ended. let wrong : false ≡ true = ended in absurd (cc))
 
   -- an included file needs only what it includes
   abbrev NeedsIncluded : Home → Left → Ending → Type 0
@@ -136,7 +122,7 @@ module _ (outline : Outline) where
       → IsOutlined given outline → NeedsIncluded given.home (read given).left (read given).end
   needs_included given below it =
       from_holds given.home given.known Fine Named AllNamed (NeedsIncluded given.home) (rules given.home given.known) below (close_in given.mark given.bytes)
-      (λ w left i file e. absurd (cc)) (acts_of (chunks_of given.bytes)) at_start (acts_fine (chunks_of given.bytes) (outlined_so given outline it).all) tt
+      (λ w left i file e. absurd (cc)) (acts_of (chunks_of given.bytes)) at_start (file_fine given.bytes (outlined_so given outline it).all) tt
 
   -- the readings with results that agree on what is included are the same
   module _ (home : Home) (a b : Known) (role : home.role ≡ Included)
@@ -212,7 +198,7 @@ pub read_same : (given : Given) (known : Known) (outline : Outline) → given.ho
     → read given ≡ read (record given { known = known })
 read_same given known outline role below it agree =
     from_same outline given.home given.known known role below agree (close_in given.mark given.bytes) (acts_of (chunks_of given.bytes)) at_start
-    (acts_fine outline (chunks_of given.bytes) (outlined_so given outline it).all) tt
+    (file_fine outline given.bytes (outlined_so given outline it).all) tt
 
 -- the reading of an included file, whose includes all gave something, is over
 

@@ -1,5 +1,5 @@
 -- What a reader was fed, at each step and in each answer.
-use Rattle.std.proofs.Common.{◌≡◌, ◌≢◌, ◌≤◌, ◌+◌, ℕ, Bool, true, false, suc, List, [], ◌∷◌, ◌++◌, length, refl, sym, ap, subst, ◌∙◌, arith}
+use Rattle.std.proofs.Common.{◌≡◌, ◌≢◌, ◌≤◌, ℕ, Bool, true, false, suc, List, [], ◌++◌, length, refl, sym, ap, subst, ◌∙◌, arith}
 use Rattle.std.specs.Prelude.{Option, Some, None, Result, Ok, Err, OnOk, OnErr}
 use Rattle.std.proofs.lemmas.List.{append-nil}
 use Rattle.zp_table.specs.declared.rows.Row.{Row}
@@ -313,8 +313,12 @@ module _ (at : Step) (told : Jb2Step) (old new : Machine) (halts : Halt) (later 
       (subst (λ (l : List Pixels). IsAt
       (record { chunk = chunk old.coder.zp.table payload old.coder.unread.ended; inherited = l; purpose = new.library.purpose }) (step_of halts)
       (answer_of halts) new) (sym inherited)
-      (subst (λ (p : Purpose). IsAt (record { chunk = chunk old.coder.zp.table payload old.coder.unread.ended; inherited = old.library.inherited; purpose =
-      p }) (step_of halts) (answer_of halts) new) (sym purpose)
+      (subst (λ (p : Purpose). IsAt (record {
+        chunk = chunk old.coder.zp.table payload old.coder.unread.ended;
+        inherited = old.library.inherited;
+        purpose =
+            p;
+      }) (step_of halts) (answer_of halts) new) (sym purpose)
       (halts_at (input_at old.coder.zp.table payload old.coder.unread.ended old) halts new
       (runs (input_at old.coder.zp.table payload old.coder.unread.ended old) fed)))))
 

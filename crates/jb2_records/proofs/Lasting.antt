@@ -1,5 +1,5 @@
 -- What is left of a record at a step has no fewer decisions than there were.
-use Rattle.std.proofs.Common.{◌≡◌, ◌≤◌, ℕ, ℤ, pos, Bool, List, [], ◌∷◌, ◌++◌, arith}
+use Rattle.std.proofs.Common.{ℕ, ℤ, pos, Bool, List, [], ◌∷◌, ◌++◌, arith}
 use Rattle.std.specs.Prelude.{Option}
 use Rattle.std.specs.Arc.{arc_value}
 use Rattle.djvu_base.specs.declared.faults.FaultKind.{FaultKind}
@@ -21,7 +21,7 @@ use Rattle.jb2_records.specs.Records.{Record, Relative, Copy, is_started, image_
 use Rattle.jb2_records.specs.Coding.{Coder, Read, Got, then_read, checked, read_number}
 use Rattle.jb2_records.specs.Reading.{Input, most, least, type_of, type_fault, has_shapes, start_fault, shape_fault, place_fault, count_fault, read_bytes}
 use Rattle.jb2_records.specs.Picture.{relative_by, relative_of}
-use Rattle.jb2_records.specs.Steps.{both_record, image_record, placed, from_dy, from_dx, from_row, from_top, from_left, from_shape, from_own, from_own_height, from_beside, from_beside_sizes, from_beside_height, from_beside_width, from_matched, from_flag, from_start_height, x_root, y_root, shape_of, record_of, numbered, wide_of, high_of, last_number, root_of, low_of, most_of, behind, rest_of}
+use Rattle.jb2_records.specs.Steps.{both_record, image_record, placed, from_dy, from_dx, from_row, from_top, from_shape, from_own, from_own_height, from_beside, from_beside_sizes, from_beside_height, from_matched, from_flag, x_root, y_root, shape_of, record_of, numbered, wide_of, high_of, root_of, low_of, most_of, behind, rest_of}
 use Rattle.jb2_records.proofs.Keeping.{Stays, Leaves, leaves_got, then_leaves, checked_leaves, number_leaves, flag_leaves, row_leaves, direct_leaves, refined_leaves}
 use Rattle.jb2_records.proofs.Leaving.{body_goes, bytes_goes}
 
@@ -35,10 +35,12 @@ module _ (input : Input) (before : List Record) (left made : ℕ) where
   got : {A : Type 0} {value : A} {at : Coder} → IsThere at → Lasts (Got value at)
   got {A = A} {value = value} {at = at} stays = leaves_got input.chunk left made A value at stays
 
-  bind : {A B : Type 0} {reading : Read A} {rest : A → Coder → Read B} → Lasts reading → ((value : A) (at : Coder) → IsThere at → Lasts (rest value at)) → Lasts (then_read reading rest)
+  bind : {A B : Type 0} {reading : Read A} {rest : A → Coder → Read B} → Lasts reading →
+      ((value : A) (at : Coder) → IsThere at → Lasts (rest value at)) → Lasts (then_read reading rest)
   bind {reading = reading} {rest = rest} first later = then_leaves input.chunk left made reading rest first later
 
-  check : {A : Type 0} {rest : Coder → Read A} (given : Option FaultKind) (at : Coder) → IsThere at → ((at : Coder) → IsThere at → Lasts (rest at)) → Lasts (checked given at rest)
+  check : {A : Type 0} {rest : Coder → Read A} (given : Option FaultKind) (at : Coder) → IsThere at → ((at : Coder) → IsThere at → Lasts (rest at)) →
+      Lasts (checked given at rest)
   check {rest = rest} given at stays later = checked_leaves input.chunk left made given at rest stays (later at stays)
 
   number : (name : Root) (low high : ℤ) (at : Coder) → IsThere at → Lasts (read_number input.chunk name low high at)
@@ -47,8 +49,10 @@ module _ (input : Input) (before : List Record) (left made : ℕ) where
   placed_lasts : (shape : Pixels) (make : Relative → Record) (place : Relative) (at : Coder) → IsThere at → Lasts (placed input before shape make place at)
   placed_lasts shape make place at stays = check (place_fault input before shape) at stays (λ at stays. got stays)
 
-  dy_lasts : (shape : Pixels) (make : Relative → Record) (is_new : Bool) (dx : ℤ) (at : Coder) → IsThere at → Lasts (from_dy input before shape make is_new dx at)
-  dy_lasts shape make is_new dx at stays = bind (number (y_root is_new) least most at stays) (λ dy at stays. placed_lasts shape make (relative_by is_new dx dy) at stays)
+  dy_lasts : (shape : Pixels) (make : Relative → Record) (is_new : Bool) (dx : ℤ) (at : Coder) → IsThere at → Lasts
+      (from_dy input before shape make is_new dx at)
+  dy_lasts shape make is_new dx at stays = bind (number (y_root is_new) least most at stays)
+      (λ dy at stays. placed_lasts shape make (relative_by is_new dx dy) at stays)
 
   dx_lasts : (shape : Pixels) (make : Relative → Record) (is_new : Bool) (at : Coder) → IsThere at → Lasts (from_dx input before shape make is_new at)
   dx_lasts shape make is_new at stays = bind (number (x_root is_new) least most at stays) (λ dx at stays. dy_lasts shape make is_new dx at stays)
@@ -60,7 +64,8 @@ module _ (input : Input) (before : List Record) (left made : ℕ) where
 
   top_lasts : (shape : Pixels) (left_side : ℤ) (at : Coder) → IsThere at → Lasts (from_top input before shape left_side at)
   top_lasts shape left_side at stays =
-      bind (number root.AbsoluteTop (pos 1) (pos (image_size before).height) at stays) (λ top at stays. check (place_fault input before shape) at stays (λ at stays. got stays))
+      bind (number root.AbsoluteTop (pos 1) (pos (image_size before).height) at stays)
+      (λ top at stays. check (place_fault input before shape) at stays (λ at stays. got stays))
 
   pub shape_lasts : (made_as : Origin) (kept : Use) (shape : Pixels) (at : Coder) → IsThere at → Lasts (from_shape input before made_as kept shape at)
   shape_lasts made_as use_of.Both shape at stays = row_lasts shape (both_record made_as shape) at stays
@@ -89,7 +94,8 @@ module _ (input : Input) (before : List Record) (left made : ℕ) where
 
   beside_height_lasts : (kept : Use) (matched : ℕ) (wider : ℤ) (at : Coder) → IsThere at → Lasts (from_beside_height input before kept matched wider at)
   beside_height_lasts kept matched wider at stays =
-      bind (number root.HeightDifference least most at stays) (λ higher at stays. sizes_lasts kept matched (wide_of (ink_box_of (numbered input before matched)) wider) (high_of (ink_box_of (numbered input before matched)) higher) at stays)
+      bind (number root.HeightDifference least most at stays) (λ higher at stays. sizes_lasts kept matched
+      (wide_of (ink_box_of (numbered input before matched)) wider) (high_of (ink_box_of (numbered input before matched)) higher) at stays)
 
   matched_lasts : (goal : Reference) (matched : ℕ) (at : Coder) → IsThere at → Lasts (from_matched input before goal matched at)
   matched_lasts (reference.Refine kept) matched at stays =
@@ -99,17 +105,20 @@ module _ (input : Input) (before : List Record) (left made : ℕ) where
   flag_lasts : (width height : ℤ) (at : Coder) → IsThere at → Lasts (from_flag input width height at)
   flag_lasts width height at stays =
       let less = stays.leaves in
-      bind (flag_leaves input.chunk left made at stays.sound (omega (arith, less)) stays.more) (λ flag at stays. check (start_fault input.purpose width height) at stays (λ at stays. got stays))
+      bind (flag_leaves input.chunk left made at stays.sound (omega (arith, less)) stays.more)
+      (λ flag at stays. check (start_fault input.purpose width height) at stays (λ at stays. got stays))
 
   bytes_lasts : (count : ℕ) (text : List ℕ) (at : Coder) → IsThere at → Lasts (read_bytes input.chunk count text at)
   bytes_lasts count text at stays =
-      (bytes_goes input.chunk.table [] input.chunk.payload input.chunk.ended input.inherited input.purpose stays.sound.table left count text made at stays).leaves
+      (bytes_goes input.chunk.table [] input.chunk.payload input.chunk.ended input.inherited input.purpose stays.sound.table left count text made at
+      stays).leaves
 
   pub behind_lasts : (text : List ℕ) (place : Field) (value : ℤ) (at : Coder) → IsThere at → Lasts (behind input before text place value at)
   unfolding behind
   behind_lasts text field.Kind value at stays =
       check (type_fault input.purpose (is_started before) (has_shapes input before) (type_of value)) at stays (λ at stays.
-      (body_goes input.chunk.table [] input.chunk.payload input.chunk.ended input.inherited input.purpose stays.sound.table left before (type_of value) made at stays).leaves)
+      (body_goes input.chunk.table [] input.chunk.payload input.chunk.ended input.inherited input.purpose stays.sound.table left before
+      (type_of value) made at stays).leaves)
   behind_lasts text field.StartWidth value at stays = bind (number root.ImageSize (pos 0) most at stays) (λ height at stays. flag_lasts value height at stays)
   behind_lasts text (field.StartHeight width) value at stays = flag_lasts width value at stays
   behind_lasts text (field.OwnWidth kept) value at stays = own_height_lasts kept value at stays
@@ -117,9 +126,11 @@ module _ (input : Input) (before : List Record) (left made : ℕ) where
       check (shape_fault input before width value) at stays (λ at stays. own_lasts kept (unsigned width) (unsigned value) at stays)
   behind_lasts text (field.Match goal) value at stays = matched_lasts goal (unsigned value) at stays
   behind_lasts text (field.BesideWidth kept matched) value at stays = beside_height_lasts kept matched value at stays
-  behind_lasts text (field.BesideHeight kept matched wider) value at stays = sizes_lasts kept matched (wide_of (ink_box_of (numbered input before matched)) wider) (high_of (ink_box_of (numbered input before matched)) value) at stays
+  behind_lasts text (field.BesideHeight kept matched wider) value at stays = sizes_lasts kept matched
+      (wide_of (ink_box_of (numbered input before matched)) wider) (high_of (ink_box_of (numbered input before matched)) value) at stays
   behind_lasts text (field.Dx moved is_new) value at stays = dy_lasts (shape_of input before moved) (λ place. record_of moved place) is_new value at stays
-  behind_lasts text (field.Dy moved is_new dx) value at stays = placed_lasts (shape_of input before moved) (λ place. record_of moved place) (relative_by is_new dx value) at stays
+  behind_lasts text (field.Dy moved is_new dx) value at stays = placed_lasts (shape_of input before moved) (λ place. record_of moved place)
+      (relative_by is_new dx value) at stays
   behind_lasts text (field.Left shape) value at stays = top_lasts (arc_value shape) value at stays
   behind_lasts text (field.Top shape left_side) value at stays = check (place_fault input before (arc_value shape)) at stays (λ at stays. got stays)
   behind_lasts text field.InheritedCount value at stays = check (count_fault input value) at stays (λ at stays. got stays)

@@ -1,7 +1,6 @@
 -- A step of the reading has no more counts than the definition, and stands as well in what the chunk becomes.
-use Rattle.std.proofs.Common.{◌≡◌, ◌≤◌, ◌+◌, ℕ, List, [], ◌∷◌, ◌++◌, length, length-append, sym, ap, subst, ◌∙◌, arith}
+use Rattle.std.proofs.Common.{◌≡◌, ◌≤◌, ℕ, List, ◌++◌, length, length-append, sym, ap, subst, ◌∙◌, arith}
 use Rattle.std.specs.Prelude.{Option, Some, None}
-use Rattle.zp_table.specs.declared.rows.Row.{Row}
 use Rattle.djvu_base.specs.Meter.{ticked, TicksExactly}
 use Rattle.djvu_base.proofs.Ticks.{ticked_more}
 use Rattle.zp_decoder.specs.Runs.{room}
@@ -112,7 +111,7 @@ holds_decisions input (step.Direct kept reader) machine holds =
     (shape_within input.chunk None reader.shape.width reader.shape.height holds.at reader machine.coder holds.stands_there)
 holds_decisions input (step.Refined kept number reader) machine holds =
     let waits : HalfShape input.chunk (Some reader.matched) reader.sketch.shape.width reader.sketch.shape.height holds.at reader.sketch machine.coder
-        × (reader.matched ≡ numbered input holds.before number) = holds.stands_there in
+    × (reader.matched ≡ numbered input holds.before number) = holds.stands_there in
     within_all input (λ later before text at. rest_of later before text (step.Refined kept number reader) at)
     (λ before at. Waits input (step.Refined kept number reader) machine.coder before at)
     machine.library machine.picture machine.units machine.coder.count

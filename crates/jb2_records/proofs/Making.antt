@@ -1,17 +1,15 @@
 -- A shape that is made: its sides, the pixels of one that refines another, and what follows it.
-use Rattle.std.proofs.Common.{◌≡◌, ℕ, ◌≤◌, ℤ, pos, ◌+ℤ◌, SFits, to_z, of_z, w32, w64, rules, List, refl, sym, ap, subst, ◌∙◌}
-use Rattle.std.specs.Prelude.{Option, Some, None, Result, Ok, Err}
+use Rattle.std.proofs.Common.{◌≡◌, ℕ, ◌≤◌, ℤ, pos, ◌+ℤ◌, SFits, to_z, of_z, w32, w64, rules, List, sym, ap, subst, ◌∙◌}
+use Rattle.std.specs.Prelude.{Some, Result, Ok, Err}
 use Rattle.djvu_base.specs.declared.faults.FaultKind.{FaultKind}
 use Rattle.zp_decoder.specs.Chunk.{Chunk}
 use Rattle.bit_plane.specs.Pixels.{Pixels, side_limit}
 use Rattle.bit_plane.specs.Ink.{ink_box_of, unsigned}
 use Rattle.bit_plane.specs.declared.ink.InkBox.{InkBox}
-use Rattle.jb2_shapes.specs.Shape.{Sketch}
 use Rattle.jb2_shapes.specs.Refined.{Refinement}
 use Rattle.jb2_records.specs.declared.steps.Use.{Use}
 use Rattle.jb2_records.specs.declared.steps.Origin.{Origin}
 use Rattle.jb2_records.specs.declared.steps.Origin.TheVariants as origin
-use Rattle.jb2_records.specs.declared.steps.Step.{Step}
 use Rattle.jb2_records.specs.declared.steps.Step.TheVariants as step
 use Rattle.jb2_records.specs.declared.stops.Stop.{Stop}
 use Rattle.jb2_records.specs.declared.stops.Stop.TheVariants as stop

@@ -1,5 +1,5 @@
 -- A mark that is placed: what a check of it says, and what it leaves.
-use Rattle.std.proofs.Common.{◌≡◌, ◌≤ℤ◌, ℕ, ℤ, pos, false, List, ◌∷◌, refl, sym, ap, subst, ◌∙◌}
+use Rattle.std.proofs.Common.{◌≡◌, ℕ, ℤ, false, List, ◌∷◌, refl, sym, ap, subst, ◌∙◌}
 use Rattle.std.specs.Prelude.{Option, Some, None, Result, Ok, Err}
 use Rattle.std.specs.Result.{OnOk, is_err}
 use Rattle.djvu_base.specs.declared.faults.FaultKind.{FaultKind}
@@ -9,18 +9,15 @@ use Rattle.bit_plane.specs.Ink.{unsigned}
 use Rattle.jb2_records.specs.declared.frames.Steps.{Steps}
 use Rattle.jb2_records.specs.declared.steps.Origin.{Origin}
 use Rattle.jb2_records.specs.declared.steps.Origin.TheVariants as origin
-use Rattle.jb2_records.specs.declared.steps.Mark.{Mark}
-use Rattle.jb2_records.specs.declared.steps.Step.{Step}
-use Rattle.jb2_records.specs.declared.steps.Step.TheVariants as step
 use Rattle.jb2_records.specs.declared.machine.Machine.{Machine}
 use Rattle.jb2_records.specs.declared.reader.Jb2Step.TheVariants as answer
-use Rattle.jb2_records.specs.Records.{Record, Copy, Plain, Relative, Frame, whole_frame, ink_frame, mark_of, shape_at, library}
+use Rattle.jb2_records.specs.Records.{Record, Copy, Plain, Frame, whole_frame, ink_frame, mark_of, shape_at, library}
 use Rattle.jb2_records.specs.Coding.{Coder, Read, Got, checked}
 use Rattle.jb2_records.specs.Reading.{Input, place_fault}
 use Rattle.jb2_records.specs.Library.{Library, shapes_of, Keeps, with_used, with_kept}
-use Rattle.jb2_records.specs.Picture.{Picture, Shows, Draws, mark_at, relative_of}
+use Rattle.jb2_records.specs.Picture.{Picture, Shows, mark_at, relative_of}
 use Rattle.jb2_records.specs.Steps.{numbered, placed, both_record, image_record}
-use Rattle.jb2_records.specs.Machine.{with_chunk, Stays, Holds, Adds, Answers}
+use Rattle.jb2_records.specs.Machine.{with_chunk, Stays, Adds, Answers}
 use Rattle.jb2_records.proofs.Adding.{keeps_shapes, keeps_copy, keeps_plain}
 use Rattle.jb2_records.proofs.Stepping.{adds_of, refused_by}
 use Rattle.jb2_records.proofs.Entering.{passed_by, both_adds, image_adds}
@@ -79,7 +76,7 @@ pub checks_number : (input : Input) (shapes : Library) (picture : Picture) (numb
     Checks input shapes picture (λ later before. numbered later before number) told
 checks_number input shapes picture number shape told is says = record {
   says = λ before keeps shows. says before shows ∙ ap (λ (s : Pixels). place_fault input before s)
-    (is ∙ ap (λ (l : List Pixels). shape_at l number) (keeps_shapes input before shapes keeps));
+      (is ∙ ap (λ (l : List Pixels). shape_at l number) (keeps_shapes input before shapes keeps));
   everywhere = λ later before. refl;
 }
 

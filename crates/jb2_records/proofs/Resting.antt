@@ -1,5 +1,5 @@
 -- What is left of a record behind its type, step by step.
-use Rattle.std.proofs.Common.{◌≡◌, ℤ, pos, Bool, true, false, List, [], refl, sym, ap, ◌∙◌}
+use Rattle.std.proofs.Common.{◌≡◌, ℤ, pos, Bool, true, false, List, refl, ◌∙◌}
 use Rattle.std.specs.Prelude.{Option, Some, None}
 use Rattle.bit_plane.specs.Pixels.{Pixels}
 use Rattle.bit_plane.specs.Ink.{ink_box_of, unsigned}
@@ -7,31 +7,31 @@ use Rattle.djvu_base.specs.declared.faults.FaultKind.{FaultKind}
 use Rattle.jb2_numbers.specs.declared.roots.Root.TheVariants as root
 use Rattle.jb2_records.specs.declared.steps.Use.{Use}
 use Rattle.jb2_records.specs.declared.steps.Use.TheVariants as use_of
-use Rattle.jb2_records.specs.declared.steps.Origin.{Origin}
 use Rattle.jb2_records.specs.declared.steps.Origin.TheVariants as origin
 use Rattle.jb2_records.specs.declared.steps.Reference.TheVariants as reference
-use Rattle.jb2_records.specs.Records.{Record, Relative, MarkBoth, MarkLibrary, MarkImage, RefineBoth, RefineLibrary, RefineImage, Copy, Plain}
+use Rattle.jb2_records.specs.Records.{Record, Relative, Copy}
 use Rattle.jb2_records.specs.Coding.{Coder, Read, Got, Stops, then_read, checked, read_number, read_row, read_direct, read_refined}
-use Rattle.jb2_records.specs.Reading.{Input, most, least, shape_fault, place_fault, read_own, read_match, read_refinement, refined_side, read_steps, read_relative, read_place, matched_in, read_copy, read_plain, read_body}
-use Rattle.jb2_records.specs.Steps.{from_row, from_dx, from_own, from_own_width, from_beside_width, from_beside_sizes, from_match, from_matched, from_shape, numbered, library_record, wide_of, high_of}
+use Rattle.jb2_records.specs.Reading.{Input, most, least, shape_fault, place_fault, read_own, read_match, read_refinement, read_steps, read_place, matched_in, read_copy, read_plain}
+use Rattle.jb2_records.specs.Steps.{from_row, from_dx, from_own_width, from_match, from_shape, wide_of, high_of}
 
 -- two readings joined, and a third
-pub then_then : {A B C : Type 0} (first : Read A) (second : A → Coder → Read B) (third : B → Coder → Read C) →
+then_then : {A B C : Type 0} (first : Read A) (second : A → Coder → Read B) (third : B → Coder → Read C) →
     then_read (then_read first second) third ≡ then_read first (λ value at. then_read (second value at) third)
 then_then (Got value at) second third = refl
 then_then (Stops why decisions) second third = refl
 
-pub then_checked : {A B : Type 0} (fault : Option FaultKind) (at : Coder) (second : Coder → Read A) (third : A → Coder → Read B) →
+then_checked : {A B : Type 0} (fault : Option FaultKind) (at : Coder) (second : Coder → Read A) (third : A → Coder → Read B) →
     then_read (checked fault at second) third ≡ checked fault at (λ at. then_read (second at) third)
 then_checked None at second third = refl
 then_checked (Some kind) at second third = refl
 
-pub then_same : {A B : Type 0} (first : Read A) (rest other : A → Coder → Read B) → ((value : A) (at : Coder) → rest value at ≡ other value at) →
+then_same : {A B : Type 0} (first : Read A) (rest other : A → Coder → Read B) → ((value : A) (at : Coder) → rest value at ≡ other value at) →
     then_read first rest ≡ then_read first other
 then_same (Got value at) rest other same = same value at
 then_same (Stops why decisions) rest other same = refl
 
-pub checked_same : {A : Type 0} (fault : Option FaultKind) (at : Coder) (rest other : Coder → Read A) → ((at : Coder) → rest at ≡ other at) → checked fault at rest ≡ checked fault at other
+checked_same : {A : Type 0} (fault : Option FaultKind) (at : Coder) (rest other : Coder → Read A) → ((at : Coder) → rest at ≡ other at) →
+    checked fault at rest ≡ checked fault at other
 checked_same None at rest other same = same at
 checked_same (Some kind) at rest other same = refl
 
@@ -67,7 +67,8 @@ own_rest input before kept rest at same =
 -- a shape that refines one of the library, and what follows it
 pub refined_rest : (input : Input) (before : List Record) (kept : Use) (rest : ℤ → Pixels → Coder → Read Record) (at : Coder) →
     ((number : ℤ) (shape : Pixels) (at : Coder) → rest number shape at ≡ from_shape input before (origin.Refined (unsigned number)) kept shape at) →
-    then_read (read_match input before at) (λ number at. then_read (read_refinement input before (matched_in input before number) at) (λ shape at. rest number shape at))
+    then_read (read_match input before at) (λ number at. then_read (read_refinement input before (matched_in input before number) at)
+    (λ shape at. rest number shape at))
     ≡ from_match input before (reference.Refine kept) at
 refined_rest input before kept rest at same =
     then_same (read_match input before at) _ _ (λ number at.
@@ -75,14 +76,17 @@ refined_rest input before kept rest at same =
     ∙ then_same (read_number input.chunk root.WidthDifference least most at) _ _ (λ wider at.
     then_then (read_number input.chunk root.HeightDifference least most at) _ _
     ∙ then_same (read_number input.chunk root.HeightDifference least most at) _ _ (λ higher at.
-    then_checked (shape_fault input before (wide_of (ink_box_of (matched_in input before number)) wider) (high_of (ink_box_of (matched_in input before number)) higher)) at _ _
-    ∙ checked_same (shape_fault input before (wide_of (ink_box_of (matched_in input before number)) wider) (high_of (ink_box_of (matched_in input before number)) higher)) at _ _ (λ at.
+    then_checked (shape_fault input before (wide_of (ink_box_of (matched_in input before number)) wider)
+    (high_of (ink_box_of (matched_in input before number)) higher)) at _ _
+    ∙ checked_same (shape_fault input before (wide_of (ink_box_of (matched_in input before number)) wider)
+    (high_of (ink_box_of (matched_in input before number)) higher)) at _ _ (λ at.
     then_same (read_refined input.chunk (matched_in input before number) _ _ at) _ _ (same number)))))
 
 pub copy_rest : (input : Input) (before : List Record) (at : Coder) →
     read_copy input before at ≡ from_match input before reference.Copy at
 copy_rest input before at =
-    then_same (read_match input before at) _ _ (λ number at. place_rest input before (matched_in input before number) (λ place. Copy (unsigned number) place) at)
+    then_same (read_match input before at) _ _ (λ number at. place_rest input before (matched_in input before number)
+    (λ place. Copy (unsigned number) place) at)
 
 pub plain_rest : (input : Input) (before : List Record) (at : Coder) → read_plain input before at ≡ from_own_width input before use_of.Plain at
 plain_rest input before at = own_rest input before use_of.Plain _ at (λ shape at. refl)

@@ -1,10 +1,9 @@
 -- What a step comes to: where it begins, and what a record that was read leaves.
-use Rattle.std.proofs.Common.{◌≡◌, ◌≤◌, ◌<◌, ◌+◌, ◌-◌, ℕ, suc, ℤ, ◌≤ℤ◌, pos, Bool, true, false, List, [], ◌∷◌, length, refl, sym, ap, subst, ◌∙◌, arith}
+use Rattle.std.proofs.Common.{◌≡◌, ◌≤◌, ◌<◌, ◌-◌, ℕ, suc, ℤ, ◌≤ℤ◌, pos, Bool, true, false, List, [], ◌∷◌, length, refl, sym, ap, subst, ◌∙◌, arith}
 use Rattle.std.specs.Prelude.{Option, Some, None, Result, Ok, Err, IfOk}
-use Rattle.djvu_base.specs.Meter.{ticked, ticked_once, TicksExactly}
+use Rattle.djvu_base.specs.Meter.{ticked_once, TicksExactly}
 use Rattle.djvu_base.proofs.Ticks.{ticks_next}
 use Rattle.zp_decoder.specs.Runs.{room}
-use Rattle.zp_decoder.specs.Chunk.{Chunk}
 use Rattle.bit_plane.specs.Pixels.{Pixels}
 use Rattle.bit_plane.specs.Ink.{unsigned}
 use Rattle.jb2_numbers.specs.Reader.{Reader, Reads, AreBounds, IsUnderway}
@@ -30,23 +29,23 @@ use Rattle.jb2_records.specs.declared.machine.Machine.{Machine}
 use Rattle.jb2_records.specs.declared.types.RecordType.{RecordType}
 use Rattle.jb2_records.specs.declared.types.RecordType.TheVariants as type
 use Rattle.jb2_records.specs.declared.reader.Jb2Step.TheVariants as answer
-use Rattle.jb2_records.specs.Records.{Record, End, MarkBoth, MarkLibrary, MarkImage, RefineBoth, RefineLibrary, RefineImage, Comment, is_end, is_started, image_size, library, shape_at}
+use Rattle.jb2_records.specs.Records.{Record, MarkBoth, MarkImage, RefineBoth, RefineImage, Comment, is_end, is_started, image_size, shape_at}
 use Rattle.jb2_records.specs.Coding.{Coder, Read, Got, checked, read_number, read_flag, read_row, read_direct}
-use Rattle.jb2_records.specs.Reading.{Input, Outcome, outcome, start_fault, read_bytes, is_require_type, read_require, read_body, read_record, after_end, records_from, records_of, most_records}
+use Rattle.jb2_records.specs.Reading.{Input, start_fault, read_bytes, is_require_type, read_require, read_body, read_record, after_end, records_from, most_records}
 use Rattle.jb2_shapes.specs.Shape.{Sketch, empty_sketch}
 use Rattle.jb2_shapes.specs.Refined.{Refinement}
 use Rattle.jb2_records.specs.Growth.{IsSound}
-use Rattle.jb2_records.specs.Taking.{Becomes, stays, room_of}
+use Rattle.jb2_records.specs.Taking.{room_of}
 use Rattle.jb2_records.specs.Telling.{Parts, IsReady, Stands, Comes, Goes, GoesShape, HalfNumber, HalfShape}
 use Rattle.jb2_records.specs.Library.{Library, shapes_of, Keeps}
 use Rattle.jb2_records.specs.Picture.{Picture, Draws, draws_nothing}
 use Rattle.jb2_records.specs.Steps.{from_matched, from_number, from_dx, from_shape, from_own, from_start, root_of, low_of, most_of, shape_of, record_of, behind, rest_of}
-use Rattle.jb2_records.specs.Machine.{with_chunk, reads_on, Follows, Continues, Waits, Holds, HaltsAt, Stays, Adds, Answers, Finishes, wanted_at, number_rank, field_rank, rank_of, measure_of, IsBelow, halt_of, Fits, HaltFits, IsLater, HasPicture, FieldFits, IsPictured, width_of, height_of, high_at, first_field}
-use Rattle.jb2_records.proofs.Adding.{keeps_shapes, keeps_comment, keeps_end, shows_on, blank_on}
+use Rattle.jb2_records.specs.Machine.{with_chunk, reads_on, Follows, Continues, Waits, Holds, HaltsAt, Stays, Adds, Answers, wanted_at, number_rank, field_rank, rank_of, measure_of, IsBelow, halt_of, Fits, HaltFits, IsLater, HasPicture, FieldFits, width_of, height_of, high_at, first_field}
+use Rattle.jb2_records.proofs.Adding.{keeps_shapes, keeps_comment, shows_on, blank_on}
 use Rattle.jb2_records.proofs.Ending.{same_count}
 use Rattle.jb2_records.proofs.Resting.{own_rest, refined_rest, copy_rest, plain_rest, place_rest}
 use Rattle.jb2_records.proofs.Suspending.{sound_becomes, along, answered, waiting, number_reaches, flag_reaches, row_reaches, direct_reaches, asked_halts, refused}
-use Rattle.jb2_records.proofs.Waiting.{number_begins, shape_begins, underway}
+use Rattle.jb2_records.proofs.Waiting.{number_begins, shape_begins}
 
 -- bounds of numbers by what library and picture are
 width_is : (input : Input) (before : List Record) (picture : Option Picture) → HasPicture picture → Draws input before picture →
@@ -54,14 +53,16 @@ width_is : (input : Input) (before : List Record) (picture : Option Picture) →
 width_is input before None has draws = absurd has
 width_is input before (Some picture) has draws = (ap (λ (e : _). pos e.width) draws.size, ap (λ (e : _). pos e.height) draws.size)
 
-pub most_is : (input : Input) (before : List Record) (shapes : Library) (picture : Option Picture) (place : Field) → FieldFits place shapes picture → Keeps input before shapes → Draws input before picture →
+most_is : (input : Input) (before : List Record) (shapes : Library) (picture : Option Picture) (place : Field) → FieldFits place shapes picture →
+    Keeps input before shapes → Draws input before picture →
     most_of input.inherited before place ≡ high_at place shapes picture
 most_is input before shapes picture field.Kind fits keeps draws = refl
 most_is input before shapes picture field.StartWidth fits keeps draws = refl
 most_is input before shapes picture (field.StartHeight width) fits keeps draws = refl
 most_is input before shapes picture (field.OwnWidth kept) fits keeps draws = refl
 most_is input before shapes picture (field.OwnHeight kept width) fits keeps draws = refl
-most_is input before shapes picture (field.Match goal) fits keeps draws = ap (λ (l : List Pixels). pos (length l - 1)) (sym (keeps_shapes input before shapes keeps))
+most_is input before shapes picture (field.Match goal) fits keeps draws = ap (λ (l : List Pixels). pos (length l - 1))
+    (sym (keeps_shapes input before shapes keeps))
 most_is input before shapes picture (field.BesideWidth kept number) fits keeps draws = refl
 most_is input before shapes picture (field.BesideHeight kept number wider) fits keeps draws = refl
 most_is input before shapes picture (field.Dx moved is_new) fits keeps draws = refl
@@ -78,11 +79,13 @@ next_from : (input : Input) (before : List Record) (at : Coder) → IsSound inpu
     records_from (most_records input.chunk.payload) input before at ≡ reads_on input before (read_record input before at)
 unfolding most_records
 next_from input before at sound less =
-    same_count input (suc (room input.chunk.payload None)) (suc (suc (room input.chunk.payload None))) before at sound (omega (arith, less)) (omega (arith, less))
+    same_count input (suc (room input.chunk.payload None)) (suc (suc (room input.chunk.payload None))) before at sound (omega (arith, less))
+    (omega (arith, less))
 
 -- a record was read, and the next one follows
 pub next_stays : (input : Input) (machine : Machine) (units : ℕ) → Adds input machine → units ≡ ticked_once machine.units →
-    Continues input (λ later before text at. from_number later before text field.Kind at) (λ before at. Stands input.chunk at machine.coder) machine.library machine.picture units
+    Continues input (λ later before text at. from_number later before text field.Kind at)
+    (λ before at. Stands input.chunk at machine.coder) machine.library machine.picture units
 unfolding behind
 next_stays input machine units adds next = record {
   before = adds.entry ∷ adds.before;
@@ -92,8 +95,10 @@ next_stays input machine units adds next = record {
   goes = λ later becomes.
       let was : Follows (with_chunk input later) adds.before adds.at (Got adds.entry adds.at) = adds.goes later becomes in
       record {
-        same = was.same ∙ ap (λ (b : Bool). after_end b (adds.entry ∷ adds.before) adds.at (λ records at. records_from (most_records later.payload) (with_chunk input later) records at)) adds.others
-            ∙ next_from (with_chunk input later) (adds.entry ∷ adds.before) adds.at (sound_becomes input.chunk later adds.at becomes adds.stands.sound) was.less;
+        same = was.same ∙ ap (λ (b : Bool). after_end b (adds.entry ∷ adds.before) adds.at
+            (λ records at. records_from (most_records later.payload) (with_chunk input later) records at)) adds.others
+            ∙ next_from (with_chunk input later) (adds.entry ∷ adds.before) adds.at
+            (sound_becomes input.chunk later adds.at becomes adds.stands.sound) was.less;
         less = was.less;
       };
   stands_there = adds.stands;
@@ -102,13 +107,15 @@ next_stays input machine units adds next = record {
   count = ticks_next (length adds.before) 0 machine.units units adds.count next;
 }
 
-pub draws_on : (input : Input) (before : List Record) (picture : Option Picture) (entry : Record) → draws_nothing entry ≡ true → Draws input before picture → Draws input (entry ∷ before) picture
+pub draws_on : (input : Input) (before : List Record) (picture : Option Picture) (entry : Record) → draws_nothing entry ≡ true →
+    Draws input before picture → Draws input (entry ∷ before) picture
 draws_on input before None entry none draws = blank_on input before entry none draws
 draws_on input before (Some picture) entry none draws = shows_on input before picture entry none draws
 
 -- what was read is kept and drawn
 pub adds_of : (input : Input) (old new : Machine) (entry : Record)
-    (c : Continues input (λ later before text at. Got entry at) (λ before at. Stands input.chunk at old.coder) old.library old.picture old.units) → new.coder ≡ old.coder → new.units ≡ old.units →
+    (c : Continues input (λ later before text at. Got entry at) (λ before at. Stands input.chunk at old.coder) old.library old.picture old.units) →
+    new.coder ≡ old.coder → new.units ≡ old.units →
     Keeps input (entry ∷ c.before) new.library → Draws input (entry ∷ c.before) new.picture → is_end entry ≡ false → Adds input new
 adds_of input old new entry c coder units keeps draws others = record {
   before = c.before;
@@ -122,24 +129,6 @@ adds_of input old new entry c coder units keeps draws others = record {
   others = others;
 }
 
--- the end
-pub end_finishes : (input : Input) (old new : Machine) (c : Continues input (λ later before text at. Got End at) (λ before at. Stands input.chunk at old.coder) old.library old.picture old.units) →
-    new.coder ≡ old.coder → new.library ≡ old.library → new.picture ≡ old.picture → new.units ≡ ticked_once old.units → Finishes input new
-end_finishes input old new c coder same_library same_picture units =
-    let now : Follows (with_chunk input input.chunk) c.before c.at (Got End c.at) = c.goes input.chunk (stays refl) in
-    let is : records_of input ≡ outcome answer.Finished (End ∷ c.before) c.at.decisions = now.same in
-    record {
-      answers = record {
-        same = ap (λ (o : Outcome). o.answer) is;
-        units = ticks_next (length c.before) 0 old.units new.units c.count units ∙ ap (λ (o : Outcome). ticked (length o.records) 0) (sym is);
-        decisions = ap (λ (p : Parts). p.count) coder ∙ c.stands_there.count ∙ ap (λ (o : Outcome). ticked o.decisions 0) (sym is);
-      };
-      keeps = subst (λ (l : Library). Keeps input (records_of input).records l) (sym same_library)
-          (subst (λ (o : Outcome). Keeps input o.records old.library) (sym is) (keeps_end input c.before old.library c.keeps));
-      draws = subst (λ (p : Option Picture). Draws input (records_of input).records p) (sym same_picture)
-          (subst (λ (o : Outcome). Draws input o.records old.picture) (sym is) (draws_on input c.before old.picture End refl c.draws));
-    }
-
 -- ---- behind a type
 
 same_field : {A : Type 0} (one : A) (a b : Field) (rest : Field → A) → Some a ≡ Some b → one ≡ rest a → one ≡ rest b
@@ -148,7 +137,8 @@ same_field one a b rest is same = let e : a ≡ b = cc in same ∙ ap rest e
 pub body_rest : (input : Input) (before : List Record) (text : List ℕ) (kind : RecordType) (place : Field) (at : Coder) → first_field kind ≡ Some place →
     (is_require_type kind ≡ true → is_started before ≡ false) → read_body input before kind at ≡ from_number input before text place at
 unfolding behind
-body_rest input before text type.Start place at is unstarted = same_field (read_body input before type.Start at) field.StartWidth place (λ p. from_number input before text p at) is refl
+body_rest input before text type.Start place at is unstarted = same_field (read_body input before type.Start at) field.StartWidth place
+    (λ p. from_number input before text p at) is refl
 body_rest input before text type.MarkBoth place at is unstarted =
     same_field (read_body input before type.MarkBoth at) (field.OwnWidth use_of.Both) place (λ p. from_number input before text p at) is
     (own_rest input before use_of.Both _ at (λ shape at. place_rest input before shape (λ place. MarkBoth shape place) at))
@@ -162,37 +152,48 @@ body_rest input before text type.RefineBoth place at is unstarted =
     same_field (read_body input before type.RefineBoth at) (field.Match (reference.Refine use_of.Both)) place (λ p. from_number input before text p at) is
     (refined_rest input before use_of.Both _ at (λ number shape at. place_rest input before shape (λ place. RefineBoth (unsigned number) shape place) at))
 body_rest input before text type.RefineLibrary place at is unstarted =
-    same_field (read_body input before type.RefineLibrary at) (field.Match (reference.Refine use_of.Library)) place (λ p. from_number input before text p at) is
+    same_field (read_body input before type.RefineLibrary at) (field.Match (reference.Refine use_of.Library)) place
+    (λ p. from_number input before text p at) is
     (refined_rest input before use_of.Library _ at (λ number shape at. refl))
 body_rest input before text type.RefineImage place at is unstarted =
     same_field (read_body input before type.RefineImage at) (field.Match (reference.Refine use_of.Image)) place (λ p. from_number input before text p at) is
     (refined_rest input before use_of.Image _ at (λ number shape at. place_rest input before shape (λ place. RefineImage (unsigned number) shape place) at))
 body_rest input before text type.Copy place at is unstarted =
-    same_field (read_body input before type.Copy at) (field.Match reference.Copy) place (λ p. from_number input before text p at) is (copy_rest input before at)
+    same_field (read_body input before type.Copy at) (field.Match reference.Copy) place (λ p. from_number input before text p at) is
+    (copy_rest input before at)
 body_rest input before text type.Plain place at is unstarted =
-    same_field (read_body input before type.Plain at) (field.OwnWidth use_of.Plain) place (λ p. from_number input before text p at) is (plain_rest input before at)
+    same_field (read_body input before type.Plain at) (field.OwnWidth use_of.Plain) place (λ p. from_number input before text p at) is
+    (plain_rest input before at)
 body_rest input before text type.Require place at is unstarted =
-    same_field (read_body input before type.Require at) field.InheritedCount place (λ p. from_number input before text p at) is (ap (λ (b : Bool). read_require input b at) (unstarted refl))
-body_rest input before text type.Comment place at is unstarted = same_field (read_body input before type.Comment at) field.CommentLength place (λ p. from_number input before text p at) is refl
+    same_field (read_body input before type.Require at) field.InheritedCount place (λ p. from_number input before text p at) is
+    (ap (λ (b : Bool). read_require input b at) (unstarted refl))
+body_rest input before text type.Comment place at is unstarted = same_field (read_body input before type.Comment at) field.CommentLength place
+    (λ p. from_number input before text p at) is refl
 body_rest input before text type.End place at is unstarted = absurd (cc)
 
 -- ---- behind a number
 
-pub at_field : (input : Input) (place other : Field) (value : ℤ) (machine : Machine) → place ≡ other → Stays input (λ later before text at. behind later before text place value at) machine →
+pub at_field : (input : Input) (place other : Field) (value : ℤ) (machine : Machine) → place ≡ other → Stays input
+    (λ later before text at. behind later before text place value at) machine →
     Stays input (λ later before text at. behind later before text other value at) machine
-at_field input place other value machine same c = subst (λ (f : Field). Stays input (λ later before text at. behind later before text f value at) machine) same c
+at_field input place other value machine same c = subst (λ (f : Field). Stays input
+    (λ later before text at. behind later before text f value at) machine) same c
 
 -- a number was read
 pub number_stays : (input : Input) (place : Field) (reader : Reader) (old : Machine) (parts : Parts) (value : ℤ) →
-    (holds : Holds input (step.Number place reader) old) → Comes input.chunk (read_number input.chunk (root_of place) (low_of place) (most_of input.inherited holds.before place) holds.at) value parts →
+    (holds : Holds input (step.Number place reader) old) → Comes input.chunk
+    (read_number input.chunk (root_of place) (low_of place) (most_of input.inherited holds.before place) holds.at) value parts →
     Stays input (λ later before text at. behind later before text place value at) (record old { coder = parts })
 unfolding rest_of
 number_stays input place reader old parts value holds came =
-    answered input (λ later before at. read_number later.chunk (root_of place) (low_of place) (most_of later.inherited before place) at) (λ later before text value at. behind later before text place value at)
+    answered input (λ later before at. read_number later.chunk (root_of place) (low_of place) (most_of later.inherited before place) at)
+    (λ later before text value at. behind later before text place value at)
     (λ before at. Waits input (step.Number place reader) old.coder before at) old.library old.picture old.units value parts holds came
-    (λ later becomes. number_reaches input.chunk (root_of place) (low_of place) (most_of input.inherited holds.before place) value holds.at came.next holds.sound came.got later becomes)
+    (λ later becomes. number_reaches input.chunk (root_of place) (low_of place)
+    (most_of input.inherited holds.before place) value holds.at came.next holds.sound came.got later becomes)
 
-pub number_halts : (input : Input) (place : Field) (first last : Reader) (old : Machine) (parts : Parts) (halts : Stop) (result : Halt) → result ≡ halt_of halts (step.Number place last) →
+pub number_halts : (input : Input) (place : Field) (first last : Reader) (old : Machine) (parts : Parts) (halts : Stop) (result : Halt) →
+    result ≡ halt_of halts (step.Number place last) →
     (holds : Holds input (step.Number place first) old) →
     Goes (λ (n : ℤ). n) input.chunk (read_number input.chunk (root_of place) (low_of place) (most_of input.inherited holds.before place) holds.at)
     (HalfNumber input.chunk (root_of place) (low_of place) (most_of input.inherited holds.before place) holds.at last parts) (Err halts) parts →
@@ -200,52 +201,70 @@ pub number_halts : (input : Input) (place : Field) (first last : Reader) (old : 
 unfolding rest_of
 number_halts input place first last old parts halts result is holds goes =
     subst (λ (h : Halt). HaltsAt input h (record old { coder = parts })) (sym is)
-    (asked_halts (λ (n : ℤ). n) input (step.Number place last) (record old { coder = parts }) (λ before at. Waits input (step.Number place first) old.coder before at)
-    (read_number input.chunk (root_of place) (low_of place) (most_of input.inherited holds.before place) holds.at) (λ value at. behind input holds.before holds.text place value at) halts holds refl goes)
+    (asked_halts (λ (n : ℤ). n) input (step.Number place last) (record old { coder = parts })
+    (λ before at. Waits input (step.Number place first) old.coder before at)
+    (read_number input.chunk (root_of place) (low_of place) (most_of input.inherited holds.before place) holds.at)
+    (λ value at. behind input holds.before holds.text place value at) halts holds refl goes)
 
 -- bits
-pub flag_stays : (input : Input) (width height : ℤ) (old : Machine) (parts : Parts) (value : Bool) → (holds : Holds input (step.Flag width height) old) → Comes input.chunk (read_flag input.chunk holds.at) value parts →
-    Stays input (λ later before text at. checked (start_fault later.purpose width height) at (λ at. from_start width height value at)) (record old { coder = parts })
+pub flag_stays : (input : Input) (width height : ℤ) (old : Machine) (parts : Parts) (value : Bool) →
+    (holds : Holds input (step.Flag width height) old) → Comes input.chunk (read_flag input.chunk holds.at) value parts →
+    Stays input (λ later before text at. checked (start_fault later.purpose width height) at (λ at. from_start width height value at))
+    (record old { coder = parts })
 unfolding rest_of
 flag_stays input width height old parts value holds came =
-    answered input (λ later before at. read_flag later.chunk at) (λ later before text flag at. checked (start_fault later.purpose width height) at (λ at. from_start width height flag at))
+    answered input (λ later before at. read_flag later.chunk at) (λ later before text flag at. checked (start_fault later.purpose width height) at
+    (λ at. from_start width height flag at))
     (λ before at. Waits input (step.Flag width height) old.coder before at) old.library old.picture old.units value parts holds came
     (λ later becomes. flag_reaches input.chunk value holds.at came.next holds.sound came.got later becomes)
 
-pub flag_halts : (input : Input) (width height : ℤ) (old : Machine) (parts : Parts) (halts : Stop) (result : Halt) → result ≡ halt_of halts (step.Flag width height) → (holds : Holds input (step.Flag width height) old) →
-    Goes (λ (b : Bool). b) input.chunk (read_flag input.chunk holds.at) (Stands input.chunk holds.at parts) (Err halts) parts → HaltsAt input result (record old { coder = parts })
+pub flag_halts : (input : Input) (width height : ℤ) (old : Machine) (parts : Parts) (halts : Stop) (result : Halt) → result ≡ halt_of halts
+    (step.Flag width height) → (holds : Holds input (step.Flag width height) old) →
+    Goes (λ (b : Bool). b) input.chunk (read_flag input.chunk holds.at) (Stands input.chunk holds.at parts) (Err halts) parts → HaltsAt input result
+    (record old { coder = parts })
 unfolding rest_of
 flag_halts input width height old parts halts result is holds goes =
     subst (λ (h : Halt). HaltsAt input h (record old { coder = parts })) (sym is)
-    (asked_halts (λ (b : Bool). b) input (step.Flag width height) (record old { coder = parts }) (λ before at. Waits input (step.Flag width height) old.coder before at)
-    (read_flag input.chunk holds.at) (λ flag at. checked (start_fault input.purpose width height) at (λ at. from_start width height flag at)) halts holds refl goes)
+    (asked_halts (λ (b : Bool). b) input (step.Flag width height) (record old { coder = parts })
+    (λ before at. Waits input (step.Flag width height) old.coder before at)
+    (read_flag input.chunk holds.at) (λ flag at. checked (start_fault input.purpose width height) at
+    (λ at. from_start width height flag at)) halts holds refl goes)
 
-pub row_stays : (input : Input) (moved : Mark) (old : Machine) (parts : Parts) (value : Bool) → (holds : Holds input (step.Row moved) old) → Comes input.chunk (read_row input.chunk holds.at) value parts →
+pub row_stays : (input : Input) (moved : Mark) (old : Machine) (parts : Parts) (value : Bool) → (holds : Holds input (step.Row moved) old) →
+    Comes input.chunk (read_row input.chunk holds.at) value parts →
     Stays input (λ later before text at. from_number later before text (field.Dx moved value) at) (record old { coder = parts })
 unfolding rest_of behind
 row_stays input moved old parts value holds came =
-    answered input (λ later before at. read_row later.chunk at) (λ later before text is_new at. from_dx later before (shape_of later before moved) (λ place. record_of moved place) is_new at)
+    answered input (λ later before at. read_row later.chunk at) (λ later before text is_new at. from_dx later before (shape_of later before moved)
+    (λ place. record_of moved place) is_new at)
     (λ before at. Waits input (step.Row moved) old.coder before at) old.library old.picture old.units value parts holds came
     (λ later becomes. row_reaches input.chunk value holds.at came.next holds.sound came.got later becomes)
 
-pub row_halts : (input : Input) (moved : Mark) (old : Machine) (parts : Parts) (halts : Stop) (result : Halt) → result ≡ halt_of halts (step.Row moved) → (holds : Holds input (step.Row moved) old) →
-    Goes (λ (b : Bool). b) input.chunk (read_row input.chunk holds.at) (Stands input.chunk holds.at parts) (Err halts) parts → HaltsAt input result (record old { coder = parts })
+pub row_halts : (input : Input) (moved : Mark) (old : Machine) (parts : Parts) (halts : Stop) (result : Halt) → result ≡ halt_of halts
+    (step.Row moved) → (holds : Holds input (step.Row moved) old) →
+    Goes (λ (b : Bool). b) input.chunk (read_row input.chunk holds.at) (Stands input.chunk holds.at parts) (Err halts) parts → HaltsAt input result
+    (record old { coder = parts })
 unfolding rest_of
 row_halts input moved old parts halts result is holds goes =
     subst (λ (h : Halt). HaltsAt input h (record old { coder = parts })) (sym is)
     (asked_halts (λ (b : Bool). b) input (step.Row moved) (record old { coder = parts }) (λ before at. Waits input (step.Row moved) old.coder before at)
-    (read_row input.chunk holds.at) (λ is_new at. from_dx input holds.before (shape_of input holds.before moved) (λ place. record_of moved place) is_new at) halts holds refl goes)
+    (read_row input.chunk holds.at) (λ is_new at. from_dx input holds.before (shape_of input holds.before moved)
+    (λ place. record_of moved place) is_new at) halts holds refl goes)
 
 -- shapes
-pub direct_holds : (input : Input) (kept : Use) (reader : Sketch) (shape : Pixels) (old : Machine) (parts : Parts) → (holds : Holds input (step.Direct kept reader) old) →
-    Comes input.chunk (read_direct input.chunk reader.shape.width reader.shape.height holds.at) shape parts → Holds input (step.Shape origin.Own kept shape) (record old { coder = parts })
+pub direct_holds : (input : Input) (kept : Use) (reader : Sketch) (shape : Pixels) (old : Machine) (parts : Parts) →
+    (holds : Holds input (step.Direct kept reader) old) →
+    Comes input.chunk (read_direct input.chunk reader.shape.width reader.shape.height holds.at) shape parts → Holds input
+    (step.Shape origin.Own kept shape) (record old { coder = parts })
 unfolding rest_of
 direct_holds input kept reader shape old parts holds came =
-    answered input (λ later before at. read_direct later.chunk reader.shape.width reader.shape.height at) (λ later before text shape at. from_shape later before origin.Own kept shape at)
+    answered input (λ later before at. read_direct later.chunk reader.shape.width reader.shape.height at)
+    (λ later before text shape at. from_shape later before origin.Own kept shape at)
     (λ before at. Waits input (step.Direct kept reader) old.coder before at) old.library old.picture old.units shape parts holds came
     (λ later becomes. direct_reaches input.chunk reader.shape.width reader.shape.height shape holds.at came.next holds.sound came.got later becomes)
 
-sized : (input : Input) (kept : Use) (last : Sketch) (waits : List Record → Coder → Type 0) (old : Machine) (parts : Parts) (halts : Stop) (width height : ℕ) → width ≡ last.shape.width → height ≡ last.shape.height →
+sized : (input : Input) (kept : Use) (last : Sketch) (waits : List Record → Coder → Type 0) (old : Machine) (parts : Parts) (halts : Stop)
+    (width height : ℕ) → width ≡ last.shape.width → height ≡ last.shape.height →
     (c : Continues input (λ later before text at. from_own later before kept width height at) waits old.library old.picture old.units) →
     GoesShape input.chunk last.shape (read_direct input.chunk width height c.at) (HalfShape input.chunk None width height c.at last parts) (Err halts) parts →
     HaltsAt input (halt_of halts (step.Direct kept last)) (record old { coder = parts })
@@ -254,42 +273,52 @@ sized input kept last waits old parts halts width height columns rows =
     subst (λ (h : ℕ). (c : Continues input (λ later before text at. from_own later before kept width h at) waits old.library old.picture old.units) →
     GoesShape input.chunk last.shape (read_direct input.chunk width h c.at) (HalfShape input.chunk None width h c.at last parts) (Err halts) parts →
     HaltsAt input (halt_of halts (step.Direct kept last)) (record old { coder = parts })) (sym rows)
-    (subst (λ (w : ℕ). (c : Continues input (λ later before text at. from_own later before kept w last.shape.height at) waits old.library old.picture old.units) →
-    GoesShape input.chunk last.shape (read_direct input.chunk w last.shape.height c.at) (HalfShape input.chunk None w last.shape.height c.at last parts) (Err halts) parts →
+    (subst (λ (w : ℕ).
+    (c : Continues input (λ later before text at. from_own later before kept w last.shape.height at) waits old.library old.picture old.units) →
+    GoesShape input.chunk last.shape (read_direct input.chunk w last.shape.height c.at)
+    (HalfShape input.chunk None w last.shape.height c.at last parts) (Err halts) parts →
     HaltsAt input (halt_of halts (step.Direct kept last)) (record old { coder = parts })) (sym columns)
     (λ c goes. asked_halts (λ (u : Unit {0}). last.shape) input (step.Direct kept last) (record old { coder = parts }) waits
     (read_direct input.chunk last.shape.width last.shape.height c.at) (λ shape at. from_shape input c.before origin.Own kept shape at) halts c refl goes))
 
-pub direct_halts : (input : Input) (kept : Use) (width height : ℕ) (last : Sketch) (waits : List Record → Coder → Type 0) (old : Machine) (parts : Parts) (halts : Stop) (result : Halt) → result ≡ halt_of halts (step.Direct kept last) →
+pub direct_halts : (input : Input) (kept : Use) (width height : ℕ) (last : Sketch) (waits : List Record → Coder → Type 0) (old : Machine)
+    (parts : Parts) (halts : Stop) (result : Halt) → result ≡ halt_of halts (step.Direct kept last) →
     width ≡ last.shape.width → height ≡ last.shape.height →
     (c : Continues input (λ later before text at. from_own later before kept width height at) waits old.library old.picture old.units) →
-    GoesShape input.chunk last.shape (read_direct input.chunk width height c.at) (HalfShape input.chunk None width height c.at last parts) (Err halts) parts → HaltsAt input result (record old { coder = parts })
+    GoesShape input.chunk last.shape (read_direct input.chunk width height c.at) (HalfShape input.chunk None width height c.at last parts)
+    (Err halts) parts → HaltsAt input result (record old { coder = parts })
 unfolding rest_of
 direct_halts input kept width height last waits old parts halts result is columns rows c goes =
     subst (λ (h : Halt). HaltsAt input h (record old { coder = parts })) (sym is)
     (sized input kept last waits old parts halts width height columns rows c goes)
 
 -- a shape is in step with what its reader begins
-pub shape_begun : (input : Input) (kept : Use) (width height : ℕ) (reader : Sketch) (machine : Machine) → IsReady machine.coder → reader ≡ empty_sketch width height → Holds input (step.Own kept width height) machine →
+pub shape_begun : (input : Input) (kept : Use) (width height : ℕ) (reader : Sketch) (machine : Machine) → IsReady machine.coder →
+    reader ≡ empty_sketch width height → Holds input (step.Own kept width height) machine →
     Holds input (step.Direct kept reader) machine
 unfolding rest_of
 shape_begun input kept width height reader machine ready is holds =
     subst (λ (r : Sketch). Holds input (step.Direct kept r) machine) (sym is)
-    (waiting input (λ later before text at. rest_of later before text (step.Own kept width height) at) (λ before at. Waits input (step.Own kept width height) machine.coder before at)
+    (waiting input (λ later before text at. rest_of later before text (step.Own kept width height) at)
+    (λ before at. Waits input (step.Own kept width height) machine.coder before at)
     (λ before at. Waits input (step.Direct kept (empty_sketch width height)) machine.coder before at) machine.library machine.picture machine.units holds
     (shape_begins input.chunk None width height holds.at machine.coder ready holds.stands_there))
 
 pub refined_begun : (input : Input) (kept : Use) (number width height : ℕ) (reader : Refinement) (machine : Machine) → IsReady machine.coder →
-    reader ≡ record { matched = shape_at (shapes_of machine.library) number; sketch = empty_sketch width height } → Holds input (step.Beside kept number width height) machine →
+    reader ≡ record { matched = shape_at (shapes_of machine.library) number; sketch = empty_sketch width height } → Holds input
+    (step.Beside kept number width height) machine →
     Holds input (step.Refined kept number reader) machine
 unfolding rest_of
 refined_begun input kept number width height reader machine ready is holds =
     let matched : Pixels = shape_at (shapes_of machine.library) number in
     subst (λ (r : Refinement). Holds input (step.Refined kept number r) machine) (sym is)
-    (waiting input (λ later before text at. rest_of later before text (step.Beside kept number width height) at) (λ before at. Waits input (step.Beside kept number width height) machine.coder before at)
-    (λ before at. Waits input (step.Refined kept number (record { matched = matched; sketch = empty_sketch width height })) machine.coder before at) machine.library machine.picture machine.units holds
-    (shape_begins input.chunk (Some matched) width height holds.at machine.coder ready holds.stands_there,
-    ap (λ (l : List Pixels). shape_at l number) (keeps_shapes input holds.before machine.library holds.keeps)))
+    (waiting input (λ later before text at. rest_of later before text (step.Beside kept number width height) at)
+    (λ before at. Waits input (step.Beside kept number width height) machine.coder before at)
+    (λ before at. Waits input (step.Refined kept number
+    (record { matched = matched; sketch = empty_sketch width height })) machine.coder before at) machine.library machine.picture machine.units holds (
+      shape_begins input.chunk (Some matched) width height holds.at machine.coder ready holds.stands_there,
+      ap (λ (l : List Pixels). shape_at l number) (keeps_shapes input holds.before machine.library holds.keeps),
+    ))
 
 -- what a halt leaves
 halt_fits : (halts : Stop) (at : Step) (shapes : Library) (picture : Option Picture) → Fits at shapes picture → HaltFits (halt_of halts at) shapes picture
@@ -297,22 +326,31 @@ halt_fits stop.NeedBytes at shapes picture fits = fits
 halt_fits (stop.Refused kind) at shapes picture fits = tt
 halt_fits stop.OutOfMemory at shapes picture fits = fits
 
-pub halted_fits : (halts : Stop) (at : Step) (shapes : Library) (picture : Option Picture) (result : Halt) → result ≡ halt_of halts at → Fits at shapes picture → HaltFits result shapes picture
+pub halted_fits : (halts : Stop) (at : Step) (shapes : Library) (picture : Option Picture) (result : Halt) → result ≡ halt_of halts at →
+    Fits at shapes picture → HaltFits result shapes picture
 halted_fits halts at shapes picture result is fits = subst (λ (h : Halt). HaltFits h shapes picture) (sym is) (halt_fits halts at shapes picture fits)
 
-pub later_coder : (old new : Machine) (parts : Parts) → old.coder.count ≤ parts.count → room_of parts.unread parts.zp ≤ room_of old.coder.unread old.coder.zp → parts.zp.table ≡ old.coder.zp.table → parts.unread.ended ≡ old.coder.unread.ended → IsLater (record old { coder = parts }) new → IsLater old new
-later_coder old new parts more less table ended (count, units, room, same_table, same_ended, inherited, purpose) = (omega (arith, more, count), units, omega (arith, less, room), same_table ∙ table, same_ended ∙ ended, inherited, purpose)
+pub later_coder : (old new : Machine) (parts : Parts) → old.coder.count ≤ parts.count →
+    room_of parts.unread parts.zp ≤ room_of old.coder.unread old.coder.zp → parts.zp.table ≡ old.coder.zp.table →
+    parts.unread.ended ≡ old.coder.unread.ended → IsLater (record old { coder = parts }) new → IsLater old new
+later_coder old new parts more less table ended (count, units, room, same_table, same_ended, inherited, purpose) =
+    (omega (arith, more, count), units, omega (arith, less, room), same_table ∙ table, same_ended ∙ ended, inherited, purpose)
 
-pub later_self : (old : Machine) (parts : Parts) → old.coder.count ≤ parts.count → room_of parts.unread parts.zp ≤ room_of old.coder.unread old.coder.zp → parts.zp.table ≡ old.coder.zp.table → parts.unread.ended ≡ old.coder.unread.ended → IsLater old (record old { coder = parts })
+pub later_self : (old : Machine) (parts : Parts) → old.coder.count ≤ parts.count →
+    room_of parts.unread parts.zp ≤ room_of old.coder.unread old.coder.zp → parts.zp.table ≡ old.coder.zp.table →
+    parts.unread.ended ≡ old.coder.unread.ended → IsLater old (record old { coder = parts })
 later_self old parts more less table ended = (more, omega arith, less, table, ended, refl, refl)
 
 -- a number is asked for
-pub asked_holds : (input : Input) (place : Field) (root : Root) (low high : ℤ) (reader : Reader) (machine : Machine) → IsReady machine.coder → FieldFits place machine.library machine.picture →
-    root ≡ root_of place → low ≡ low_of place → high ≡ high_at place machine.library machine.picture → AreBounds (low_of place) high → Reads (record { root = root; low = low; high = high }) [] reader →
+pub asked_holds : (input : Input) (place : Field) (root : Root) (low high : ℤ) (reader : Reader) (machine : Machine) → IsReady machine.coder →
+    FieldFits place machine.library machine.picture →
+    root ≡ root_of place → low ≡ low_of place → high ≡ high_at place machine.library machine.picture → AreBounds (low_of place) high → Reads
+    (record { root = root; low = low; high = high }) [] reader →
     Stays input (λ later before text at. from_number later before text place at) machine → Holds input (step.Number place reader) machine
 unfolding rest_of
 asked_holds input place root low high reader machine ready fits root_is low_is high_is bounds reads c =
-    let most : high ≡ most_of input.inherited c.before place = high_is ∙ sym (most_is input c.before machine.library machine.picture place fits c.keeps c.draws) in
+    let most : high ≡ most_of input.inherited c.before place = high_is ∙ sym
+    (most_is input c.before machine.library machine.picture place fits c.keeps c.draws) in
     let there : Reads (wanted (root_of place) (low_of place) (most_of input.inherited c.before place)) [] reader =
     subst (λ (h : ℤ). Reads (wanted (root_of place) (low_of place) h) [] reader) most
     (subst (λ (l : ℤ). Reads (wanted (root_of place) l high) [] reader) low_is (subst (λ (r : Root). Reads (wanted r low high) [] reader) root_is reads)) in
@@ -321,15 +359,6 @@ asked_holds input place root low high reader machine ready fits root_is low_is h
     (number_begins input.chunk (root_of place) (low_of place) (most_of input.inherited c.before place) c.at reader machine.coder ready
     (subst (λ (h : ℤ). AreBounds (low_of place) h) most bounds) there c.stands_there)
 
-pub asked_fits : (place : Field) (root : Root) (low high : ℤ) (reader : Reader) (shapes : Library) (picture : Option Picture) → IsPictured shapes picture → FieldFits place shapes picture →
-    root ≡ root_of place → low ≡ low_of place → high ≡ high_at place shapes picture → AreBounds (low_of place) high → Reads (record { root = root; low = low; high = high }) [] reader →
-    Fits (step.Number place reader) shapes picture
-asked_fits place root low high reader shapes picture pictured fits root_is low_is high_is bounds reads =
-    let there : Reads (wanted_at place shapes picture) [] reader =
-    subst (λ (h : ℤ). Reads (wanted (root_of place) (low_of place) h) [] reader) high_is
-    (subst (λ (l : ℤ). Reads (wanted (root_of place) l high) [] reader) low_is (subst (λ (r : Root). Reads (wanted r low high) [] reader) root_is reads)) in
-    (pictured, (record { fits = fits; bounds = subst (λ (h : ℤ). AreBounds (low_of place) h) high_is bounds }, underway (wanted_at place shapes picture) reader there))
-
 -- a number lies within its bounds, however it is passed on
 pub passed_low : (low value given : ℤ) → low ≤ℤ value → given ≡ value → low ≤ℤ given
 passed_low low value given is same = subst (λ (z : ℤ). low ≤ℤ z) (sym same) is
@@ -337,27 +366,37 @@ passed_low low value given is same = subst (λ (z : ℤ). low ≤ℤ z) (sym sam
 pub passed_high : (high value given : ℤ) → value ≤ℤ high → given ≡ value → given ≤ℤ high
 passed_high high value given is same = subst (λ (z : ℤ). z ≤ℤ high) (sym same) is
 
-pub at_value : (input : Input) (place : Field) (value given : ℤ) (machine : Machine) → given ≡ value → Stays input (λ later before text at. behind later before text place value at) machine →
+pub at_value : (input : Input) (place : Field) (value given : ℤ) (machine : Machine) → given ≡ value → Stays input
+    (λ later before text at. behind later before text place value at) machine →
     Stays input (λ later before text at. behind later before text place given at) machine
-at_value input place value given machine same c = subst (λ (z : ℤ). Stays input (λ later before text at. behind later before text place z at) machine) (sym same) c
+at_value input place value given machine same c = subst (λ (z : ℤ). Stays input (λ later before text at. behind later before text place z at) machine)
+    (sym same) c
 
 -- one is refused
-pub refused_by : (input : Input) (found : Input → List Record → Option FaultKind) (rest : Input → List Record → List ℕ → Coder → Read Record) (machine : Machine) (kind : FaultKind) (told : Option FaultKind) →
-    (c : Stays input (λ later before text at. checked (found later before) at (λ at. rest later before text at)) machine) → told ≡ Some kind → told ≡ found input c.before → Answers input (answer.Refused kind) machine
+pub refused_by : (input : Input) (found : Input → List Record → Option FaultKind) (rest : Input → List Record → List ℕ → Coder → Read Record)
+    (machine : Machine) (kind : FaultKind) (told : Option FaultKind) →
+    (c : Stays input (λ later before text at. checked (found later before) at (λ at. rest later before text at)) machine) → told ≡ Some kind →
+    told ≡ found input c.before → Answers input (answer.Refused kind) machine
 refused_by input found rest machine kind told c some is = refused input found rest machine kind c (sym is ∙ some)
 
-pub at_goal : (input : Input) (goal other : Reference) (number : ℕ) (machine : Machine) → goal ≡ other → Stays input (λ later before text at. from_matched later before goal number at) machine →
+pub at_goal : (input : Input) (goal other : Reference) (number : ℕ) (machine : Machine) → goal ≡ other → Stays input
+    (λ later before text at. from_matched later before goal number at) machine →
     Stays input (λ later before text at. from_matched later before other number at) machine
-at_goal input goal other number machine same c = subst (λ (g : Reference). Stays input (λ later before text at. from_matched later before g number at) machine) same c
+at_goal input goal other number machine same c = subst (λ (g : Reference). Stays input
+    (λ later before text at. from_matched later before g number at) machine) same c
 
-pub at_use : (input : Input) (made : Origin) (kept other : Use) (shape : Pixels) (machine : Machine) → kept ≡ other → Stays input (λ later before text at. from_shape later before made kept shape at) machine →
+pub at_use : (input : Input) (made : Origin) (kept other : Use) (shape : Pixels) (machine : Machine) → kept ≡ other → Stays input
+    (λ later before text at. from_shape later before made kept shape at) machine →
     Stays input (λ later before text at. from_shape later before made other shape at) machine
-at_use input made kept other shape machine same c = subst (λ (u : Use). Stays input (λ later before text at. from_shape later before made u shape at) machine) same c
+at_use input made kept other shape machine same c = subst (λ (u : Use). Stays input
+    (λ later before text at. from_shape later before made u shape at) machine) same c
 
-pub at_bytes : (input : Input) (count other : ℕ) (bytes : List ℕ → List ℕ) (machine : Machine) → count ≡ other → (c : Stays input (λ later before text at. read_bytes later.chunk count (bytes text) at) machine) →
+pub at_bytes : (input : Input) (count other : ℕ) (bytes : List ℕ → List ℕ) (machine : Machine) → count ≡ other →
+    (c : Stays input (λ later before text at. read_bytes later.chunk count (bytes text) at) machine) →
     Stays input (λ later before text at. read_bytes later.chunk other text at) machine
 at_bytes input count other bytes machine same c =
-    along input (λ later before text at. read_bytes later.chunk count (bytes text) at) (λ later before text at. read_bytes later.chunk other text at) (λ before at. Stands input.chunk at machine.coder)
+    along input (λ later before text at. read_bytes later.chunk count (bytes text) at) (λ later before text at. read_bytes later.chunk other text at)
+    (λ before at. Stands input.chunk at machine.coder)
     machine.library machine.picture machine.units c (bytes c.text) (λ later. ap (λ (n : ℕ). read_bytes later n (bytes c.text) c.at) same)
 
 -- no byte of a comment is left
@@ -376,18 +415,16 @@ text_adds input machine c = record {
 
 -- ---- how long it goes on
 
-pub shrinks_by : (at : Step) (old new : Machine) (rank : ℕ) (result : Result Step Halt) → IsLater old new → rank ≡ rank_of at → IsBelow rank result → IfOk result (λ next. measure_of next new.coder < measure_of at old.coder)
-shrinks_by at old new rank (Ok next) (count, units, less, table, ended, inherited, purpose) is below = omega (arith, less, is, below)
-shrinks_by at old new rank (Err halts) later is below = tt
-
 pub asked_rank : (place : Field) (reader : Reader) (kind : Wanted) → Reads kind [] reader → number_rank place reader.decisions ≡ number_rank place []
 unfolding Reads
 asked_rank place reader kind reads = ap (number_rank place) reads.1
 
-module _ (place : Field) (reader : Reader) (old : Machine) (parts : Parts) (new : Machine) (result : Result Step Halt) (less : room_of parts.unread parts.zp ≤ room_of old.coder.unread old.coder.zp)
+module _ (place : Field) (reader : Reader) (old : Machine) (parts : Parts) (new : Machine) (result : Result Step Halt)
+    (less : room_of parts.unread parts.zp ≤ room_of old.coder.unread old.coder.zp)
     (later : IsLater (record old { coder = parts }) new) (below : IsBelow (field_rank place) result) where
   -- the number ranks as its field does
-  ranked : (outcome : Result Step Halt) → outcome ≡ result → number_rank place reader.decisions ≡ field_rank place → IfOk outcome (λ next. measure_of next new.coder < measure_of (step.Number place reader) old.coder)
+  ranked : (outcome : Result Step Halt) → outcome ≡ result → number_rank place reader.decisions ≡ field_rank place → IfOk outcome
+      (λ next. measure_of next new.coder < measure_of (step.Number place reader) old.coder)
   ranked (Ok next) is same =
       let lower : rank_of next < field_rank place = subst (IsBelow (field_rank place)) (sym is) below in
       let fewer = later.2 in
@@ -395,7 +432,8 @@ module _ (place : Field) (reader : Reader) (old : Machine) (parts : Parts) (new 
   ranked (Err halts) is same = tt
 
   -- or leaves room for fewer decisions
-  roomy : (outcome : Result Step Halt) → outcome ≡ result → room_of parts.unread parts.zp < room_of old.coder.unread old.coder.zp → field_rank place ≤ 0x1_ffff_ffff →
+  roomy : (outcome : Result Step Halt) → outcome ≡ result → room_of parts.unread parts.zp < room_of old.coder.unread old.coder.zp →
+      field_rank place ≤ 0x1_ffff_ffff →
       IfOk outcome (λ next. measure_of next new.coder < measure_of (step.Number place reader) old.coder)
   roomy (Ok next) is strict few =
       let lower : rank_of next < field_rank place = subst (IsBelow (field_rank place)) (sym is) below in
@@ -403,29 +441,51 @@ module _ (place : Field) (reader : Reader) (old : Machine) (parts : Parts) (new 
       omega (arith, strict, fewer, lower, few)
   roomy (Err halts) is strict few = tt
 
-kind_shrinks : (reader : Reader) (decisions : List Bool) (old : Machine) (parts : Parts) (new : Machine) (result : Result Step Halt) → reader.decisions ≡ decisions → Reads (wanted root.RecordType (pos 0) (pos 11)) decisions reader →
-    room_of parts.unread parts.zp ≤ room_of old.coder.unread old.coder.zp → (Reads (wanted root.RecordType (pos 0) (pos 11)) [] reader → room_of parts.unread parts.zp < room_of old.coder.unread old.coder.zp) →
-    IsLater (record old { coder = parts }) new → IsBelow (field_rank field.Kind) result → IfOk result (λ next. measure_of next new.coder < measure_of (step.Number field.Kind reader) old.coder)
-kind_shrinks reader [] old parts new result is reads less falls later below = roomy field.Kind reader old parts new result less later below result refl (falls reads) (omega arith)
+kind_shrinks : (reader : Reader) (decisions : List Bool) (old : Machine) (parts : Parts) (new : Machine) (result : Result Step Halt) →
+    reader.decisions ≡ decisions → Reads (wanted root.RecordType (pos 0) (pos 11)) decisions reader →
+    room_of parts.unread parts.zp ≤ room_of old.coder.unread old.coder.zp →
+    (Reads (wanted root.RecordType (pos 0) (pos 11)) [] reader → room_of parts.unread parts.zp < room_of old.coder.unread old.coder.zp) →
+    IsLater (record old { coder = parts }) new → IsBelow (field_rank field.Kind) result → IfOk result
+    (λ next. measure_of next new.coder < measure_of (step.Number field.Kind reader) old.coder)
+kind_shrinks reader [] old parts new result is reads less falls later below = roomy field.Kind reader old parts new result less later below result refl
+    (falls reads) (omega arith)
 kind_shrinks reader (decision ∷ decisions) old parts new result is reads less falls later below =
     ranked field.Kind reader old parts new result less later below result refl (ap (number_rank field.Kind) is)
 
-pub number_shrinks : (place : Field) (reader : Reader) (shapes : Library) (picture : Option Picture) (old : Machine) (parts : Parts) (new : Machine) (result : Result Step Halt) → IsUnderway (wanted_at place shapes picture) reader →
-    room_of parts.unread parts.zp ≤ room_of old.coder.unread old.coder.zp → (Reads (wanted root.RecordType (pos 0) (pos 11)) [] reader → room_of parts.unread parts.zp < room_of old.coder.unread old.coder.zp) →
-    IsLater (record old { coder = parts }) new → IsBelow (field_rank place) result → IfOk result (λ next. measure_of next new.coder < measure_of (step.Number place reader) old.coder)
+pub number_shrinks : (place : Field) (reader : Reader) (shapes : Library) (picture : Option Picture) (old : Machine) (parts : Parts) (new : Machine)
+    (result : Result Step Halt) → IsUnderway (wanted_at place shapes picture) reader →
+    room_of parts.unread parts.zp ≤ room_of old.coder.unread old.coder.zp →
+    (Reads (wanted root.RecordType (pos 0) (pos 11)) [] reader → room_of parts.unread parts.zp < room_of old.coder.unread old.coder.zp) →
+    IsLater (record old { coder = parts }) new → IsBelow (field_rank place) result → IfOk result
+    (λ next. measure_of next new.coder < measure_of (step.Number place reader) old.coder)
 unfolding Reads
-number_shrinks field.Kind reader shapes picture old parts new result going less falls later below = kind_shrinks reader going.0 old parts new result going.1.0.1 going.1.0 less falls later below
-number_shrinks field.StartWidth reader shapes picture old parts new result going less falls later below = ranked field.StartWidth reader old parts new result less later below result refl refl
-number_shrinks (field.StartHeight width) reader shapes picture old parts new result going less falls later below = ranked (field.StartHeight width) reader old parts new result less later below result refl refl
-number_shrinks (field.OwnWidth kept) reader shapes picture old parts new result going less falls later below = ranked (field.OwnWidth kept) reader old parts new result less later below result refl refl
-number_shrinks (field.OwnHeight kept width) reader shapes picture old parts new result going less falls later below = ranked (field.OwnHeight kept width) reader old parts new result less later below result refl refl
-number_shrinks (field.Match goal) reader shapes picture old parts new result going less falls later below = ranked (field.Match goal) reader old parts new result less later below result refl refl
-number_shrinks (field.BesideWidth kept number) reader shapes picture old parts new result going less falls later below = ranked (field.BesideWidth kept number) reader old parts new result less later below result refl refl
-number_shrinks (field.BesideHeight kept number wider) reader shapes picture old parts new result going less falls later below = ranked (field.BesideHeight kept number wider) reader old parts new result less later below result refl refl
-number_shrinks (field.Dx moved is_new) reader shapes picture old parts new result going less falls later below = ranked (field.Dx moved is_new) reader old parts new result less later below result refl refl
-number_shrinks (field.Dy moved is_new dx) reader shapes picture old parts new result going less falls later below = ranked (field.Dy moved is_new dx) reader old parts new result less later below result refl refl
-number_shrinks (field.Left shape) reader shapes picture old parts new result going less falls later below = ranked (field.Left shape) reader old parts new result less later below result refl refl
-number_shrinks (field.Top shape left) reader shapes picture old parts new result going less falls later below = ranked (field.Top shape left) reader old parts new result less later below result refl refl
-number_shrinks field.InheritedCount reader shapes picture old parts new result going less falls later below = ranked field.InheritedCount reader old parts new result less later below result refl refl
-number_shrinks field.CommentLength reader shapes picture old parts new result going less falls later below = ranked field.CommentLength reader old parts new result less later below result refl refl
-number_shrinks (field.CommentByte left) reader shapes picture old parts new result going less falls later below = ranked (field.CommentByte left) reader old parts new result less later below result refl refl
+number_shrinks field.Kind reader shapes picture old parts new result going less falls later below =
+    kind_shrinks reader going.0 old parts new result going.1.0.1 going.1.0 less falls later below
+number_shrinks field.StartWidth reader shapes picture old parts new result going less falls later below =
+    ranked field.StartWidth reader old parts new result less later below result refl refl
+number_shrinks (field.StartHeight width) reader shapes picture old parts new result going less falls later below = ranked
+    (field.StartHeight width) reader old parts new result less later below result refl refl
+number_shrinks (field.OwnWidth kept) reader shapes picture old parts new result going less falls later below = ranked
+    (field.OwnWidth kept) reader old parts new result less later below result refl refl
+number_shrinks (field.OwnHeight kept width) reader shapes picture old parts new result going less falls later below = ranked
+    (field.OwnHeight kept width) reader old parts new result less later below result refl refl
+number_shrinks (field.Match goal) reader shapes picture old parts new result going less falls later below = ranked
+    (field.Match goal) reader old parts new result less later below result refl refl
+number_shrinks (field.BesideWidth kept number) reader shapes picture old parts new result going less falls later below = ranked
+    (field.BesideWidth kept number) reader old parts new result less later below result refl refl
+number_shrinks (field.BesideHeight kept number wider) reader shapes picture old parts new result going less falls later below = ranked
+    (field.BesideHeight kept number wider) reader old parts new result less later below result refl refl
+number_shrinks (field.Dx moved is_new) reader shapes picture old parts new result going less falls later below = ranked
+    (field.Dx moved is_new) reader old parts new result less later below result refl refl
+number_shrinks (field.Dy moved is_new dx) reader shapes picture old parts new result going less falls later below = ranked
+    (field.Dy moved is_new dx) reader old parts new result less later below result refl refl
+number_shrinks (field.Left shape) reader shapes picture old parts new result going less falls later below = ranked
+    (field.Left shape) reader old parts new result less later below result refl refl
+number_shrinks (field.Top shape left) reader shapes picture old parts new result going less falls later below = ranked
+    (field.Top shape left) reader old parts new result less later below result refl refl
+number_shrinks field.InheritedCount reader shapes picture old parts new result going less falls later below =
+    ranked field.InheritedCount reader old parts new result less later below result refl refl
+number_shrinks field.CommentLength reader shapes picture old parts new result going less falls later below =
+    ranked field.CommentLength reader old parts new result less later below result refl refl
+number_shrinks (field.CommentByte left) reader shapes picture old parts new result going less falls later below = ranked
+    (field.CommentByte left) reader old parts new result less later below result refl refl

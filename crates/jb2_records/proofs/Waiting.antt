@@ -85,11 +85,6 @@ shape_begins source matched width height at parts ready stands = record {
 
 -- ---- how it waits
 
--- the reader of a number that waits
-pub half_underway : (source : Chunk) (root : Root) (low high : ℤ) (at : Coder) (reader : Reader) (parts : Parts) →
-    HalfNumber source root low high at reader parts → IsUnderway (wanted root low high) reader
-half_underway source root low high at reader parts half = (half.pends.at.decisions, (half.pends.stands.reads, half.pends.possible))
-
 made_by : (given : ShapeStep) (reading : Progress) (at : Coder) → decisions_of (shape_by given reading at) ≡ at.decisions + reading.sketch.number
 made_by shape.Done reading at = refl
 made_by shape.NeedBytes reading at = refl

@@ -29,7 +29,7 @@ use Rattle.jb2_records.specs.declared.reader.Jb2Step.{Jb2Step}
 use Rattle.jb2_records.specs.declared.reader.Jb2Step.TheVariants as answer
 use Rattle.jb2_records.specs.Records.{Record, Start, is_end}
 use Rattle.jb2_records.specs.Coding.{Coder, Read, Got}
-use Rattle.jb2_records.specs.Reading.{Input, Purpose, Dictionary, Mask, most, start_fault, Outcome, after_record, read_record, records_from, records_of, most_records}
+use Rattle.jb2_records.specs.Reading.{Input, Purpose, Dictionary, Mask, most, start_fault, Outcome, after_record, records_from, records_of, most_records}
 use Rattle.jb2_records.specs.Growth.{IsSound}
 use Rattle.jb2_records.specs.Taking.{Becomes, room_of}
 use Rattle.jb2_records.specs.Telling.{Parts, Stands, HalfNumber, HalfShape}
@@ -104,7 +104,8 @@ StepFits (step.Flag width height) library picture = library.started ≡ false
 StepFits (step.Row moved) library picture = MarkFits moved library picture
 StepFits (step.Own kept width height) library picture = HasRoomFor width height library × UseFits kept picture
 StepFits (step.Direct kept reader) library picture = HasRoomFor reader.shape.width reader.shape.height library × UseFits kept picture
-StepFits (step.Beside kept number width height) library picture = HasRoomFor width height library × (number < length (shapes_of library)) × UseFits kept picture
+StepFits (step.Beside kept number width height) library picture = HasRoomFor width height library ×
+    (number < length (shapes_of library)) × UseFits kept picture
 StepFits (step.Refined kept number reader) library picture = HasRoomFor reader.sketch.shape.width reader.sketch.shape.height library × UseFits kept picture
 StepFits (step.Shape made kept shape) library picture = IsAddable shape library × UseFits kept picture
 StepFits (step.Start width height flag) library picture = (library.started ≡ false) × (start_fault library.purpose width height ≡ None)
@@ -159,7 +160,8 @@ Waits input other parts before at = Stands input.chunk at parts
 -- the reading stands at a step
 abbrev pub Holds : Input → Step → Machine → Type 0
 Holds input at machine =
-    Continues input (λ later before text place. rest_of later before text at place) (λ before place. Waits input at machine.coder before place) machine.library machine.picture machine.units
+    Continues input (λ later before text place. rest_of later before text at place)
+    (λ before place. Waits input at machine.coder before place) machine.library machine.picture machine.units
 
 -- it stands before this rest of a record
 abbrev pub Stays : Input → (Input → List Record → List ℕ → Coder → Read Record) → Machine → Type 0
@@ -217,7 +219,8 @@ IsBlankFor Dictionary None = Unit {0}
 IsBlankFor Dictionary (Some picture) = ⊥
 IsBlankFor (Mask width height) None = ⊥
 IsBlankFor (Mask width height) (Some picture) =
-    (input : Input) (before : List Record) (flag : Bool) → input.purpose ≡ Mask width height → IsBlank input before → Shows input (Start width height flag ∷ before) picture
+    (input : Input) (before : List Record) (flag : Bool) → input.purpose ≡ Mask width height → IsBlank input before → Shows input
+    (Start width height flag ∷ before) picture
 
 -- no step counts less, makes room, or changes what is read
 abbrev pub IsLater : Machine → Machine → Type 0

@@ -1,6 +1,5 @@
 -- How a reader of records stands to the bytes that it was fed.
-use Rattle.std.specs.Prelude.{◌≡◌, ◌≢◌, ℕ, ◌≤◌, Bool, true, List, length, Option, Some, None}
-use Rattle.djvu_base.specs.Meter.{ticked, TicksExactly}
+use Rattle.std.specs.Prelude.{◌≡◌, ◌≢◌, ℕ, Bool, true, List, Option, Some, None}
 use Rattle.zp_table.specs.declared.rows.Row.{Row}
 use Rattle.zp_table.specs.Rows.{IsTable}
 use Rattle.bit_plane.specs.Pixels.{Pixels}

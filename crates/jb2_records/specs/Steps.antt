@@ -18,7 +18,7 @@ use Rattle.jb2_records.specs.declared.steps.Field.{Field}
 use Rattle.jb2_records.specs.declared.steps.Field.TheVariants as field
 use Rattle.jb2_records.specs.declared.steps.Step.{Step}
 use Rattle.jb2_records.specs.declared.steps.Step.TheVariants as step
-use Rattle.jb2_records.specs.Records.{Record, Start, MarkBoth, MarkLibrary, MarkImage, RefineBoth, RefineLibrary, RefineImage, Copy, Plain, Require, Comment, End, Relative, is_started, image_size, library, shape_at}
+use Rattle.jb2_records.specs.Records.{Record, Start, MarkBoth, MarkLibrary, MarkImage, RefineBoth, RefineLibrary, RefineImage, Copy, Plain, Require, Relative, is_started, image_size, library, shape_at}
 use Rattle.jb2_records.specs.Picture.{relative_by, relative_of}
 use Rattle.jb2_records.specs.Coding.{Coder, Read, Got, then_read, checked, read_number, read_flag, read_row, read_direct, read_refined}
 use Rattle.jb2_records.specs.Reading.{Input, most, least, type_of, type_fault, has_shapes, start_fault, shape_fault, place_fault, count_fault, refined_side, read_bytes, read_body}
@@ -105,7 +105,8 @@ from_own_width input before kept at =
 
 abbrev pub from_beside : Input → List Record → Use → ℕ → ℕ → ℕ → Coder → Read Record
 from_beside input before kept number width height at =
-    then_read (read_refined input.chunk (numbered input before number) width height at) (λ shape at. from_shape input before (origin.Refined number) kept shape at)
+    then_read (read_refined input.chunk (numbered input before number) width height at)
+    (λ shape at. from_shape input before (origin.Refined number) kept shape at)
 
 -- the sides of a refined shape
 abbrev pub wide_of : InkBox → ℤ → ℤ
@@ -121,7 +122,8 @@ from_beside_sizes input before kept number width height at =
 abbrev pub from_beside_height : Input → List Record → Use → ℕ → ℤ → Coder → Read Record
 from_beside_height input before kept number wider at =
     then_read (read_number input.chunk root.HeightDifference least most at) (λ higher at.
-    from_beside_sizes input before kept number (wide_of (ink_box_of (numbered input before number)) wider) (high_of (ink_box_of (numbered input before number)) higher) at)
+    from_beside_sizes input before kept number (wide_of (ink_box_of (numbered input before number)) wider)
+    (high_of (ink_box_of (numbered input before number)) higher) at)
 
 abbrev pub from_beside_width : Input → List Record → Use → ℕ → Coder → Read Record
 from_beside_width input before kept number at =
@@ -137,7 +139,8 @@ last_number inherited before = length (library inherited before) - 1
 
 abbrev pub from_match : Input → List Record → Reference → Coder → Read Record
 from_match input before goal at =
-    then_read (read_number input.chunk root.Match (pos 0) (pos (last_number input.inherited before)) at) (λ number at. from_matched input before goal (unsigned number) at)
+    then_read (read_number input.chunk root.Match (pos 0) (pos (last_number input.inherited before)) at)
+    (λ number at. from_matched input before goal (unsigned number) at)
 
 abbrev pub from_start : ℤ → ℤ → Bool → Coder → Read Record
 from_start width height flag at = Got (Start (unsigned width) (unsigned height) flag) at
@@ -219,7 +222,8 @@ behind input before text (field.OwnHeight kept width) number at =
 behind input before text (field.Match goal) number at = from_matched input before goal (unsigned number) at
 behind input before text (field.BesideWidth kept matched) number at = from_beside_height input before kept matched number at
 behind input before text (field.BesideHeight kept matched wider) number at =
-    from_beside_sizes input before kept matched (wide_of (ink_box_of (numbered input before matched)) wider) (high_of (ink_box_of (numbered input before matched)) number) at
+    from_beside_sizes input before kept matched (wide_of (ink_box_of (numbered input before matched)) wider)
+    (high_of (ink_box_of (numbered input before matched)) number) at
 behind input before text (field.Dx placed is_new) number at =
     from_dy input before (shape_of input before placed) (λ place. record_of placed place) is_new number at
 behind input before text (field.Dy moved is_new dx) number at =
@@ -233,7 +237,8 @@ behind input before text (field.CommentByte left) number at = read_bytes input.c
 
 abbrev pub from_number : Input → List Record → List ℕ → Field → Coder → Read Record
 from_number input before text place at =
-    then_read (read_number input.chunk (root_of place) (low_of place) (most_of input.inherited before place) at) (λ number at. behind input before text place number at)
+    then_read (read_number input.chunk (root_of place) (low_of place) (most_of input.inherited before place) at)
+    (λ number at. behind input before text place number at)
 
 -- what is left of a record at a step, where these bytes of a comment were read
 unfoldable pub rest_of : Input → List Record → List ℕ → Step → Coder → Read Record

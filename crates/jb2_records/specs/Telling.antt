@@ -1,7 +1,6 @@
 -- How a coder stands to the definitions, and what it answers.
 use Rattle.std.specs.Prelude.{◌≡◌, ℕ, ◌+◌, ◌<◌, ◌≤◌, ℤ, Bool, length, Option, Some, None, Result, Ok, Err}
 use Rattle.djvu_base.specs.Meter.{ticked, TicksExactly}
-use Rattle.djvu_base.specs.declared.faults.FaultKind.{FaultKind}
 use Rattle.djvu_base.specs.declared.faults.FaultKind.TheVariants as fault
 use Rattle.zp_decoder.specs.declared.decoder.Decision.{Decision}
 use Rattle.zp_decoder.specs.declared.decoder.Decision.TheVariants as decision
@@ -144,9 +143,3 @@ pub record Grows (source later : Chunk) (old new : Parts) : Type 0 where
       HalfNumber later root low high at reader new
   pub shape : (matched : Option Pixels) (width height : ℕ) (at : Coder) (sketch : Sketch) → HalfShape source matched width height at sketch old →
       HalfShape later matched width height at sketch new
-
--- a fault that was found
-abbrev pub IsFault : Option FaultKind → Stop → Type 0
-IsFault fault stop.NeedBytes = ⊥
-IsFault fault (stop.Refused kind) = fault ≡ Some kind
-IsFault fault stop.OutOfMemory = ⊥

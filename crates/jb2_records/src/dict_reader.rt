@@ -41,7 +41,8 @@ impl DictReader {
         inherited: Option<Arc<Dictionary>>,
     ) -> Result<DictReader, AllocError>
         ensures fed { IfOk result (λ reader. Fed [] reader) }
-        ensures source { IfOk result (λ reader. reader.source ≡ record { table = arc_value table; inherited = inherited_of inherited; purpose = purpose.Dictionary }) }
+        ensures source { IfOk result (λ reader. reader.source ≡
+            record { table = arc_value table; inherited = inherited_of inherited; purpose = purpose.Dictionary }) }
         ensures open_end { IfOk result (λ reader. reader.ended ≡ false) }
         ensures answered { IfOk result (λ reader. reader.answered ≡ None) }
         ensures units { IfOk result (λ reader. reader.units ≡ 0) }
@@ -91,7 +92,8 @@ impl DictReader {
             TicksExactly (records_of (input_of self.old payload)).decisions 0 self.new.decisions }
         // Whatever is answered, counts are at most the definition's.
         ensures at_most { (payload : List ℕ) → Fed payload self.old →
-            (self.new.units ≤ ticked (length (records_of (input_of self.old payload)).records) 0) × (self.new.decisions ≤ ticked (records_of (input_of self.old payload)).decisions 0) }
+            (self.new.units ≤ ticked (length (records_of (input_of self.old payload)).records) 0)
+            × (self.new.decisions ≤ ticked (records_of (input_of self.old payload)).decisions 0) }
         ensures fed { (payload : List ℕ) → Fed payload self.old → Fed payload self.new }
 
         // What stands, and the meter: after `OutOfMemory` the reader stands behind the decisions that it counted.
@@ -124,7 +126,7 @@ impl DictReader {
     /// The dictionary, once the records ended.
     pub fn dictionary(self) -> Result<Arc<Dictionary>, AllocError>
         requires { self.answered ≡ Some Jb2Step.Finished }
-        ensures { IfOk result (λ dictionary. (payload : List ℕ) → Fed payload self → arc_value dictionary ≡ library_left (input_of self payload)) }
+        ensures dictionary { IfOk result (λ dictionary. (payload : List ℕ) → Fed payload self → arc_value dictionary ≡ library_left (input_of self payload)) }
     {
         let Machine { library, .. } = self.records.into_machine();
         library.into_dictionary()

@@ -116,7 +116,8 @@ impl Machine {
         ensures below { IsBelow 13 result }
         ensures later { IsLater self.old self.new }
         ensures moves { (input : Input) →
-            Stays input (λ later before text at. checked (place_fault later before (arc_value shape)) at (λ at. Got (Plain (arc_value shape) (unsigned left) (unsigned top)) at)) self.old →
+            Stays input (λ later before text at. checked (place_fault later before (arc_value shape)) at
+            (λ at. Got (Plain (arc_value shape) (unsigned left) (unsigned top)) at)) self.old →
             Moves input result self.new }
     {
         let Some(picture) = &mut self.picture else {

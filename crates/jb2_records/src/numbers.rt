@@ -64,7 +64,8 @@ impl Machine {
         ensures fits { ResultFits result self.new.library self.new.picture }
         ensures below { IsBelow (field_rank field) result }
         ensures later { IsLater self.old self.new }
-        ensures moves { (input : Input) → Stays input (λ later before text at. behind later before text field number at) self.old → Moves input result self.new }
+        ensures moves { (input : Input) → Stays input (λ later before text at. behind later before text field number at) self.old →
+            Moves input result self.new }
     {
         match field {
             Field::Kind => self.kind(number),

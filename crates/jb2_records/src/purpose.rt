@@ -8,9 +8,9 @@ use crate::types::RecordType;
 use bit_plane::AREA_LIMIT;
 use djvu_base::FaultKind;
 
-/// What the records of a chunk are for.
+/// What the records of a chunk are for, as contracts of readers name it.
 #[derive(Clone, Copy, Debug, PartialEq, Eq)]
-pub(crate) enum Purpose {
+pub enum Purpose {
     /// The shapes of a dictionary.
     Dictionary,
     /// A mask of a size in pixels.

@@ -63,7 +63,8 @@ impl MaskReader {
         requires most_rows { height ≤ side_limit }
         requires area { width * height ≤ area_limit }
         ensures fed { IfOk result (λ reader. Fed [] reader) }
-        ensures source { IfOk result (λ reader. reader.source ≡ record { table = arc_value table; inherited = inherited_of inherited; purpose = Mask width height }) }
+        ensures source { IfOk result (λ reader. reader.source ≡
+            record { table = arc_value table; inherited = inherited_of inherited; purpose = Mask width height }) }
         ensures open_end { IfOk result (λ reader. reader.ended ≡ false) }
         ensures answered { IfOk result (λ reader. reader.answered ≡ None) }
         ensures units { IfOk result (λ reader. reader.units ≡ 0) }
@@ -114,7 +115,8 @@ impl MaskReader {
             TicksExactly (records_of (input_of self.old payload)).decisions 0 self.new.decisions }
         // Whatever is answered, counts are at most the definition's.
         ensures at_most { (payload : List ℕ) → Fed payload self.old →
-            (self.new.units ≤ ticked (length (records_of (input_of self.old payload)).records) 0) × (self.new.decisions ≤ ticked (records_of (input_of self.old payload)).decisions 0) }
+            (self.new.units ≤ ticked (length (records_of (input_of self.old payload)).records) 0)
+            × (self.new.decisions ≤ ticked (records_of (input_of self.old payload)).decisions 0) }
         ensures fed { (payload : List ℕ) → Fed payload self.old → Fed payload self.new }
 
         // What stands, and the meter: after `OutOfMemory` the reader stands behind the decisions that it counted.
@@ -147,7 +149,8 @@ impl MaskReader {
     /// The mask, once the records ended.
     pub fn mask(self) -> Plane
         requires { self.answered ≡ Some Jb2Step.Finished }
-        ensures mask { (width height : ℕ) (payload : List ℕ) → self.source.purpose ≡ Mask width height → Fed payload self → result ≡ mask_drawn width height (input_of self payload) }
+        ensures mask { (width height : ℕ) (payload : List ℕ) → self.source.purpose ≡ Mask width height → Fed payload self →
+            result ≡ mask_drawn width height (input_of self payload) }
         ensures width { (width height : ℕ) → self.source.purpose ≡ Mask width height → result.width ≡ width }
         ensures height { (width height : ℕ) → self.source.purpose ≡ Mask width height → result.height ≡ height }
     {

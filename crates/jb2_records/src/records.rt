@@ -51,7 +51,8 @@ impl RecordReader {
     ) -> Result<RecordReader, AllocError>
         requires { IsPurpose purpose }
         ensures fed { IfOk result (λ reader. Fed [] reader) }
-        ensures source { IfOk result (λ reader. reader.source ≡ record { table = arc_value table; inherited = inherited_of inherited; purpose = purpose }) }
+        ensures source { IfOk result (λ reader. reader.source ≡
+            record { table = arc_value table; inherited = inherited_of inherited; purpose = purpose }) }
         ensures open_end { IfOk result (λ reader. reader.ended ≡ false) }
         ensures answered { IfOk result (λ reader. reader.answered ≡ None) }
         ensures units { IfOk result (λ reader. reader.units ≡ 0) }
@@ -113,7 +114,8 @@ impl RecordReader {
         ensures decisions { (payload : List ℕ) → Fed payload self.old → result ≢ Jb2Step.OutOfMemory →
             TicksExactly (records_of (input_of self.old payload)).decisions 0 self.new.decisions }
         ensures at_most { (payload : List ℕ) → Fed payload self.old →
-            (self.new.units ≤ ticked (length (records_of (input_of self.old payload)).records) 0) × (self.new.decisions ≤ ticked (records_of (input_of self.old payload)).decisions 0) }
+            (self.new.units ≤ ticked (length (records_of (input_of self.old payload)).records) 0)
+            × (self.new.decisions ≤ ticked (records_of (input_of self.old payload)).decisions 0) }
         ensures fed { (payload : List ℕ) → Fed payload self.old → Fed payload self.new }
         ensures answered { self.new.answered ≡ standing result self.old.answered }
         ensures stays { (step : Jb2Step) → self.old.answered ≡ Some step → (result ≡ step) × (self.new ≡ self.old) }

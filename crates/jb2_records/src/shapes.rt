@@ -26,7 +26,8 @@ impl Machine {
     /// The sides of one shape more, where the checks allow them.
     fn sizes(&self, width: i64, height: i64) -> Result<(u32, u32), FaultKind>
         requires { self.now.library.started ≡ true }
-        ensures sound { (input : Input) (before : List Record) → Keeps input before self.now.library → SizesOf (shape_fault input before width height) width height result }
+        ensures sound { (input : Input) (before : List Record) → Keeps input before self.now.library → SizesOf
+            (shape_fault input before width height) width height result }
         ensures fits { IfOk result (λ size. HasRoomFor size.0 size.1 self.now.library) }
     {
         if let Some(fault) = self.library.shape_fault(width, height) {
@@ -44,7 +45,8 @@ impl Machine {
         ensures below { IsBelow 18 result }
         ensures later { IsLater self.old self.new }
         ensures moves { (input : Input) →
-            Stays input (λ later before text at. checked (shape_fault later before width height) at (λ at. from_own later before kept (unsigned width) (unsigned height) at)) self.old →
+            Stays input (λ later before text at. checked (shape_fault later before width height) at
+            (λ at. from_own later before kept (unsigned width) (unsigned height) at)) self.old →
             Moves input result self.new }
     {
         match self.sizes(i64::from(width), i64::from(height)) {
@@ -61,7 +63,8 @@ impl Machine {
         requires fits { ReferenceFits goal self.now.picture }
         ensures fits { Fits result self.now.library self.now.picture }
         ensures below { rank_of result < 24 }
-        ensures holds { (input : Input) → Stays input (λ later before text at. from_matched later before goal number at) self.now → Holds input result self.now }
+        ensures holds { (input : Input) → Stays input (λ later before text at. from_matched later before goal number at) self.now →
+            Holds input result self.now }
     {
         match goal {
             Reference::Refine(kept) => self.ask(Field::BesideWidth(kept, number)),
@@ -86,7 +89,8 @@ impl Machine {
         ensures later { IsLater self.old self.new }
         ensures moves { (input : Input) →
             Stays input (λ later before text at.
-                from_beside_sizes later before kept number (wide_of (ink_box_of (numbered later before number)) wider) (high_of (ink_box_of (numbered later before number)) higher) at) self.old →
+            from_beside_sizes later before kept number (wide_of (ink_box_of (numbered later before number)) wider)
+            (high_of (ink_box_of (numbered later before number)) higher) at) self.old →
             Moves input result self.new }
     {
         let shape = self.library.shape(number);
@@ -199,7 +203,8 @@ impl Machine {
         requires fits { UseFits kept self.now.picture }
         ensures fits { Fits result self.now.library self.now.picture }
         ensures below { rank_of result < 15 }
-        ensures holds { (input : Input) → Stays input (λ later before text at. from_shape later before made kept (arc_value shape) at) self.now → Holds input result self.now }
+        ensures holds { (input : Input) → Stays input (λ later before text at. from_shape later before made kept (arc_value shape) at) self.now →
+            Holds input result self.now }
     {
         match kept {
             Use::Both => Step::Row(Mark::Both(made, shape)),

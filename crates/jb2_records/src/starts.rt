@@ -69,7 +69,8 @@ impl Machine {
         ensures fits { Fits result self.new.library self.new.picture }
         ensures below { rank_of result ≡ 0 }
         ensures later { IsLater self.old self.new }
-        ensures holds { (input : Input) → Stays input (λ later before text at. Got (Require 0) (with_fresh_numbers at)) self.old → Holds input result self.new }
+        ensures holds { (input : Input) → Stays input (λ later before text at. Got (Require 0) (with_fresh_numbers at)) self.old →
+            Holds input result self.new }
     {
         self.coder.reset_numbers();
         self.next_record()
@@ -82,7 +83,8 @@ impl Machine {
         ensures below { IsBelow 7 result }
         ensures later { IsLater self.old self.new }
         ensures moves { (input : Input) →
-            Stays input (λ later before text at. checked (start_fault later.purpose width height) at (λ at. from_start width height flag at)) self.old → Moves input result self.new }
+            Stays input (λ later before text at. checked (start_fault later.purpose width height) at
+            (λ at. from_start width height flag at)) self.old → Moves input result self.new }
     {
         if let Some(fault) = self.library.start_fault(width, height) {
             return Err(Halt::Refused(fault));
@@ -127,7 +129,8 @@ impl Machine {
         ensures below { IsBelow 1 result }
         ensures later { IsLater self.old self.new }
         ensures moves { (input : Input) →
-            Stays input (λ later before text at. checked (count_fault later count) at (λ at. Got (Require (unsigned count)) at)) self.old → Moves input result self.new }
+            Stays input (λ later before text at. checked (count_fault later count) at (λ at. Got (Require (unsigned count)) at)) self.old →
+            Moves input result self.new }
     {
         if let Some(fault) = self.library.count_fault(count) {
             return Err(Halt::Refused(fault));

@@ -8,7 +8,8 @@ pub returns-clause-asks : goal.returns-clause-asks
 returns-clause-asks c input stays =
     let low : to_z w32 (of_z w32 c.lowest.result) ≡ c.lowest.result = search rules in
     let high : to_z w32 (of_z w32 c.highest-high.result) ≡ c.highest-high.result = search rules in
-    asked_holds input c.args.field c.root.result _ _ c.begin-reader.result c.args.self.now c.ready.ensures c.requires.fits c.root.ensures (low ∙ c.lowest.ensures) (high ∙ c.highest-high.ensures.high)
+    asked_holds input c.args.field c.root.result _ _ c.begin-reader.result c.args.self.now c.ready.ensures c.requires.fits c.root.ensures
+    (low ∙ c.lowest.ensures) (high ∙ c.highest-high.ensures.high)
     (subst (λ (h : ℤ). AreBounds (low_of c.args.field) h) (sym high) c.highest-high.ensures.bounds) c.begin-reader.ensures stays
 
 pub returns-clause-rank : goal.returns-clause-rank

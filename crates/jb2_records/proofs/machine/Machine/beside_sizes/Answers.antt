@@ -1,4 +1,4 @@
-use Rattle.std.proofs.Common.{◌≡◌, ℤ, pos, to_z, of_z, w64, rules}
+use Rattle.std.proofs.Common.{◌≡◌, pos, to_z, of_z, w64, rules}
 use Rattle.jb2_records.proofs.Making.{side_is, beside_sized, beside_refused}
 use Rattle.jb2_records.proofs.machine.Machine.beside_sizes.Goals as goal
 

@@ -1,5 +1,4 @@
 use Rattle.jb2_records.specs.Steps.{rest_of}
-use Rattle.jb2_records.specs.Machine.{Holds}
 use Rattle.std.specs.Arc.{arc_value}
 use Rattle.jb2_records.proofs.Entering.{keep_adds}
 use Rattle.jb2_records.proofs.machine.Machine.keep.Goals as goal

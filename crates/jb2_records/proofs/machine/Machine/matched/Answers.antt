@@ -1,5 +1,4 @@
-use Rattle.std.proofs.Common.{List, ℕ}
-use Rattle.jb2_records.specs.Steps.{from_matched, rest_of, behind}
+use Rattle.jb2_records.specs.Steps.{rest_of, behind}
 use Rattle.jb2_records.proofs.Stepping.{at_goal}
 use Rattle.jb2_records.proofs.machine.Machine.matched.Goals as goal
 

@@ -1,4 +1,4 @@
-use Rattle.std.proofs.Common.{◌≡◌, ℤ, to_z, of_z, w64, rules}
+use Rattle.std.proofs.Common.{◌≡◌, to_z, of_z, w64, rules}
 use Rattle.std.specs.Prelude.{Ok, Err}
 use Rattle.jb2_records.proofs.Making.{sizes_at, own_sized, own_refused}
 use Rattle.jb2_records.proofs.machine.Machine.own_sizes.Goals as goal

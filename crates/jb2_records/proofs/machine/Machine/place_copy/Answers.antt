@@ -1,6 +1,4 @@
-use Rattle.std.proofs.Common.{◌≡◌, ◌∙◌, ap, sym}
-use Rattle.std.specs.Arc.{arc_value}
-use Rattle.bit_plane.specs.Pixels.{Pixels}
+use Rattle.std.proofs.Common.{◌∙◌, ap, sym}
 use Rattle.jb2_records.specs.Coding.{Got}
 use Rattle.jb2_records.specs.Records.{Copy, ink_frame}
 use Rattle.jb2_records.specs.Picture.{relative_of}

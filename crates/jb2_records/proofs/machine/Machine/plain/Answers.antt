@@ -1,4 +1,4 @@
-use Rattle.std.proofs.Common.{◌≡◌, ℤ, to_z, of_z, w32, rules, ap, ◌∙◌}
+use Rattle.std.proofs.Common.{◌≡◌, to_z, of_z, w32, rules, ap, ◌∙◌}
 use Rattle.std.specs.Arc.{arc_value}
 use Rattle.bit_plane.specs.Pixels.{Pixels}
 use Rattle.jb2_records.specs.Library.{with_used}
@@ -25,7 +25,7 @@ returns-clause-moves c input stays =
     c.place_plain.new.self c.place_fault.result
     c.in-Some.is c.in_default-place_fault.is (checks_shape input c.args.self.now.library c.in-Some.picture (arc_value c.args.shape) c.deref.result.now
     c.place_fault.result c.deref.ensures (λ before shows. c.place_fault.ensures.fault input before shows))
-    (c.add.ensures ∙ ap (λ (s : Pixels). with_used s c.args.self.now.library) c.deref-2.ensures) 
+    (c.add.ensures ∙ ap (λ (s : Pixels). with_used s c.args.self.now.library) c.deref-2.ensures)
     (λ before shows. plain_as input (arc_value c.args.shape) c.deref-3.result.now c.args.left c.args.top (to_z w32 (of_z w32 c.args.left))
     (to_z w32 (of_z w32 c.args.top)) before
     c.place_plain.new.self c.deref-3.ensures left top (c.place_plain.ensures input before shows)) stays)

@@ -1,5 +1,4 @@
 use Rattle.std.proofs.Common.{◌≡◌, sym, ap, subst, ◌∙◌}
-use Rattle.std.specs.Prelude.{Some}
 use Rattle.jb2_records.specs.Reading.{Mask}
 use Rattle.jb2_records.specs.Mask.{mask_drawn}
 use Rattle.jb2_records.specs.ReaderState.{ReaderState, Fed, input_of}

@@ -1,4 +1,4 @@
-use Rattle.std.proofs.Common.{◌≡◌, ◌≢◌, ◌≤◌, ℕ, List, length, rules, sym, subst}
+use Rattle.std.proofs.Common.{◌≡◌, ◌≢◌, ◌≤◌, length, rules, sym, subst}
 use Rattle.std.specs.Prelude.{Some, None}
 use Rattle.djvu_base.specs.Meter.{ticked, TicksExactly}
 use Rattle.jb2_records.specs.declared.reader.Jb2Step.TheVariants as answer
@@ -56,7 +56,7 @@ returns-clause-answer g c payload =
 pub returns-clause-units : goal.returns-clause-units
 returns-clause-units g c payload =
     let some : c.self.inside.step ≡ Some c.in-Some.step = search rules in
-    subst (λ (r : ReaderState). Fed payload r → c.answer_of-self-inside.result ≢ answer.OutOfMemory → 
+    subst (λ (r : ReaderState). Fed payload r → c.answer_of-self-inside.result ≢ answer.OutOfMemory →
     TicksExactly (length (records_of (input_of r payload)).records) 0 c.run-halt.new.self.units) c.self.view_is
     (ran_units c.self.inside.step c.step_of.result c.in-Some.step c.self.inside.answer c.answer_of-self-inside.result c.self.inside.machine
     c.run-halt.new.self c.run-halt.result
@@ -65,7 +65,7 @@ returns-clause-units g c payload =
 pub returns-clause-decisions : goal.returns-clause-decisions
 returns-clause-decisions g c payload =
     let some : c.self.inside.step ≡ Some c.in-Some.step = search rules in
-    subst (λ (r : ReaderState). Fed payload r → c.answer_of-self-inside.result ≢ answer.OutOfMemory → 
+    subst (λ (r : ReaderState). Fed payload r → c.answer_of-self-inside.result ≢ answer.OutOfMemory →
     TicksExactly (records_of (input_of r payload)).decisions 0 c.run-halt.new.self.coder.count) c.self.view_is
     (ran_decisions c.self.inside.step c.step_of.result c.in-Some.step c.self.inside.answer c.answer_of-self-inside.result c.self.inside.machine
     c.run-halt.new.self c.run-halt.result

@@ -1,4 +1,4 @@
-use Rattle.std.proofs.Common.{sym, ap, subst, ◌∙◌}
+use Rattle.std.proofs.Common.{ap, subst, ◌∙◌}
 use Rattle.jb2_records.specs.Reading.{records_of}
 use Rattle.jb2_records.specs.Library.{Keeps}
 use Rattle.jb2_records.specs.Picture.{Draws}

@@ -1,4 +1,4 @@
-use Rattle.std.proofs.Common.{◌≡◌, false, ℕ, List, ◌++◌, rules, sym, ap, subst, ◌∙◌}
+use Rattle.std.proofs.Common.{◌≡◌, ℕ, List, ◌++◌, rules, sym, ap, subst, ◌∙◌}
 use Rattle.std.specs.Prelude.{None, OnOk}
 use Rattle.jb2_records.specs.ReaderState.{ReaderState, state_of, Fed}
 use Rattle.jb2_records.proofs.Feeding.{fed_still, fed_pushed, held_pushed}

@@ -1,12 +1,12 @@
 -- What the reading of a page came to.
-use Rattle.std.proofs.Common.{◌≡◌, ℕ, ◌≤◌, ◌++◌, false, List, [], map, Option, Some, None, refl, sym, ap, ◌∙◌, arith}
+use Rattle.std.proofs.Common.{◌≡◌, ℕ, ◌≤◌, ◌++◌, false, List, [], map, Option, Some, None, refl, sym, ap, subst, ◌∙◌, arith}
 use Rattle.std.proofs.lemmas.List.{append-nil}
 use Rattle.djvu_base.specs.declared.faults.FaultKind.{FaultKind}
 use Rattle.zp_table.specs.declared.rows.Row.{Row}
 use Rattle.layer_compose.specs.declared.layers.Layers.{Layers}
 use Rattle.iff_chunks.specs.Chunks.{chunks_of}
 use Rattle.iff_chunks.specs.Events.{events_of}
-use Rattle.djvu_base.specs.Meter.{ticked, TicksExactly}
+use Rattle.djvu_base.specs.Meter.{ticked, TicksExactly, TicksAtMost}
 use Rattle.page_decoder.specs.declared.drawings.Page.{Page}
 use Rattle.djvu_base.specs.declared.ends.FileEnd.{FileEnd}
 use Rattle.djvu_base.specs.Library.{mark_of}
@@ -20,7 +20,12 @@ use Rattle.page_decoder.specs.Found.{IsReading, drawn, last_layers}
 use Rattle.page_decoder.specs.Progress.{Done, progress, at_start, after_events, rest_at, concluded}
 use Rattle.page_decoder.specs.Brought.{IsPage}
 use Rattle.page_decoder.proofs.ByEvents.{reading_by_events}
-use Rattle.djvu_base.proofs.Ticks.{ticks_both}
+use Rattle.djvu_base.proofs.Ticks.{ticks_both, at_most_after}
+
+-- a chunk that is cut has its decisions, whatever is wrong with it
+pub cut_decisions : (f : Option FaultKind) (offset : ℕ) (end : Ending) (decisions : ℕ) → (cut_by f offset end decisions).decisions ≡ decisions
+cut_decisions (Some kind) offset end decisions = refl
+cut_decisions None offset end decisions = refl
 
 -- behind the whole chunks there is no drawing
 cut_draws_none : (f : Option FaultKind) (offset : ℕ) (end : Ending) (decisions : ℕ) → (cut_by f offset end decisions).notices ≡ []
@@ -60,14 +65,16 @@ concluded_counts rows file at bytes page last done start count counted is before
     let rest = rest_at rows (chunks_place file) at bytes done.chunks done.layers (ending last) in
     ticks_both done.decisions rest.decisions start count counted before (ticks ∙ ap (λ (r : Reading). ticked r.decisions count) (sym (same_rest rows file at bytes done page last is)))
 
+pub concluded_at_most : (rows : List Row) (file : List ℕ) (at : Place) (bytes : List ℕ) (page : Page) (last : PageEnd) (done : Done) (start count counted : ℕ) → IsPage done page
+    → TicksExactly done.decisions start count → TicksAtMost (rest_of rows file at bytes page last).decisions count counted
+    → TicksAtMost (concluded rows (chunks_place file) (progress at bytes done) (ending last)).decisions start counted
+concluded_at_most rows file at bytes page last done start count counted is before ticks =
+    let rest = rest_at rows (chunks_place file) at bytes done.chunks done.layers (ending last) in
+    at_most_after done.decisions rest.decisions start count counted before
+    (subst (λ (r : Reading). TicksAtMost r.decisions count counted) (sym (same_rest rows file at bytes done page last is)) ticks)
+
 -- the events of a file have no more decisions than its reading
 pub events_within : (rows : List Row) (end : FileEnd) (file : List ℕ) → (after_events rows at_start (events_of (chunks_of file))).done.decisions ≤ (reading rows (mark_of end) file).decisions
 events_within rows end file =
     let same = ap (λ (r : Reading). r.decisions) (reading_by_events rows (mark_of end) file) in
     omega (arith, same)
-
--- nor have the whole chunks of a page
-pub done_within : (rows : List Row) (file : List ℕ) (at : Place) (bytes : List ℕ) (done : Done) (wanted : Reading) (last : Ending) → wanted ≡ concluded rows (chunks_place file) (progress at bytes done) last → done.decisions ≤ wanted.decisions
-done_within rows file at bytes done wanted last same =
-    let counts = ap (λ (r : Reading). r.decisions) same in
-    omega (arith, counts)

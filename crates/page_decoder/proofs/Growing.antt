@@ -9,9 +9,10 @@ use Rattle.iff_chunks.specs.Events.{Event, Begun, Header, Data, ChunkEnd, GoesOn
 use Rattle.page_decoder.specs.declared.places.Head.{Head}
 use Rattle.page_decoder.specs.declared.places.Place.{Place}
 use Rattle.page_decoder.specs.declared.places.Place.TheVariants as place
-use Rattle.page_decoder.specs.Reading.{Notice, Came, Ending, kind_fault, is_drawn, notice_by, data_came, cut_by}
+use Rattle.page_decoder.specs.Reading.{Notice, Came, Ending, kind_fault, is_drawn, notice_by, data_came}
 use Rattle.page_decoder.specs.Progress.{Done, Progress, progress, begun, ended_by, after_form, after_end, after_event, after_events, rest_at, concluded}
 use Rattle.page_decoder.specs.Brought.{open_count}
+use Rattle.page_decoder.proofs.Concluding.{cut_decisions}
 use Rattle.page_decoder.proofs.Fitting.{AllFit, CameOn, RecordsGoOn, data_on}
 
 -- one list of drawings goes on the other
@@ -146,14 +147,10 @@ total_grows law rows table so_far (Data bytes ∷ []) (Header id offset size ∷
 total_grows law rows table so_far (Data bytes ∷ []) (ChunkEnd ∷ events) g fit = let same : Data bytes ≡ ChunkEnd = g.0 in absurd (cc)
 
 -- the decisions of a reading are all of its events
-cut_total : (f : Option FaultKind) (offset : ℕ) (end : Ending) (decisions : ℕ) → (cut_by f offset end decisions).decisions ≡ decisions
-cut_total (Some kind) offset end decisions = refl
-cut_total None offset end decisions = refl
-
 rest_total : (rows : List Row) (origin : ℕ) (at : Place) (bytes : List ℕ) (chunks : ℕ) (layers : Option Layers) (end : Ending) → (rest_at rows origin at bytes chunks layers end).decisions ≡ open_decisions rows at bytes layers
 rest_total rows origin place.Before bytes chunks layers end = refl
 rest_total rows origin place.Between bytes chunks layers end = refl
-rest_total rows origin (place.Within head) bytes chunks layers end = let came = data_came rows false layers head.id bytes in cut_total came.fault head.offset end came.decisions
+rest_total rows origin (place.Within head) bytes chunks layers end = let came = data_came rows false layers head.id bytes in cut_decisions came.fault head.offset end came.decisions
 rest_total rows origin (place.Refused kind offset) bytes chunks layers end = refl
 
 pub reading_total : (rows : List Row) (origin : ℕ) (so_far : Progress) (end : Ending) → (concluded rows origin so_far end).decisions ≡ total rows so_far

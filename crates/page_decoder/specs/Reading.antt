@@ -16,6 +16,7 @@ use Rattle.bit_plane.specs.Pixels.{Pixels, area_limit}
 use Rattle.zp_decoder.specs.Chunk.{chunk}
 use Rattle.jb2_records.specs.declared.reader.Jb2Step.{Jb2Step}
 use Rattle.jb2_records.specs.declared.reader.Jb2Step.TheVariants as answer
+use Rattle.jb2_records.specs.declared.purpose.Purpose.TheVariants as purpose
 use Rattle.jb2_records.specs.Reading as jb2
 use Rattle.jb2_records.specs.Mask.{mask_drawn}
 use Rattle.djvu_base.specs.declared.turns.Turn.TheVariants.{Upright}
@@ -117,7 +118,7 @@ abbrev pub mask_input : List Row → List ℕ → Bool → Layers → jb2.Input
 mask_input rows bytes ended layers = record {
   chunk = chunk rows bytes ended;
   inherited = [];
-  purpose = jb2.Mask layers.width layers.height;
+  purpose = purpose.Mask layers.width layers.height;
 }
 
 -- a mask that has ended is laid on the page, whatever bytes of its chunk are left

@@ -1,8 +1,9 @@
 //! What the data of a chunk bring to a page.
 ghost use Rattle.std.specs.Prelude.{◌≡◌, [], Option, None, Some, IfOk, OnOk, OnErr};
 ghost use Rattle.std.specs.Arc.{arc_value};
-ghost use Rattle.jb2_records.specs.Reader.{Fed};
-ghost use Rattle.djvu_base.specs.Meter.{TicksExactly};
+ghost use Rattle.jb2_records.specs.declared.purpose.Purpose.TheVariants as purpose;
+ghost use Rattle.jb2_records.specs.ReaderState.{Fed};
+ghost use Rattle.djvu_base.specs.Meter.{TicksExactly, TicksAtMost};
 ghost use Rattle.layer_compose.specs.declared.layers.Layers.{Layers};
 ghost use Rattle.page_decoder.specs.Reading.{info_came, mask_from, mask_input, data_came};
 ghost use Rattle.page_decoder.specs.Found.{CanDraw, CanDrawLast};
@@ -63,7 +64,7 @@ pub fn laid(layers: Option<Layers>, brought: Brought) -> Option<Layers>
 }
 
 /// What these data of a chunk with this identifier bring to a page with these layers. They are the whole chunk, or all
-/// that there is of it. Each decision ticks the meter once; where there is no memory, none did.
+/// that there is of it. Each decision ticks the meter once; where there is no memory, at most all of them did.
 pub fn bring<M: Meter>(
     alloc: Global,
     table: &Arc<Table>,
@@ -77,7 +78,7 @@ pub fn bring<M: Meter>(
     ensures came { IfOk result (λ brought. IsBrought (data_came (arc_value table.now) is_whole layers.now id bytes.now) layers.now brought) }
     ensures drawable { IfOk result (λ brought. CanDrawLast (laid layers.now brought)) }
     ensures ticks { OnOk result (TicksExactly (data_came (arc_value table.now) is_whole layers.now id bytes.now).decisions (M.count meter.old) (M.count meter.new)) }
-    ensures no_ticks { OnErr result (M.count meter.new ≡ M.count meter.old) }
+    ensures at_most { OnErr result (TicksAtMost (data_came (arc_value table.now) is_whole layers.now id bytes.now).decisions (M.count meter.old) (M.count meter.new)) }
 {
     if is_info(id) {
         return Ok(bring_size(bytes));
@@ -116,7 +117,7 @@ fn bring_mask<M: Meter>(
     ensures came { IfOk result (λ brought. IsBrought (mask_from (mask_input (arc_value table.now) bytes.now is_whole layers.now) layers.now) (Some layers.now) brought) }
     ensures drawable { IfOk result (λ brought. CanDrawLast (laid (Some layers.now) brought)) }
     ensures ticks { OnOk result (TicksExactly (mask_from (mask_input (arc_value table.now) bytes.now is_whole layers.now) layers.now).decisions (M.count meter.old) (M.count meter.new)) }
-    ensures no_ticks { OnErr result (M.count meter.new ≡ M.count meter.old) }
+    ensures at_most { OnErr result (TicksAtMost (mask_from (mask_input (arc_value table.now) bytes.now is_whole layers.now) layers.now).decisions (M.count meter.old) (M.count meter.new)) }
 {
     let mut reader = fed_reader(alloc, table, layers, bytes, is_whole)?;
     match reader.advance(meter) {
@@ -137,10 +138,7 @@ fn fed_reader(
 ) -> Result<MaskReader, AllocError>
     requires { CanDraw layers.now }
     ensures fed { IfOk result (λ reader. Fed bytes.now reader) }
-    ensures table { IfOk result (λ reader. reader.table ≡ arc_value table.now) }
-    ensures inherited { IfOk result (λ reader. reader.inherited ≡ []) }
-    ensures width { IfOk result (λ reader. reader.width ≡ layers.now.width) }
-    ensures height { IfOk result (λ reader. reader.height ≡ layers.now.height) }
+    ensures source { IfOk result (λ reader. reader.source ≡ record { table = arc_value table.now; inherited = []; purpose = purpose.Mask layers.now.width layers.now.height }) }
     ensures end { IfOk result (λ reader. reader.ended ≡ is_whole) }
     ensures answered { IfOk result (λ reader. reader.answered ≡ None) }
     ensures decisions { IfOk result (λ reader. reader.decisions ≡ 0) }

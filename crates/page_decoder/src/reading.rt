@@ -88,7 +88,7 @@ fn rest_end<M: Meter>(
     requires { CanDrawLast so_far.now.page.layers }
     ensures end { IfOk result (λ end. ending end ≡ (rest_at (arc_value table.now) origin so_far.now.place bytes.now so_far.now.page.chunks so_far.now.page.layers (ending last)).end) }
     ensures ticks { OnOk result (TicksExactly (rest_at (arc_value table.now) origin so_far.now.place bytes.now so_far.now.page.chunks so_far.now.page.layers (ending last)).decisions (M.count meter.old) (M.count meter.new)) }
-    ensures no_ticks { OnErr result (M.count meter.new ≡ M.count meter.old) }
+    ensures at_most { OnErr result (TicksAtMost (rest_at (arc_value table.now) origin so_far.now.place bytes.now so_far.now.page.chunks so_far.now.page.layers (ending last)).decisions (M.count meter.old) (M.count meter.new)) }
 {
     match so_far.place {
         Place::Before => Ok(last),
@@ -124,7 +124,7 @@ fn cut_end<M: Meter>(
     requires { CanDrawLast layers.now }
     ensures end { IfOk result (λ end. ending end ≡ (cut_chunk (data_came (arc_value table.now) false layers.now head.id bytes.now) head.offset (ending last)).end) }
     ensures ticks { OnOk result (TicksExactly (cut_chunk (data_came (arc_value table.now) false layers.now head.id bytes.now) head.offset (ending last)).decisions (M.count meter.old) (M.count meter.new)) }
-    ensures no_ticks { OnErr result (M.count meter.new ≡ M.count meter.old) }
+    ensures at_most { OnErr result (TicksAtMost (cut_chunk (data_came (arc_value table.now) false layers.now head.id bytes.now) head.offset (ending last)).decisions (M.count meter.old) (M.count meter.new)) }
 {
     let brought = bring(alloc, table, layers, head.id, bytes, false, meter)?;
     match brought.fault() {

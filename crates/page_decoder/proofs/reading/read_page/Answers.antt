@@ -1,16 +1,15 @@
 use Rattle.std.proofs.Common.{◌≡◌, ◌+◌, ℕ, List, length, refl, ap, sym, subst, ◌∙◌, arith}
 use Rattle.std.specs.Arc.{arc_value}
-use Rattle.djvu_base.specs.Meter.{ticked}
+use Rattle.djvu_base.specs.Meter.{ticked, TicksAtMost}
 use Rattle.page_decoder.specs.declared.ends.PageEnd.{PageEnd}
-use Rattle.page_decoder.specs.Reading.{Reading, ending_of, reading, chunks_place}
+use Rattle.page_decoder.specs.Reading.{Reading, reading, chunks_place}
 use Rattle.djvu_base.specs.Library.{mark_of}
-use Rattle.iff_chunks.specs.Ends.{tail_of}
 use Rattle.page_decoder.specs.Ends.{ending}
 use Rattle.page_decoder.specs.Found.{IsReading}
 use Rattle.page_decoder.specs.Progress.{progress, rest_at, concluded}
 use Rattle.page_decoder.proofs.Extending.{read_so}
 use Rattle.page_decoder.proofs.Stepping.{on_err}
-use Rattle.page_decoder.proofs.Concluding.{concludes, concluded_counts, events_within, done_within}
+use Rattle.page_decoder.proofs.Concluding.{concludes, concluded_counts, concluded_at_most, events_within}
 use Rattle.page_decoder.proofs.reading.read_page.Goals as goal
 
 pub returns-in_err-so_far-clause-at_most : goal.returns-in_err-so_far-clause-at_most
@@ -26,9 +25,17 @@ returns-in_err-rest-clause-at_most g c =
     let file : List ℕ = c.args.bytes.now in
     let found = c.in_ok-so_far in
     let w = found.ensures.walked in
-    let same : reading rows (mark_of c.args.end) file ≡ concluded rows (chunks_place file) (progress found.so_far.place found.told.now w.done) (ending_of (tail_of c.finish.result)) =
-    read_so rows file (progress found.so_far.place found.told.now w.done) c.walk.new.walker c.args.end c.finish.result w.walked c.finish.ensures.ends in
-    on_err c.from_residual-in_err-rest.result (w.done.decisions, done_within rows file found.so_far.place found.told.now w.done (reading rows (mark_of c.args.end) file) (ending_of (tail_of c.finish.result)) same, c.in_err-rest.ensures.no_ticks ∙ w.counted)
+    let last : PageEnd = c.end_of_file-last.result in
+    let same : reading rows (mark_of c.args.end) file ≡ concluded rows (chunks_place file) (progress found.so_far.place found.told.now w.done) (ending last) =
+    read_so rows file (progress found.so_far.place found.told.now w.done) c.walk.new.walker c.args.end c.finish.result w.walked c.finish.ensures.ends
+    ∙ ap (concluded rows (chunks_place file) (progress found.so_far.place found.told.now w.done)) (sym c.end_of_file-last.ensures) in
+    let origin : c.form_place.result + 12 ≡ chunks_place file = ap (λ n. n + 12) c.form_place.ensures.place in
+    let rest = subst (λ n. TicksAtMost (rest_at rows n found.so_far.place found.told.now found.so_far.page.chunks found.so_far.page.layers (ending last)).decisions
+    (g.M.Meter.count c.walk.new.meter) (g.M.Meter.count c.rest_end.new.meter)) origin c.in_err-rest.ensures.at_most in
+    on_err c.from_residual-in_err-rest.result
+    (subst (λ (r : Reading). TicksAtMost r.decisions (g.M.Meter.count c.args.meter.now) (g.M.Meter.count c.rest_end.new.meter)) (sym same)
+    (concluded_at_most rows file found.so_far.place found.told.now found.so_far.page last w.done (g.M.Meter.count c.args.meter.now) (g.M.Meter.count c.walk.new.meter)
+    (g.M.Meter.count c.rest_end.new.meter) w.is_page w.counted rest))
 
 pub returns-clause-reading : goal.returns-clause-reading
 returns-clause-reading g c =

@@ -1,11 +1,10 @@
-use Rattle.std.proofs.Common.{ℕ, List, ◌∙◌, arith}
+use Rattle.std.proofs.Common.{ℕ, List}
 use Rattle.std.specs.Arc.{arc_value}
-use Rattle.djvu_base.proofs.Ticks.{ticks_none}
 use Rattle.page_decoder.proofs.Stepping.{on_err, chunk_on}
 use Rattle.page_decoder.proofs.walk.end_chunk.Goals as goal
 
 pub returns-in_err-brought-clause-at_most : goal.returns-in_err-brought-clause-at_most
-returns-in_err-brought-clause-at_most g c = on_err c.from_residual.result (0, omega arith, c.in_err-brought.ensures.no_ticks ∙ ticks_none (g.M.Meter.count c.args.meter.now))
+returns-in_err-brought-clause-at_most g c = on_err c.from_residual.result c.in_err-brought.ensures.at_most
 
 pub returns-in_ok-with_chunk-in_default : goal.returns-in_ok-with_chunk-in_default
 returns-in_ok-with_chunk-in_default g c =

@@ -5,6 +5,8 @@
 #[cfg(test)]
 mod coefficients;
 #[cfg(test)]
+mod cuts;
+#[cfg(test)]
 mod decisions;
 #[cfg(test)]
 mod drawings;

@@ -12,18 +12,19 @@ use zp_table::Table;
 
 /// A chunk with the table of one row, and what is read of it: the answer, the records, the decisions, and the mask's rows
 /// from the top.
-struct Chunk {
-    bytes: &'static [u8],
-    answer: Jb2Step,
-    units: u64,
-    decisions: u64,
-    rows: &'static [&'static str],
+#[derive(Clone, Copy)]
+pub struct Chunk {
+    pub bytes: &'static [u8],
+    pub answer: Jb2Step,
+    pub units: u64,
+    pub decisions: u64,
+    pub rows: &'static [&'static str],
 }
 
 /// A mark of one pixel; the same in a wider image; a shape of the library and its refinement; then faults: no start, a
 /// second start, a dictionary that isn't there, a shape whose pixels lie past the end, one of 65,535 by 1,025, which are too
 /// many pixels, and one that is 65,536 wide. The first and the last four were worked out by hand.
-const SMALL: [Chunk; 9] = [
+pub const SMALL: [Chunk; 9] = [
     Chunk {
         bytes: &[0xB7, 0x6D, 0x86, 0x87],
         answer: Jb2Step::Finished,
@@ -92,7 +93,7 @@ const SMALL: [Chunk; 9] = [
 /// All twelve types of records: a comment, an inherited count of 0, the start, shapes of their own and refined ones, for the
 /// library, as marks and both, copies of two of them by their ink, a shape at an absolute place, a reset, an empty comment
 /// and the end. Written, and the mask worked out, by another program after the rules in `docs/jb2.md`.
-const ALL_TYPES: Chunk = Chunk {
+pub const ALL_TYPES: Chunk = Chunk {
     bytes: &[
         0x11, 0x01, 0x58, 0x0A, 0xA2, 0xE3, 0x4A, 0x47, 0x3E, 0x9D, 0xA4, 0x23, 0x4E, 0xDA, 0x59,
         0xAA, 0x93, 0x32, 0xA7, 0xD2, 0x74, 0x38, 0xF8, 0xE8, 0xE4, 0xB1, 0x46, 0x4C, 0x2C, 0x48,

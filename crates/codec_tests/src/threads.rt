@@ -4,7 +4,7 @@ use bit_plane::Plane;
 use djvu_base::Turn;
 use iw44_blocks::{Coefficients, Grid};
 use jb2_numbers::NumberContexts;
-use jb2_records::{Dictionary, MaskReader};
+use jb2_records::{DictReader, Dictionary, MaskReader};
 use jb2_shapes::ShapeContexts;
 use layer_compose::Layers;
 use std::alloc::{AllocError, Global};
@@ -27,6 +27,7 @@ fn hand_on(alloc: Global) -> Result<(), AllocError> {
     may_go(ZpDecoder::new(Arc::try_clone(&table)?));
     may_go(NumberContexts::new(alloc));
     may_go(ShapeContexts::new(alloc)?);
+    may_go(DictReader::new(alloc, Arc::try_clone(&table)?, None)?);
     may_go(MaskReader::new(alloc, table, None, 3, 2)?);
     let plane = Plane::new(alloc, 3, 2)?;
     may_be_shared(&plane);
@@ -46,7 +47,7 @@ fn hand_on(alloc: Global) -> Result<(), AllocError> {
     Ok(())
 }
 
-/// No call makes a dictionary yet.
+/// Several threads may look at a dictionary.
 fn share_dictionary(dictionary: Option<&Dictionary>) {
     if let Some(dictionary) = dictionary {
         may_be_shared(dictionary);

@@ -14,20 +14,17 @@ use Rattle.jb2_records.specs.declared.machine.Halt.{Halt}
 use Rattle.jb2_records.specs.declared.machine.Halt.TheVariants as halt
 use Rattle.jb2_records.specs.declared.reader.Jb2Step.{Jb2Step}
 use Rattle.jb2_records.specs.declared.reader.Jb2Step.TheVariants as answer
-use Rattle.jb2_records.specs.Records.{Record, placed_shapes}
 use Rattle.jb2_records.specs.Coding.{chunk_start}
-use Rattle.jb2_records.specs.Reading.{Input, Purpose, Dictionary, Mask, Outcome, records_of, most_records}
+use Rattle.jb2_records.specs.Reading.{Input, Purpose, Outcome, records_of, most_records}
 use Rattle.jb2_records.specs.Growth.{IsSound}
 use Rattle.jb2_records.specs.Taking.{Becomes, stays, grows, with_bytes}
 use Rattle.jb2_records.specs.Telling.{Parts, Stands, Grows}
 use Rattle.jb2_records.specs.Library.{Library, library_of, Keeps}
-use Rattle.jb2_records.specs.Picture.{Picture, Draws, Shows}
-use Rattle.jb2_records.specs.Mask.{mask_of, mask_drawn}
+use Rattle.jb2_records.specs.Picture.{Picture, Draws}
 use Rattle.jb2_records.specs.Steps.{behind, from_number}
 use Rattle.jb2_records.specs.Machine.{with_chunk, Follows, Holds, Stays, HaltsAt, HaltFits, IsLater, Fits}
-use Rattle.jb2_records.specs.Machine.{IsPictured}
-use Rattle.jb2_records.specs.ReaderState.{Kept, ReaderState, Source, input_of, answered_by, state_of, Settles, IsAt, Fed, KeptFits}
-use Rattle.jb2_records.specs.ReaderState.{IsHeld, IsDrawnFor, answer_of, step_of}
+use Rattle.jb2_records.specs.ReaderState.{Kept, ReaderState, Source, input_of, state_of, Settles, IsAt, Fed, KeptFits}
+use Rattle.jb2_records.specs.ReaderState.{IsHeld, answer_of, step_of}
 use Rattle.jb2_records.proofs.Ending.{any_count}
 use Rattle.jb2_records.proofs.Growing.{records_go_on}
 use Rattle.jb2_records.proofs.Adding.{blank_first}
@@ -103,7 +100,7 @@ at_decisions input None told machine settles = let is = settles.answers.decision
 -- ---- bytes that come
 
 -- what is kept, in its parts
-abbrev kept_at : Option Step → Jb2Step → Machine → Kept
+abbrev pub kept_at : Option Step → Jb2Step → Machine → Kept
 kept_at at told machine = record { step = at; answer = told; machine = machine }
 
 abbrev input_at : List Row → List ℕ → Bool → Machine → Input
@@ -381,54 +378,3 @@ module _ (found next : Option Step) (at : Step) (told given : Jb2Step) (old new 
       subst (λ (n : Option Step). IsHeld (kept_at n given new)) (sym next_is)
       (subst (λ (g : Jb2Step). IsHeld (kept_at (step_of halts) g new)) (sym given_is)
       (run_held at told old new halts later runs fits (subst (λ (f : Option Step). IsHeld (kept_at f told old)) some held)))
-
--- ---- once the records ended
-
-ended_here : (at : Option Step) (told : Jb2Step) → answered_by at told ≡ Some answer.Finished → (at ≡ None) × (told ≡ answer.Finished)
-ended_here (Some at) told is = absurd (cc)
-ended_here None told is = (refl, cc)
-
-module _ (at : Option Step) (told : Jb2Step) (machine : Machine) (ended : answered_by at told ≡ Some answer.Finished) where
-  pub finished_keeps : (payload : List ℕ) → Fed payload (state_of (kept_at at told machine)) →
-      Keeps (input_of (state_of (kept_at at told machine)) payload) (records_of (input_of (state_of (kept_at at told machine)) payload)).records
-      machine.library
-  finished_keeps payload fed = (fed_stands at told machine payload (ended_here at told ended).0 fed).keeps (ended_here at told ended).1
-
-  pub finished_draws : (payload : List ℕ) → Fed payload (state_of (kept_at at told machine)) →
-      Draws (input_of (state_of (kept_at at told machine)) payload) (records_of (input_of (state_of (kept_at at told machine)) payload)).records
-      machine.picture
-  finished_draws payload fed = (fed_stands at told machine payload (ended_here at told ended).0 fed).draws (ended_here at told ended).1
-
-drawn_for : (input : Input) (before : List Record) (shapes : Library) (purpose : Purpose) (picture : Option Picture) → input.purpose ≡ purpose →
-    shapes.purpose ≡ purpose →
-    IsPictured shapes picture → shapes.started ≡ true → Draws input before picture → IsDrawnFor purpose picture
-drawn_for input before shapes Dictionary picture is same pictured started draws = tt
-drawn_for input before shapes (Mask width height) None is same pictured started draws = let none = pictured started in absurd (cc)
-drawn_for input before shapes (Mask width height) (Some picture) is same pictured started draws = let size = draws.purpose in (cc, cc)
-
--- a mask has its picture
-pub finished_drawn : (at : Option Step) (told : Jb2Step) (machine : Machine) → answered_by at told ≡ Some answer.Finished → IsHeld (kept_at at told machine) →
-    IsDrawnFor machine.library.purpose machine.picture
-finished_drawn (Some at) told machine ended held = absurd (cc)
-finished_drawn None told machine ended held =
-    let fits = held.fits.1 cc in
-    drawn_for (input_of (state_of (kept_at None told machine)) held.payload)
-    (records_of (input_of (state_of (kept_at None told machine)) held.payload)).records machine.library
-    machine.library.purpose machine.picture refl refl fits.0 fits.1 (finished_draws None told machine ended held.payload held.fed)
-
-drawn_width : (purpose : Purpose) (found : Option Picture) (picture : Picture) (width height : ℕ) → found ≡ Some picture → IsDrawnFor purpose found →
-    purpose ≡ Mask width height →
-    (picture.mask.width ≡ width) × (picture.mask.height ≡ height)
-drawn_width purpose found picture width height some drawn is =
-    let there : IsDrawnFor (Mask width height) (Some picture) =
-    subst (λ (f : Option Picture). IsDrawnFor (Mask width height) f) some (subst (λ (p : Purpose). IsDrawnFor p found) is drawn) in
-    there
-
-pub drawn_mask : (input : Input) (found : Option Picture) (picture : Picture) (width height : ℕ) → found ≡ Some picture → IsDrawnFor input.purpose found →
-    input.purpose ≡ Mask width height →
-    Draws input (records_of input).records found → picture.mask ≡ mask_drawn width height input
-drawn_mask input found picture width height some drawn is draws =
-    let shows : Shows input (records_of input).records picture = subst (λ (f : Option Picture). Draws input (records_of input).records f) some draws in
-    let size : (picture.mask.width ≡ width) × (picture.mask.height ≡ height) = drawn_width input.purpose found picture width height some drawn is in
-    shows.mask ∙ ap (λ (w : ℕ). mask_of w picture.mask.height (placed_shapes input.inherited (records_of input).records)) size.0
-    ∙ ap (λ (h : ℕ). mask_of width h (placed_shapes input.inherited (records_of input).records)) size.1

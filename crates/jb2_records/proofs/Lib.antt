@@ -44,6 +44,7 @@ mod Waiting
 -- the steps of a machine
 mod Lasting
 mod Suspending
+mod Asking
 mod Stepping
 mod Entering
 -- src/marks.rt
@@ -54,3 +55,5 @@ mod Making
 mod Lengthening
 -- the readers
 mod Feeding
+-- RecordReader::into_machine, MaskReader::mask
+mod Concluding

@@ -5,6 +5,7 @@ use Rattle.std.proofs.lemmas.List.{length-append}
 use Rattle.djvu_base.specs.declared.faults.FaultKind.{FaultKind}
 use Rattle.zp_table.specs.declared.rows.Row.{Row}
 use Rattle.zp_table.specs.Rows.{IsTable}
+use Rattle.jb2_records.specs.declared.purpose.Purpose.TheVariants as purpose
 use Rattle.jb2_records.specs.declared.reader.Jb2Step.{Jb2Step}
 use Rattle.jb2_records.specs.declared.reader.Jb2Step.TheVariants as records
 use Rattle.jb2_records.specs.Reading as jb2
@@ -157,12 +158,12 @@ module _ (table : List Row) (is : IsTable table) (law : RecordsGrow) (layers_law
 
   dictionary_on : (bytes more : List ℕ) (ended : Bool) (decoded : Decoded)
       → CameOn (dictionary_came table (part bytes) decoded) (dictionary_came table (data_of (bytes ++ more) ended) decoded)
-  dictionary_on bytes more ended decoded = purpose_on jb2.Dictionary bytes more ended decoded _ _
+  dictionary_on bytes more ended decoded = purpose_on purpose.Dictionary bytes more ended decoded _ _
 
   mask_on : (layers : Option Layers) (bytes more : List ℕ) (ended : Bool) (decoded : Decoded)
       → CameOn (mask_came layers table (part bytes) decoded) (mask_came layers table (data_of (bytes ++ more) ended) decoded)
   mask_on None bytes more ended decoded = waits_on (plainly Unfinished)
-  mask_on (Some layers) bytes more ended decoded = purpose_on (jb2.Mask layers.width layers.height) bytes more ended decoded _ _
+  mask_on (Some layers) bytes more ended decoded = purpose_on (purpose.Mask layers.width layers.height) bytes more ended decoded _ _
 
   front_on : (layers : Option Layers) (bytes more : List ℕ) (ended : Bool) (decoded : Decoded)
       → CameOn (front_came layers table (part bytes) decoded) (front_came layers table (data_of (bytes ++ more) ended) decoded)

@@ -4,6 +4,7 @@ use Rattle.djvu_base.specs.Picture.{Picture}
 use Rattle.djvu_base.specs.declared.faults.FaultKind.{FaultKind}
 use Rattle.zp_table.specs.declared.rows.Row.{Row}
 use Rattle.bit_plane.specs.Pixels.{Pixels}
+use Rattle.jb2_records.specs.declared.purpose.Purpose.TheVariants as purpose
 use Rattle.jb2_records.specs.declared.reader.Jb2Step.{Jb2Step}
 use Rattle.jb2_records.specs.declared.reader.Jb2Step.TheVariants as records
 use Rattle.jb2_records.specs.Reading as jb2
@@ -79,7 +80,7 @@ mask_brings : (layers : Option Layers) (table : List Row) (given : Data) (offset
     → (mask_came layers table given before).outcome ≡ Leaves decoded → Brings kind.Mask table given offset before decoded
 mask_brings None table given offset before decoded l e = let wrong : Unfinished ≡ Leaves decoded = e in absurd (cc)
 mask_brings (Some layers) table given offset before decoded l e =
-    (layers, _, l, records_is (jb2.records_of (records_in table (jb2.Mask layers.width layers.height) given before)).answer given _ decoded e)
+    (layers, _, l, records_is (jb2.records_of (records_in table (purpose.Mask layers.width layers.height) given before)).answer given _ decoded e)
 
 layer_is : (answer : Answer) (given : Data) (left decoded : Decoded) → layer_outcome answer given left ≡ Leaves decoded → (answer ≡ iw44.Done)
     × (decoded ≡ left) × (given.ended ≡ true)
@@ -103,7 +104,7 @@ pub brings : (of : ChunkKind) (table : List Row) (given : Data) (offset : ℕ) (
 brings kind.Info table given offset before decoded e = info_brings (leb 4 (length given.bytes)) table given offset before decoded e
 brings kind.Include table given offset before decoded e = include_brings given.ended table given offset before decoded refl e
 brings kind.Dictionary table given offset before decoded e =
-    (_, records_is (jb2.records_of (records_in table jb2.Dictionary given before)).answer given _ decoded e)
+    (_, records_is (jb2.records_of (records_in table purpose.Dictionary given before)).answer given _ decoded e)
 brings kind.Mask table given offset before decoded e = mask_brings before.layers table given offset before decoded refl e
 brings kind.Front table given offset before decoded e = front_brings before.layers table given offset before decoded refl e
 brings kind.Back table given offset before decoded e = back_brings before.layers table given offset before decoded refl e

@@ -8,6 +8,7 @@ use Rattle.zp_table.specs.declared.rows.Row.{Row}
 use Rattle.zp_decoder.specs.Chunk.{chunk}
 use Rattle.bit_plane.specs.Pixels.{Pixels}
 use Rattle.include_graph.specs.Included.{include_name}
+use Rattle.jb2_records.specs.declared.purpose.Purpose.TheVariants as purpose
 use Rattle.jb2_records.specs.declared.reader.Jb2Step.{Jb2Step}
 use Rattle.jb2_records.specs.declared.reader.Jb2Step.TheVariants as records
 use Rattle.jb2_records.specs.Reading as jb2
@@ -109,7 +110,7 @@ abbrev pub dictionary_by : jb2.Input → Data → Decoded → Came
 dictionary_by input given decoded = records_came input given (with_dictionary (library_left input) decoded)
 
 abbrev pub dictionary_came : List Row → Data → Decoded → Came
-dictionary_came table given decoded = dictionary_by (records_in table jb2.Dictionary given decoded) given decoded
+dictionary_came table given decoded = dictionary_by (records_in table purpose.Dictionary given decoded) given decoded
 
 abbrev pub mask_by : Layers → jb2.Input → Data → Decoded → Came
 mask_by layers input given decoded = records_came input given (with_layers (with_mask layers (mask_drawn layers.width layers.height input)) decoded)
@@ -117,7 +118,7 @@ mask_by layers input given decoded = records_came input given (with_layers (with
 -- a mask has the page's size, which stands before it
 abbrev pub mask_came : Option Layers → List Row → Data → Decoded → Came
 mask_came None table given decoded = plainly Unfinished
-mask_came (Some layers) table given decoded = mask_by layers (records_in table (jb2.Mask layers.width layers.height) given decoded) given decoded
+mask_came (Some layers) table given decoded = mask_by layers (records_in table (purpose.Mask layers.width layers.height) given decoded) given decoded
 
 -- ---- layers of colour
 

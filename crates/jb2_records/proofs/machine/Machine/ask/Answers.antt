@@ -1,7 +1,7 @@
 use Rattle.std.proofs.Common.{◌≡◌, ℤ, to_z, of_z, w32, rules, sym, subst, ◌∙◌}
 use Rattle.jb2_numbers.specs.Reader.{AreBounds}
 use Rattle.jb2_records.specs.Steps.{low_of}
-use Rattle.jb2_records.proofs.Stepping.{asked_holds, asked_rank}
+use Rattle.jb2_records.proofs.Asking.{asked_holds, asked_rank}
 use Rattle.jb2_records.proofs.machine.Machine.ask.Goals as goal
 
 pub returns-clause-asks : goal.returns-clause-asks

@@ -1,4 +1,4 @@
-use Rattle.jb2_records.proofs.Stepping.{refined_begun}
+use Rattle.jb2_records.proofs.Asking.{refined_begun}
 use Rattle.jb2_records.proofs.machine.Machine.beside.Goals as goal
 
 pub returns-in-Ok-clause-moves : goal.returns-in-Ok-clause-moves

@@ -3,7 +3,7 @@ use Rattle.jb2_records.specs.declared.steps.Step.TheVariants as step
 use Rattle.jb2_records.specs.declared.steps.Origin.TheVariants as origin
 use Rattle.jb2_records.specs.Steps.{rest_of}
 use Rattle.jb2_records.specs.Machine.{Waits}
-use Rattle.jb2_records.proofs.Stepping.{direct_holds, direct_halts}
+use Rattle.jb2_records.proofs.Asking.{direct_holds, direct_halts}
 use Rattle.jb2_records.proofs.Making.{at_shape}
 use Rattle.jb2_records.proofs.machine.Machine.direct.Goals as goal
 

@@ -3,7 +3,7 @@ use Rattle.jb2_records.specs.Coding.{checked}
 use Rattle.jb2_records.specs.Reading.{start_fault}
 use Rattle.jb2_records.specs.Steps.{from_start}
 use Rattle.jb2_records.specs.declared.steps.Step.TheVariants as step
-use Rattle.jb2_records.proofs.Stepping.{flag_stays, flag_halts}
+use Rattle.jb2_records.proofs.Asking.{flag_stays, flag_halts}
 use Rattle.jb2_records.specs.Machine.{halt_of}
 use Rattle.jb2_records.proofs.Entering.{at_sizes}
 use Rattle.jb2_records.proofs.machine.Machine.flag.Goals as goal

@@ -2,7 +2,7 @@ use Rattle.std.proofs.Common.{◌≡◌, to_z, of_z, w32, rules}
 use Rattle.jb2_records.specs.declared.steps.Step.TheVariants as step
 use Rattle.jb2_records.specs.Steps.{root_of, low_of, most_of}
 use Rattle.jb2_records.specs.Machine.{wanted_at, high_at}
-use Rattle.jb2_records.proofs.Stepping.{number_stays, number_halts, at_value, passed_low, passed_high, halted_fits, later_coder, later_self, number_shrinks}
+use Rattle.jb2_records.proofs.Asking.{number_stays, number_halts, at_value, passed_low, passed_high, halted_fits, later_coder, later_self, number_shrinks}
 use Rattle.jb2_records.proofs.machine.Machine.number.Goals as goal
 
 pub read-requires-clause-low : goal.read-requires-clause-low

@@ -1,4 +1,4 @@
-use Rattle.jb2_records.proofs.Stepping.{shape_begun}
+use Rattle.jb2_records.proofs.Asking.{shape_begun}
 use Rattle.jb2_records.proofs.machine.Machine.own.Goals as goal
 
 pub returns-in-Ok-clause-moves : goal.returns-in-Ok-clause-moves

@@ -2,7 +2,7 @@ use Rattle.std.proofs.Common.{◌≡◌, ℤ, [], ◌∷◌, ◌++◌, to_z, of_
 use Rattle.bit_plane.specs.Ink.{unsigned}
 use Rattle.jb2_records.specs.declared.steps.Field.TheVariants as field
 use Rattle.jb2_records.specs.Steps.{behind, rest_of}
-use Rattle.jb2_records.proofs.Stepping.{at_field, at_value}
+use Rattle.jb2_records.proofs.Asking.{at_field, at_value}
 use Rattle.jb2_records.proofs.Entering.{at_number, at_count}
 use Rattle.jb2_records.proofs.machine.Machine.read.Goals as goal
 

@@ -1,5 +1,5 @@
 use Rattle.jb2_records.specs.declared.steps.Step.TheVariants as step
-use Rattle.jb2_records.proofs.Stepping.{row_stays, row_halts, halted_fits}
+use Rattle.jb2_records.proofs.Asking.{row_stays, row_halts, halted_fits}
 use Rattle.jb2_records.proofs.machine.Machine.row.Goals as goal
 
 pub returns-in-Ok-clause-moves : goal.returns-in-Ok-clause-moves

@@ -2,7 +2,7 @@ use Rattle.std.proofs.Common.{◌≡◌, sym, ap, subst, ◌∙◌}
 use Rattle.jb2_records.specs.Reading.{Mask}
 use Rattle.jb2_records.specs.Mask.{mask_drawn}
 use Rattle.jb2_records.specs.ReaderState.{ReaderState, Fed, input_of}
-use Rattle.jb2_records.proofs.Feeding.{drawn_mask}
+use Rattle.jb2_records.proofs.Concluding.{drawn_mask}
 use Rattle.jb2_records.proofs.reader.MaskReader.mask.Goals as goal
 
 pub returns-clause-mask : goal.returns-clause-mask

@@ -3,7 +3,7 @@ use Rattle.jb2_records.specs.Reading.{records_of}
 use Rattle.jb2_records.specs.Library.{Keeps}
 use Rattle.jb2_records.specs.Picture.{Draws}
 use Rattle.jb2_records.specs.ReaderState.{ReaderState, Fed, input_of, IsDrawnFor}
-use Rattle.jb2_records.proofs.Feeding.{finished_keeps, finished_draws, finished_drawn}
+use Rattle.jb2_records.proofs.Concluding.{finished_keeps, finished_draws, finished_drawn}
 use Rattle.jb2_records.proofs.records.RecordReader.into_machine.Goals as goal
 
 pub returns-clause-keeps : goal.returns-clause-keeps

@@ -5,3 +5,5 @@ mod Growing
 mod Listing
 -- law sizes_are_checked_first
 mod Checking
+-- plane_samples, Samples::colour, picture_samples
+mod Painting

@@ -5,4 +5,5 @@ pub mod Header
 pub mod Layer
 pub mod Growth
 pub mod Samples
+pub mod Rasters
 pub mod Worked

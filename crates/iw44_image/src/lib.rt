@@ -5,6 +5,8 @@
 //! IW44 in the DjVu Reference, version 3; the numbers are this project's own profile after it (`docs/iw44.md`).
 #![tactic(auto)]
 
+mod colours;
 mod headers;
 pub mod laws;
 mod planes;
+mod rasters;

@@ -7,3 +7,5 @@ mod Listing
 mod Checking
 -- plane_samples, Samples::colour, picture_samples
 mod Painting
+-- open_chunk, read_version, read_sizes, Start::behind
+mod Beginning

@@ -122,15 +122,15 @@ pixel_by : (header : Header) (it : Components) (ys : List ℤ) (chroma : Option 
     x < header.width → y < header.height → colour_by ys chroma (y * header.width + x) ≡ pixel header it x y
 pixel_by header it ys None x y size are grey_is column row =
     let value : number_in ys (y * header.width + x) ≡ sample_of (plane_value false it.y x y) =
-      ap (λ (l : List ℤ). number_in l (y * header.width + x)) are ∙ sample_is header false it.y x y size.y column row in
+    ap (λ (l : List ℤ). number_in l (y * header.width + x)) are ∙ sample_is header false it.y x y size.y column row in
     rw grey_is (ap grey value)
 pixel_by header it ys (Some chroma) x y size are coloured column row =
     let first : number_in ys (y * header.width + x) ≡ sample_of (plane_value false it.y x y) =
-      ap (λ (l : List ℤ). number_in l (y * header.width + x)) are ∙ sample_is header false it.y x y size.y column row in
+    ap (λ (l : List ℤ). number_in l (y * header.width + x)) are ∙ sample_is header false it.y x y size.y column row in
     let second : number_in chroma.b.items (y * header.width + x) ≡ sample_of (plane_value header.half it.b x y) =
-      ap (λ (l : List ℤ). number_in l (y * header.width + x)) coloured.1.0 ∙ sample_is header header.half it.b x y size.b column row in
+    ap (λ (l : List ℤ). number_in l (y * header.width + x)) coloured.1.0 ∙ sample_is header header.half it.b x y size.b column row in
     let third : number_in chroma.r.items (y * header.width + x) ≡ sample_of (plane_value header.half it.r x y) =
-      ap (λ (l : List ℤ). number_in l (y * header.width + x)) coloured.1.1 ∙ sample_is header header.half it.r x y size.r column row in
+    ap (λ (l : List ℤ). number_in l (y * header.width + x)) coloured.1.1 ∙ sample_is header header.half it.r x y size.r column row in
     rw coloured.0 (colours_same _ _ _ _ _ _ first second third)
 
 -- the samples of a picture are those that its planes' samples give

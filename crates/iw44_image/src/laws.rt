@@ -9,7 +9,7 @@ ghost use Rattle.iw44_image.specs.Header.{Short, Wrong, Opened, open_chunk, chec
 ghost use Rattle.iw44_image.specs.Layer.{Layer, Data, Allowed, Done, Need, Fault, any_size, data_of, opening_of, after_chunk, ends, read_chunk, read_chunks, read_layer, new_layer};
 ghost use Rattle.iw44_image.specs.Samples.{grey, colour, sample_of};
 ghost use Rattle.iw44_image.specs.Growth.{OpenGrows, AreRows};
-ghost use Rattle.iw44_image.specs.Worked.{first_opening, one_chunk, two_chunks, layer_picture};
+ghost use Rattle.iw44_image.specs.Worked.{first_opening, one_chunk, two_chunks, checked_chunk, layer_picture};
 
 /// Grey is colour without chroma: of a sample y it is what colour is of -1 - y.
 pub fn grey_is_colour_without_chroma()
@@ -130,6 +130,27 @@ pub fn worked_grey_layers()
     ensures no_decision { (one_chunk (0 ∷ 1 ∷ 0x81 ∷ 2 ∷ 0 ∷ 1 ∷ 0 ∷ 1 ∷ 0 ∷ 0x3F ∷ []) false).layer.decisions ≡ 0 }
     ensures later_serial { (two_chunks (0 ∷ 1 ∷ 0x81 ∷ 2 ∷ 0 ∷ 1 ∷ 0 ∷ 1 ∷ 0 ∷ []) (0 ∷ 1 ∷ [])).answer ≡ Fault fault.IwSerial }
     ensures later_chunk { (two_chunks (0 ∷ 1 ∷ 0x81 ∷ 2 ∷ 0 ∷ 1 ∷ 0 ∷ 1 ∷ 0 ∷ []) (1 ∷ 10 ∷ 0x3F ∷ [])).layer.slices ≡ 11 }
+{}
+
+/// Sizes that are taken or not: one that isn't is refused once the last byte of the header is there, without a decision; but an
+/// empty size and one above the limit come before.
+pub fn worked_layer_sizes()
+    ensures refused { (checked_chunk (0 ∷ 1 ∷ 0x81 ∷ 2 ∷ 0 ∷ 2 ∷ 0 ∷ 1 ∷ 0 ∷ []) true).answer ≡ Fault fault.LayerSize }
+    ensures no_decision { (checked_chunk (0 ∷ 1 ∷ 0x81 ∷ 2 ∷ 0 ∷ 2 ∷ 0 ∷ 1 ∷ 0 ∷ 0x3F ∷ []) true).layer.decisions ≡ 0 }
+    ensures late { (checked_chunk (0 ∷ 1 ∷ 0x81 ∷ 2 ∷ 0 ∷ 2 ∷ 0 ∷ 1 ∷ []) false).answer ≡ Need }
+    ensures empty { (checked_chunk (0 ∷ 1 ∷ 0x81 ∷ 2 ∷ 0 ∷ 0 ∷ 0 ∷ 1 ∷ 0 ∷ []) true).answer ≡ Fault fault.IwHeader }
+    ensures large { (checked_chunk (0 ∷ 1 ∷ 0x81 ∷ 2 ∷ 0 ∷ 11 ∷ 0 ∷ 10 ∷ 0 ∷ []) true).answer ≡ Fault fault.TooLarge }
+    ensures taken { (checked_chunk (0 ∷ 1 ∷ 0x81 ∷ 2 ∷ 0 ∷ 1 ∷ 0 ∷ 1 ∷ 0 ∷ []) true).answer ≡ Done }
+{}
+
+/// Chunks of two slices: slice 1 reads nothing of a plane of one place, but with a delay of 1 both planes of chroma begin there.
+/// And a chunk of 200 slices without a byte of ZP data is exhausted after 176 decisions.
+pub fn worked_slices_of_chunks()
+    ensures two { (one_chunk (0 ∷ 2 ∷ 0x81 ∷ 2 ∷ 0 ∷ 1 ∷ 0 ∷ 1 ∷ 0 ∷ []) true).layer.slices ≡ 2 }
+    ensures two_decisions { (one_chunk (0 ∷ 2 ∷ 0x81 ∷ 2 ∷ 0 ∷ 1 ∷ 0 ∷ 1 ∷ 0 ∷ []) true).layer.decisions ≡ 1 }
+    ensures chroma { (one_chunk (0 ∷ 2 ∷ 1 ∷ 2 ∷ 0 ∷ 1 ∷ 0 ∷ 1 ∷ 0x81 ∷ []) true).layer.decisions ≡ 3 }
+    ensures exhausted { (one_chunk (0 ∷ 200 ∷ 0x81 ∷ 2 ∷ 0 ∷ 1 ∷ 0 ∷ 1 ∷ 0 ∷ []) true).answer ≡ Fault fault.ZpExhausted }
+    ensures exhausted_decisions { (one_chunk (0 ∷ 200 ∷ 0x81 ∷ 2 ∷ 0 ∷ 1 ∷ 0 ∷ 1 ∷ 0 ∷ []) true).layer.decisions ≡ 176 }
 {}
 
 /// Layers of one pixel with colours, at full size and at half size: all three planes are 0.

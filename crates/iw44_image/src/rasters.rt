@@ -99,7 +99,13 @@ impl Samples {
     }
 
     /// Adds a row, counted from the top, to those above it.
-    fn paint_row(&self, width: u32, height: u32, row: u32, out: &mut Vec<u8>) -> Result<(), AllocError>
+    fn paint_row(
+        &self,
+        width: u32,
+        height: u32,
+        row: u32,
+        out: &mut Vec<u8>,
+    ) -> Result<(), AllocError>
         requires area { width * height ≤ 2 ^ 24 }
         requires full { IsFull (width * height) self.now }
         requires row { row < height }
@@ -116,7 +122,11 @@ impl Samples {
 }
 
 /// The samples of a plane. At half size a sample stands for two by two places. One grid is made.
-pub(crate) fn plane_samples(alloc: Global, plane: &Coefficients, half: bool) -> Result<Vec<i8>, AllocError>
+pub(crate) fn plane_samples(
+    alloc: Global,
+    plane: &Coefficients,
+    half: bool,
+) -> Result<Vec<i8>, AllocError>
     requires small { IsSmall 32767 plane.now }
     ensures { IfOk result (λ samples. samples.items ≡ plane_samples half plane.now) }
 {

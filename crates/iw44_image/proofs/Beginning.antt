@@ -1,11 +1,11 @@
 -- The start of a chunk: what a test of the code says of the bytes.
-use Rattle.std.proofs.Common.{◌≡◌, ℕ, zero, suc, ◌+◌, ◌-◌, ◌*◌, ◌%◌, ◌<◌, ◌≤◌, Bool, true, false, ◌&&◌, nat_le, List, [], ◌∷◌, ◌++◌, length, get_or, take, drop, length-drop, Option, refl, ap, sym, ◌∙◌, subst, arith}
+use Rattle.std.proofs.Common.{◌≡◌, ℕ, ◌+◌, ◌-◌, ◌*◌, ◌%◌, ◌≤◌, Bool, true, ◌&&◌, nat_le, List, [], ◌∷◌, ◌++◌, length, get_or, take, drop, length-drop, Option, refl, ap, sym, ◌∙◌, subst, arith}
 use Rattle.std.specs.Prelude.{if◌then◌else◌, ◌==◌}
 use Rattle.std.proofs.Math.Seq.{drop-append-add, take-length}
 use Rattle.std.proofs.lemmas.Grind.{common_steps}
 use Rattle.iw44_image.specs.declared.headers.Header.{Header}
 use Rattle.iw44_image.specs.declared.headers.Start.{Start}
-use Rattle.iw44_image.specs.Header.{Opening, after_sizes, read_sizes, read_version, read_rest, open_chunk, plain_header}
+use Rattle.iw44_image.specs.Header.{Opening, after_sizes, read_sizes, read_version, read_rest, open_chunk}
 use Rattle.iw44_image.specs.Starting.{opening_in, IsInside}
 
 pub drop_behind : (before bytes : List ℕ) (n count : ℕ) → length before ≡ count → drop (n + count) (before ++ bytes) ≡ drop n bytes

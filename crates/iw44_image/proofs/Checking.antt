@@ -1,11 +1,11 @@
 -- The check of a layer's size.
-use Rattle.std.proofs.Common.{◌≡◌, ℕ, Bool, true, false, List, [], ◌∷◌, Option, Some, None, refl, ap, sym, ◌∙◌, subst}
+use Rattle.std.proofs.Common.{◌≡◌, ℕ, Bool, true, false, List, Option, Some, None, refl, ap, sym, ◌∙◌, subst}
 use Rattle.djvu_base.specs.declared.faults.FaultKind.{FaultKind}
 use Rattle.djvu_base.specs.declared.faults.FaultKind.TheVariants as fault
 use Rattle.zp_table.specs.declared.rows.Row.{Row}
 use Rattle.iw44_image.specs.declared.headers.Header.{Header}
 use Rattle.iw44_image.specs.Header.{Opening, Short, Wrong, Opened, checked, open_chunk}
-use Rattle.iw44_image.specs.Layer.{Allowed, Data, any_size, opening_of, Layer, LayerReading, Fault, ends, read_opened, read_chunk}
+use Rattle.iw44_image.specs.Layer.{Allowed, Data, any_size, opening_of, Layer, Fault, ends, read_opened, read_chunk}
 
 -- without a test of the size nothing is refused by it
 pub any_checked : (known : Option Header) (it : Opening) → checked (λ width height. true) known it ≡ it

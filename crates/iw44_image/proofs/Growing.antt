@@ -20,7 +20,7 @@ use Rattle.iw44_image.specs.declared.headers.Header.{Header}
 use Rattle.iw44_image.specs.Header.{Opening, Short, Wrong, Opened, checked, sized, plain_header, header_by, after_sizes, read_sizes, read_version, read_rest, open_chunk}
 use Rattle.iw44_image.specs.declared.planes.Channel.{Channel}
 use Rattle.iw44_image.specs.declared.planes.Channel.TheVariants.{Y, B, R}
-use Rattle.iw44_image.specs.Layer.{Allowed, Data, any_size, data_of, opening_of, Task, Layer, LayerReading, Done, Need, Fault, plane_for, tasks, with_header, layer_after, after_slice, task_reading, chunk_end, read_tasks, read_opened, read_chunk}
+use Rattle.iw44_image.specs.Layer.{Allowed, Data, data_of, opening_of, Task, Layer, LayerReading, Done, Need, Fault, plane_for, tasks, with_header, layer_after, after_slice, task_reading, chunk_end, read_tasks, read_opened, read_chunk}
 use Rattle.iw44_image.specs.Growth.{OpenGrows, AreRows}
 
 either : (more : List ℕ) (test : Bool) (a b c d : Opening) → OpenGrows more a c → OpenGrows more b d → OpenGrows more (if test then a else b) (if test then c else d)

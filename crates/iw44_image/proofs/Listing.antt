@@ -1,13 +1,9 @@
 -- Layers over a list of chunks.
-use Rattle.std.proofs.Common.{◌≡◌, ℕ, ◌≤◌, Bool, true, false, List, [], ◌∷◌, ◌++◌, length, Option, Some, None, refl, ap, sym, ◌∙◌, subst, arith}
-use Rattle.std.proofs.lemmas.Grind.{common_steps}
+use Rattle.std.proofs.Common.{◌≡◌, ℕ, ◌≤◌, Bool, false, List, [], ◌∷◌, ◌++◌, refl, ap, sym, ◌∙◌, subst, arith}
 use Rattle.djvu_base.specs.declared.faults.FaultKind.{FaultKind}
-use Rattle.djvu_base.specs.declared.faults.FaultKind.TheVariants as fault
 use Rattle.zp_table.specs.declared.rows.Row.{Row}
 use Rattle.zp_table.specs.Rows.{IsTable}
-use Rattle.iw44_image.specs.declared.headers.Header.{Header}
-use Rattle.iw44_image.specs.Header.{Opening, Short, Wrong, Opened, checked, open_chunk}
-use Rattle.iw44_image.specs.Layer.{Allowed, Data, any_size, data_of, opening_of, Layer, LayerReading, Answer, Done, Need, Fault, ends, after_chunk, read_opened, read_chunk, read_chunks, read_layer, new_layer}
+use Rattle.iw44_image.specs.Layer.{Allowed, Data, data_of, Layer, LayerReading, Answer, Done, Need, Fault, ends, after_chunk, read_chunk, read_chunks, read_layer, new_layer}
 use Rattle.iw44_image.specs.Growth.{AreRows}
 use Rattle.iw44_image.proofs.Growing.{table_some, chunk_counts, chunk_rows, chunk_grows, chunk_refused, chunk_open}
 

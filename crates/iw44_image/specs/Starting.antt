@@ -1,5 +1,5 @@
 -- For the code's own functions: the start of a chunk, as the code tells it.
-use Rattle.std.specs.Prelude.{ℕ, ◌+◌, ◌*◌, ◌%◌, ◌≤◌, not, nat_le, List, drop, ⊤}
+use Rattle.std.specs.Prelude.{ℕ, ◌*◌, ◌%◌, ◌≤◌, not, nat_le, List, drop, ⊤}
 use Rattle.iw44_image.specs.declared.headers.Header.{Header}
 use Rattle.iw44_image.specs.declared.headers.Start.{Start}
 use Rattle.iw44_image.specs.declared.headers.Start.TheVariants as start

@@ -1,4 +1,4 @@
-use Rattle.std.proofs.Common.{length, drop, get_or, ◌+◌, ◌*◌, ap, ◌∙◌, ℕ}
+use Rattle.std.proofs.Common.{length, get_or, ◌+◌, ◌*◌, ap, ◌∙◌, ℕ}
 use Rattle.iw44_image.specs.Header.{plain_header}
 use Rattle.iw44_image.proofs.Beginning.{sizes_read, inside_read, rest_all}
 use Rattle.iw44_image.proofs.headers.read_sizes.Goals as goal

@@ -1,4 +1,4 @@
-use Rattle.std.proofs.Common.{◌≡◌, ℕ, ◌+◌, ◌*◌, ◌++◌, ◌∷◌, [], ℤ, ap, ◌∙◌, arith, rules, to_z, of_z, w8}
+use Rattle.std.proofs.Common.{◌≡◌, ◌++◌, ◌∷◌, [], ap, ◌∙◌, arith, rules, to_z, of_z, w8}
 use Rattle.iw44_blocks.proofs.Lemmas.{value_more}
 use Rattle.iw44_image.specs.Samples.{placed_value, sample_of}
 use Rattle.iw44_image.proofs.rasters.push_row.Goals as goal

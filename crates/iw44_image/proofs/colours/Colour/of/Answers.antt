@@ -1,7 +1,7 @@
-use Rattle.std.proofs.Common.{◌≡◌, ℕ, ℤ, pos, ◌+ℤ◌, ◌-ℤ◌, ◌*ℤ◌, ap, ◌∙◌, rules, to_z, of_z, w8, w32}
+use Rattle.std.proofs.Common.{◌≡◌, ℕ, pos, ◌+ℤ◌, ◌-ℤ◌, ◌*ℤ◌, ap, ◌∙◌, rules, to_z, of_z, w8, w32}
 use Rattle.std.specs.Int.{int_shr}
 use Rattle.iw44_image.specs.declared.colours.Colour.{Colour}
-use Rattle.iw44_image.specs.Samples.{byte_of, colour, red_part, base_part}
+use Rattle.iw44_image.specs.Samples.{byte_of, red_part, base_part}
 use Rattle.iw44_image.proofs.colours.Colour.of.Goals as goal
 
 same : (a b c x y z : ℕ) → a ≡ x → b ≡ y → c ≡ z → ◌≡◌ {A = Colour} (record { red = a; green = b; blue = c }) (record { red = x; green = y; blue = z })

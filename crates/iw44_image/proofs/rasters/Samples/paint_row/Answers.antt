@@ -1,4 +1,4 @@
-use Rattle.std.proofs.Common.{◌≡◌, ℕ, ◌+◌, ◌-◌, ◌*◌, arith}
+use Rattle.std.proofs.Common.{◌+◌, ◌-◌, ◌*◌, arith}
 use Rattle.iw44_image.proofs.Painting.{pixel_more}
 use Rattle.iw44_image.proofs.rasters.Samples.paint_row.Goals as goal
 

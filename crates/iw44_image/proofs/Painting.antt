@@ -1,5 +1,6 @@
 -- Samples of planes, and pixels out of them.
-use Rattle.std.proofs.Common.{◌≡◌, ℕ, zero, suc, ◌+◌, ◌-◌, ◌*◌, ◌/◌, ◌%◌, ◌<◌, Bool, true, false, ℤ, pos, List, [], ◌∷◌, ◌++◌, length, map, refl, ap, sym, ◌∙◌, arith, append_assoc}
+use Rattle.std.proofs.Common.{◌≡◌, ℕ, zero, suc, ◌+◌, ◌-◌, ◌*◌, ◌/◌, ◌%◌, ◌<◌, Bool, true, false, ℤ, pos, List, [], ◌∷◌, ◌++◌, length, map, refl}
+use Rattle.std.proofs.Common.{ap, sym, ◌∙◌, arith, append_assoc}
 use Rattle.std.specs.List.{range_with_len}
 use Rattle.djvu_base.specs.Picture.{Picture}
 use Rattle.std.proofs.Math.Nat.{mul_assoc}
@@ -60,8 +61,10 @@ pixel_more w h row x at samples it items more within place is before e =
     let rest2 : (3 * k + 2) % 3 ≡ 2 = omega arith in
     let at_pixel : ℕ → ℕ → ℕ = λ c p. channel_of c (colour_at samples ((h - 1 - p / w) * w + p % w)) in
     let red : f (3 * k) ≡ it.red = ap (λ (c : ℕ). at_pixel c ((3 * k) / 3)) rest ∙ ap (λ (p : ℕ). at_pixel 0 p) third ∙ ap (λ (o : Colour). o.red) colour_is in
-    let green : f (3 * k + 1) ≡ it.green = ap (λ (c : ℕ). at_pixel c ((3 * k + 1) / 3)) rest1 ∙ ap (λ (p : ℕ). at_pixel 1 p) third1 ∙ ap (λ (o : Colour). o.green) colour_is in
-    let blue : f (3 * k + 2) ≡ it.blue = ap (λ (c : ℕ). at_pixel c ((3 * k + 2) / 3)) rest2 ∙ ap (λ (p : ℕ). at_pixel 2 p) third2 ∙ ap (λ (o : Colour). o.blue) colour_is in
+    let green : f (3 * k + 1) ≡ it.green = ap (λ (c : ℕ). at_pixel c ((3 * k + 1) / 3)) rest1 ∙ ap (λ (p : ℕ). at_pixel 1 p) third1 ∙ ap
+    (λ (o : Colour). o.green) colour_is in
+    let blue : f (3 * k + 2) ≡ it.blue = ap (λ (c : ℕ). at_pixel c ((3 * k + 2) / 3)) rest2 ∙ ap (λ (p : ℕ). at_pixel 2 p) third2 ∙ ap
+    (λ (o : Colour). o.blue) colour_is in
     let count : 3 * (row * w + (x + 1)) ≡ 3 * k + 1 + 1 + 1 = omega arith in
     e ∙ ap (λ (l : List ℕ). l ++ it.red ∷ it.green ∷ it.blue ∷ []) before
     ∙ sym (three_more f (3 * k) it.red it.green it.blue red green blue)
@@ -98,27 +101,32 @@ sample_is header half plane x y size column row =
     let wide : x < plane.width = omega (arith, size.0) in
     let high : y < plane.height = omega (arith, size.1) in
     ap (λ (w : ℕ). number_in (map f (range_with_len 0 (plane.width * plane.height))) (y * w + x)) (sym size.0)
-    ∙ get_or-map-range_with_len f 0 (plane.width * plane.height) (y * plane.width + x) (y * plane.width + x) (pos 0) (mul-add-lt y plane.width x plane.height high wide) (omega arith)
+    ∙ get_or-map-range_with_len f 0 (plane.width * plane.height) (y * plane.width + x) (y * plane.width + x) (pos 0)
+    (mul-add-lt y plane.width x plane.height high wide) (omega arith)
     ∙ by_place plane.width y x (λ c r. sample_of (plane_value half plane c r)) wide
 
 -- the lists are as long as the picture has pixels
-length_is : (header : Header) (half : Bool) (plane : Plane) (samples : List ℤ) → IsOfSize header plane → samples ≡ plane_samples half plane → length samples ≡ header.width * header.height
+length_is : (header : Header) (half : Bool) (plane : Plane) (samples : List ℤ) → IsOfSize header plane → samples ≡ plane_samples half plane →
+    length samples ≡ header.width * header.height
 length_is header half plane samples size is =
     ap (length {A = ℤ}) is ∙ samples_length half plane ∙ ap (λ (w : ℕ). w * plane.height) size.0 ∙ ap (λ (h : ℕ). header.width * h) size.1
 
-full_chroma : (header : Header) (it : Components) (chroma : Option ChromaSamples) → HaveSize header it → AreChroma header it chroma → IsFullChroma (header.width * header.height) chroma
+full_chroma : (header : Header) (it : Components) (chroma : Option ChromaSamples) → HaveSize header it → AreChroma header it chroma → IsFullChroma
+    (header.width * header.height) chroma
 full_chroma header it None size are = tt
 full_chroma header it (Some chroma) size are =
     (length_is header header.half it.b chroma.b.items size.b are.1.0, length_is header header.half it.r chroma.r.items size.r are.1.1)
 
-pub full_of : (header : Header) (it : Components) (samples : Samples) → AreSamples header it samples → HaveSize header it → IsFull (header.width * header.height) samples
+pub full_of : (header : Header) (it : Components) (samples : Samples) → AreSamples header it samples → HaveSize header it → IsFull
+    (header.width * header.height) samples
 full_of header it samples are size = record {
   y = length_is header false it.y samples.y.items size.y are.y;
   chroma = full_chroma header it samples.chroma size are.chroma;
 }
 
 -- the colour of the samples at a place is the pixel's
-pixel_by : (header : Header) (it : Components) (ys : List ℤ) (chroma : Option ChromaSamples) (x y : ℕ) → HaveSize header it → ys ≡ plane_samples false it.y → AreChroma header it chroma →
+pixel_by : (header : Header) (it : Components) (ys : List ℤ) (chroma : Option ChromaSamples) (x y : ℕ) → HaveSize header it →
+    ys ≡ plane_samples false it.y → AreChroma header it chroma →
     x < header.width → y < header.height → colour_by ys chroma (y * header.width + x) ≡ pixel header it x y
 pixel_by header it ys None x y size are grey_is column row =
     let value : number_in ys (y * header.width + x) ≡ sample_of (plane_value false it.y x y) =
@@ -158,4 +166,5 @@ pub raster_is : (header : Header) (it : Components) (samples : Samples) (out : L
     out ≡ painted header.width header.height samples (header.width * header.height) →
     result ≡ record { width = header.width; height = header.height; samples = out } → result ≡ picture header it
 raster_is header it samples out result are size painted_is is =
-    is ∙ ap (λ (l : List ℕ). let p : Picture = record { width = header.width; height = header.height; samples = l } in p) (painted_is ∙ picture_is header it samples are size)
+    is ∙ ap (λ (l : List ℕ). let p : Picture = record { width = header.width; height = header.height; samples = l } in p)
+    (painted_is ∙ picture_is header it samples are size)

@@ -51,7 +51,8 @@ impl Samples {
         requires small_y { IsSmall 32767 y.now }
         requires small_b { IsSmall 32767 b.now }
         requires small_r { IsSmall 32767 r.now }
-        ensures { IfOk result (λ samples. (header : Header) (it : Components) → header.grey ≡ false → header.half ≡ half → it.y ≡ y.now → it.b ≡ b.now → it.r ≡ r.now →
+        ensures { IfOk result (λ samples. (header : Header) (it : Components) → header.grey ≡ false → header.half ≡ half → it.y ≡ y.now →
+            it.b ≡ b.now → it.r ≡ r.now →
             AreSamples header it samples) }
     {
         let y = plane_samples(alloc, y, false)?;
@@ -146,7 +147,8 @@ fn last_scale(half: bool) -> u32
 
 fn grid_samples(alloc: Global, grid: &Grid, half: bool) -> Result<Vec<i8>, AllocError>
     requires small { IsWithin (2 ^ 31 - 1) grid.now }
-    ensures { IfOk result (λ samples. samples.items ≡ values_by grid.now.width (grid.now.width * grid.now.height) (λ x y. sample_of (placed_value half grid.now x y))) }
+    ensures { IfOk result (λ samples. samples.items ≡ values_by grid.now.width (grid.now.width * grid.now.height)
+        (λ x y. sample_of (placed_value half grid.now x y))) }
 {
     let (width, height) = (grid.width(), grid.height());
     let mut samples = Vec::with_capacity(alloc, width as usize * height as usize)?;

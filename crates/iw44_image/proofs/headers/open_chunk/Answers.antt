@@ -10,11 +10,13 @@ returns-in_default-clause-sized c = λ first. c.missing.ensures.sized c.args.lim
 
 pub returns-then-from-number-clause-opening : goal.returns-then-from-number-clause-opening
 returns-then-from-number-clause-opening c =
-    chunk_read c.args.limit c.args.number c.args.known c.args.bytes.now _ c.args.ended c.read_rest.result c.behind.result c.in-len2-up.len_at_least (sym c.from.ensures ∙ c.if-from-number.true)
+    chunk_read c.args.limit c.args.number c.args.known c.args.bytes.now _ c.args.ended c.read_rest.result c.behind.result c.in-len2-up.len_at_least
+    (sym c.from.ensures ∙ c.if-from-number.true)
     c.behind.ensures.opening (rest_all 2 c.args.bytes.now) c.read_rest.ensures.opening
 
 pub returns-then-from-number-clause-inside : goal.returns-then-from-number-clause-inside
-returns-then-from-number-clause-inside c = inside_read 2 c.args.bytes.now _ c.read_rest.result c.behind.result c.in-len2-up.len_at_least (rest_all 2 c.args.bytes.now) c.read_rest.ensures.inside c.behind.ensures.inside
+returns-then-from-number-clause-inside c = inside_read 2 c.args.bytes.now _ c.read_rest.result c.behind.result c.in-len2-up.len_at_least
+    (rest_all 2 c.args.bytes.now) c.read_rest.ensures.inside c.behind.ensures.inside
 
 pub returns-then-from-number-clause-sized : goal.returns-then-from-number-clause-sized
 returns-then-from-number-clause-sized c = λ first. c.behind.ensures.sized c.args.limit (c.read_rest.ensures.sized first)

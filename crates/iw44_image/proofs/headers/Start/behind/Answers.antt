@@ -7,4 +7,5 @@ use Rattle.iw44_image.proofs.Beginning.{drop_behind}
 use Rattle.iw44_image.proofs.headers.Start.behind.Goals as goal
 
 pub returns-in-Told-clause-opening : goal.returns-in-Told-clause-opening
-returns-in-Told-clause-opening c = λ before bytes e. ap (λ (l : List ℕ). Opened c.in-Told.header c.in-Told.slices l) (drop_behind before bytes c.in-Told.length c.args.count e) ∙ sym (ap (λ (start : Start). opening_in bytes start) c.in-Told.is)
+returns-in-Told-clause-opening c = λ before bytes e. ap (λ (l : List ℕ). Opened c.in-Told.header c.in-Told.slices l)
+    (drop_behind before bytes c.in-Told.length c.args.count e) ∙ sym (ap (λ (start : Start). opening_in bytes start) c.in-Told.is)

@@ -1,11 +1,11 @@
 -- The check of a layer's size.
-use Rattle.std.proofs.Common.{◌≡◌, ℕ, Bool, true, false, List, [], ◌∷◌, Option, Some, None, refl, ap, sym, ◌∙◌, subst}
+use Rattle.std.proofs.Common.{◌≡◌, ℕ, Bool, true, false, List, Option, Some, None, refl, ap, sym, ◌∙◌, subst}
 use Rattle.djvu_base.specs.declared.faults.FaultKind.{FaultKind}
 use Rattle.djvu_base.specs.declared.faults.FaultKind.TheVariants as fault
 use Rattle.zp_table.specs.declared.rows.Row.{Row}
 use Rattle.iw44_image.specs.declared.headers.Header.{Header}
 use Rattle.iw44_image.specs.Header.{Opening, Short, Wrong, Opened, checked, open_chunk}
-use Rattle.iw44_image.specs.Layer.{Allowed, Data, any_size, opening_of, Layer, LayerReading, Fault, ends, read_opened, read_chunk}
+use Rattle.iw44_image.specs.Layer.{Allowed, Data, any_size, opening_of, Layer, Fault, ends, read_opened, read_chunk}
 
 -- without a test of the size nothing is refused by it
 pub any_checked : (known : Option Header) (it : Opening) → checked (λ width height. true) known it ≡ it
@@ -14,7 +14,8 @@ any_checked None Short = refl
 any_checked None (Wrong kind) = refl
 any_checked None (Opened header slices zp) = refl
 
-size_refused : (fits : ℕ → ℕ → Bool) (known : Option Header) (it : Opening) (header : Header) (slices : ℕ) (zp : List ℕ) → known ≡ None → it ≡ Opened header slices zp →
+size_refused : (fits : ℕ → ℕ → Bool) (known : Option Header) (it : Opening) (header : Header) (slices : ℕ) (zp : List ℕ) → known ≡ None →
+    it ≡ Opened header slices zp →
     fits header.width header.height ≡ false → checked fits known it ≡ Wrong fault.LayerSize
 size_refused fits known it header slices zp none e over =
     subst (λ (k : Option Header). checked fits k it ≡ Wrong fault.LayerSize) (sym none)
@@ -61,19 +62,24 @@ pub taken_first : (table : List Row) (allowed : Allowed) (given : Data) (layer :
     read_chunk table allowed given layer ≡ read_chunk table (any_size allowed.area) given layer
 unfolding start_of
 taken_first table allowed given layer header slices zp e fits_it =
-    same_by table allowed given layer (size_taken allowed.fits layer.header (start_of allowed given layer) header slices zp (sym (start_is allowed given layer) ∙ e) fits_it)
+    same_by table allowed given layer (size_taken allowed.fits layer.header (start_of allowed given layer) header slices zp
+    (sym (start_is allowed given layer) ∙ e) fits_it)
 
 pub later_same : (table : List Row) (allowed : Allowed) (given : Data) (layer : Layer) (header : Header) → layer.header ≡ Some header →
     read_chunk table allowed given layer ≡ read_chunk table (any_size allowed.area) given layer
 unfolding start_of
-later_same table allowed given layer header e = same_by table allowed given layer (later_checked allowed.fits layer.header (start_of allowed given layer) header e)
+later_same table allowed given layer header e = same_by table allowed given layer
+    (later_checked allowed.fits layer.header (start_of allowed given layer) header e)
 
 pub short_same : (table : List Row) (allowed : Allowed) (given : Data) (layer : Layer) → opening_of (any_size allowed.area) given layer ≡ Short →
     read_chunk table allowed given layer ≡ read_chunk table (any_size allowed.area) given layer
 unfolding start_of
-short_same table allowed given layer e = same_by table allowed given layer (short_checked allowed.fits layer.header (start_of allowed given layer) (sym (start_is allowed given layer) ∙ e))
+short_same table allowed given layer e = same_by table allowed given layer
+    (short_checked allowed.fits layer.header (start_of allowed given layer) (sym (start_is allowed given layer) ∙ e))
 
-pub wrong_same : (table : List Row) (allowed : Allowed) (given : Data) (layer : Layer) (kind : FaultKind) → opening_of (any_size allowed.area) given layer ≡ Wrong kind →
+pub wrong_same : (table : List Row) (allowed : Allowed) (given : Data) (layer : Layer) (kind : FaultKind) → opening_of
+    (any_size allowed.area) given layer ≡ Wrong kind →
     read_chunk table allowed given layer ≡ read_chunk table (any_size allowed.area) given layer
 unfolding start_of
-wrong_same table allowed given layer kind e = same_by table allowed given layer (wrong_checked allowed.fits layer.header (start_of allowed given layer) kind (sym (start_is allowed given layer) ∙ e))
+wrong_same table allowed given layer kind e = same_by table allowed given layer
+    (wrong_checked allowed.fits layer.header (start_of allowed given layer) kind (sym (start_is allowed given layer) ∙ e))

@@ -5,3 +5,7 @@ mod Growing
 mod Listing
 -- law sizes_are_checked_first
 mod Checking
+-- plane_samples, Samples::colour, picture_samples
+mod Painting
+-- open_chunk, read_version, read_sizes, Start::behind
+mod Beginning

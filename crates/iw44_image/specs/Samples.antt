@@ -1,12 +1,13 @@
 -- The samples of a layer's pixels.
-use Rattle.std.specs.Prelude.{ℕ, ◌-◌, ◌*◌, ◌/◌, ◌%◌, ◌==◌, Bool, if◌then◌else◌, ℤ, pos, negsuc, ◌+ℤ◌, ◌-ℤ◌, ◌*ℤ◌, unsigned_abs, map}
+use Rattle.std.specs.Prelude.{ℕ, ◌-◌, ◌*◌, ◌/◌, ◌%◌, ◌==◌, Bool, false, if◌then◌else◌, ℤ, pos, negsuc, ◌+ℤ◌, ◌-ℤ◌, ◌*ℤ◌, unsigned_abs, List, map}
 use Rattle.std.specs.Int.{int_shr, int_max, int_min}
 use Rattle.std.specs.List.{range_with_len}
 use Rattle.djvu_base.specs.Picture.{Picture}
 use Rattle.iw44_blocks.specs.Plane.{Plane, grid_of}
-use Rattle.iw44_blocks.specs.Lattice.{value_at}
+use Rattle.iw44_blocks.specs.Lattice.{Lattice, value_at, values_by}
 use Rattle.iw44_lifting.specs.Lift.{lifted}
 use Rattle.iw44_image.specs.declared.headers.Header.{Header}
+use Rattle.iw44_image.specs.declared.colours.Colour.{Colour}
 use Rattle.iw44_image.specs.Layer.{Planes}
 
 -- a number brought between a least and a largest one
@@ -16,12 +17,6 @@ within least most number = int_max least (int_min most number)
 -- the sample of a value: 64 of a value make one
 abbrev pub sample_of : ℤ → ℤ
 sample_of value = within (negsuc 127) (pos 127) (int_shr (value +ℤ pos 32) 6)
-
--- three samples of a pixel
-pub record Colour : Type 0 where
-  pub red : ℕ
-  pub green : ℕ
-  pub blue : ℕ
 
 abbrev pub byte_of : ℤ → ℕ
 byte_of number = unsigned_abs (within (pos 0) (pos 255) number)
@@ -45,16 +40,21 @@ colour y b r = record {
   blue = byte_of (base_part y b +ℤ pos 2 *ℤ b);
 }
 
--- the value of a plane at a place: the inverse transform of its grid, all scales of it
-abbrev pub full_value : Plane → ℕ → ℕ → ℤ
-full_value plane x y = value_at (lifted 1 (grid_of plane)) x y
+-- the scale at which the inverse transform of a plane ends: at half size the last one is left out
+abbrev pub last_scale : Bool → ℕ
+last_scale half = if half then 2 else 1
 
--- at half size the last scale is left out, and two by two places have one value
-abbrev pub half_value : Plane → ℕ → ℕ → ℤ
-half_value plane x y = value_at (lifted 2 (grid_of plane)) (2 * (x / 2)) (2 * (y / 2))
+-- the value of a grid for a place: at half size two by two places have one
+abbrev pub placed_value : Bool → Lattice → ℕ → ℕ → ℤ
+placed_value half grid x y = if half then value_at grid (2 * (x / 2)) (2 * (y / 2)) else value_at grid x y
 
-abbrev pub chroma_value : Bool → Plane → ℕ → ℕ → ℤ
-chroma_value half plane x y = if half then half_value plane x y else full_value plane x y
+-- the value of a plane for a place
+abbrev pub plane_value : Bool → Plane → ℕ → ℕ → ℤ
+plane_value half plane x y = placed_value half (lifted (last_scale half) (grid_of plane)) x y
+
+-- the samples of a plane, rows from the bottom and each from the left
+unfoldable pub plane_samples : Bool → Plane → List ℤ
+plane_samples half plane = values_by plane.width (plane.width * plane.height) (λ x y. sample_of (plane_value half plane x y))
 
 -- the coefficients of an image: a grey one uses the first plane
 pub record Components : Type 0 where
@@ -68,8 +68,8 @@ components_of planes = record { y = planes.y.plane; b = planes.b.plane; r = plan
 -- the pixel in column x from the left and row y from the bottom
 abbrev pub pixel : Header → Components → ℕ → ℕ → Colour
 pixel header it x y =
-    if header.grey then grey (sample_of (full_value it.y x y))
-    else colour (sample_of (full_value it.y x y)) (sample_of (chroma_value header.half it.b x y)) (sample_of (chroma_value header.half it.r x y))
+    if header.grey then grey (sample_of (plane_value false it.y x y))
+    else colour (sample_of (plane_value false it.y x y)) (sample_of (plane_value header.half it.b x y)) (sample_of (plane_value header.half it.r x y))
 
 -- red, green and blue of a pixel, by their number
 abbrev pub channel_of : ℕ → Colour → ℕ

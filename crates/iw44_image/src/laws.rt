@@ -6,10 +6,11 @@ ghost use Rattle.zp_table.specs.declared.rows.Row.{Row};
 ghost use Rattle.zp_table.specs.Rows.{IsTable};
 ghost use Rattle.iw44_image.specs.declared.headers.Header.{Header};
 ghost use Rattle.iw44_image.specs.Header.{Short, Wrong, Opened, open_chunk, checked};
-ghost use Rattle.iw44_image.specs.Layer.{Layer, Data, Allowed, Done, Need, Fault, any_size, data_of, opening_of, after_chunk, ends, read_chunk, read_chunks, read_layer, new_layer};
+ghost use Rattle.iw44_image.specs.Layer.{Layer, Data, Allowed, Done, Need, Fault, any_size, data_of, opening_of, after_chunk, ends, read_chunk};
+ghost use Rattle.iw44_image.specs.Layer.{read_chunks, read_layer, new_layer};
 ghost use Rattle.iw44_image.specs.Samples.{grey, colour, sample_of};
 ghost use Rattle.iw44_image.specs.Growth.{OpenGrows, AreRows};
-ghost use Rattle.iw44_image.specs.Worked.{first_opening, one_chunk, two_chunks, layer_picture};
+ghost use Rattle.iw44_image.specs.Worked.{first_opening, one_chunk, two_chunks, checked_chunk, layer_picture};
 
 /// Grey is colour without chroma: of a sample y it is what colour is of -1 - y.
 pub fn grey_is_colour_without_chroma()
@@ -28,9 +29,11 @@ pub fn more_bytes_only_go_on()
     ensures refused { (table : List Row) (allowed : Allowed) (bytes more : List ℕ) (ended : Bool) (layer : Layer) (kind : FaultKind) →
         (read_chunk table allowed (data_of bytes false) layer).answer ≡ Fault kind →
         read_chunk table allowed (data_of (bytes ++ more) ended) layer ≡ read_chunk table allowed (data_of bytes false) layer }
-    ensures open_end { (table : List Row) (allowed : Allowed) (bytes : List ℕ) (layer : Layer) → (read_chunk table allowed (data_of bytes false) layer).answer ≢ Done }
+    ensures open_end { (table : List Row) (allowed : Allowed) (bytes : List ℕ) (layer : Layer) →
+        (read_chunk table allowed (data_of bytes false) layer).answer ≢ Done }
     ensures decisions { (table : List Row) (allowed : Allowed) (bytes more : List ℕ) (ended : Bool) (layer : Layer) → IsTable table → AreRows table layer →
-        (read_chunk table allowed (data_of bytes false) layer).layer.decisions ≤ (read_chunk table allowed (data_of (bytes ++ more) ended) layer).layer.decisions }
+        (read_chunk table allowed (data_of bytes false) layer).layer.decisions ≤
+        (read_chunk table allowed (data_of (bytes ++ more) ended) layer).layer.decisions }
 {}
 
 /// A layer is read chunk by chunk: where some chunks are done, further ones are read from where these ended, and where they
@@ -57,13 +60,15 @@ pub fn layers_grow()
     ensures open_end { (table : List Row) (allowed : Allowed) (chunks : List Data) (bytes : List ℕ) →
         (read_layer table allowed (chunks ++ data_of bytes false ∷ [])).answer ≢ Done }
     ensures decisions { (table : List Row) (allowed : Allowed) (chunks : List Data) (bytes more : List ℕ) (ended : Bool) → IsTable table →
-        (read_layer table allowed (chunks ++ data_of bytes false ∷ [])).layer.decisions ≤ (read_layer table allowed (chunks ++ data_of (bytes ++ more) ended ∷ [])).layer.decisions }
+        (read_layer table allowed (chunks ++ data_of bytes false ∷ [])).layer.decisions ≤
+        (read_layer table allowed (chunks ++ data_of (bytes ++ more) ended ∷ [])).layer.decisions }
 {}
 
 /// A layer's size is checked once its first header is there. One that isn't taken is refused, and nothing behind the header
 /// is read; one that is taken changes nothing.
 pub fn sizes_are_checked_first()
-    ensures refused { (table : List Row) (allowed : Allowed) (given : Data) (layer : Layer) (header : Header) (slices : ℕ) (zp : List ℕ) → layer.header ≡ None →
+    ensures refused { (table : List Row) (allowed : Allowed) (given : Data) (layer : Layer) (header : Header) (slices : ℕ) (zp : List ℕ) →
+        layer.header ≡ None →
         opening_of (any_size allowed.area) given layer ≡ Opened header slices zp → allowed.fits header.width header.height ≡ false →
         read_chunk table allowed given layer ≡ ends (Fault fault.LayerSize) layer }
     ensures taken { (table : List Row) (allowed : Allowed) (given : Data) (layer : Layer) (header : Header) (slices : ℕ) (zp : List ℕ) →
@@ -73,13 +78,15 @@ pub fn sizes_are_checked_first()
         read_chunk table allowed given layer ≡ read_chunk table (any_size allowed.area) given layer }
     ensures short { (table : List Row) (allowed : Allowed) (given : Data) (layer : Layer) → opening_of (any_size allowed.area) given layer ≡ Short →
         read_chunk table allowed given layer ≡ read_chunk table (any_size allowed.area) given layer }
-    ensures wrong { (table : List Row) (allowed : Allowed) (given : Data) (layer : Layer) (kind : FaultKind) → opening_of (any_size allowed.area) given layer ≡ Wrong kind →
+    ensures wrong { (table : List Row) (allowed : Allowed) (given : Data) (layer : Layer) (kind : FaultKind) → opening_of
+        (any_size allowed.area) given layer ≡ Wrong kind →
         read_chunk table allowed given layer ≡ read_chunk table (any_size allowed.area) given layer }
 {}
 
 /// A chunk adds at most 32,768 decisions for each bit of its ZP data and 177 bits more.
 pub fn decisions_of_a_chunk_are_bounded()
-    ensures { (table : List Row) (allowed : Allowed) (bytes zp : List ℕ) (ended : Bool) (layer : Layer) (header : Header) (slices : ℕ) → IsTable table → AreRows table layer →
+    ensures { (table : List Row) (allowed : Allowed) (bytes zp : List ℕ) (ended : Bool) (layer : Layer) (header : Header) (slices : ℕ) →
+        IsTable table → AreRows table layer →
         opening_of allowed (data_of bytes ended) layer ≡ Opened header slices zp →
         (read_chunk table allowed (data_of bytes ended) layer).layer.decisions ≤ layer.decisions + 0x8000 * (8 * length zp + 177) }
 {}
@@ -130,6 +137,27 @@ pub fn worked_grey_layers()
     ensures no_decision { (one_chunk (0 ∷ 1 ∷ 0x81 ∷ 2 ∷ 0 ∷ 1 ∷ 0 ∷ 1 ∷ 0 ∷ 0x3F ∷ []) false).layer.decisions ≡ 0 }
     ensures later_serial { (two_chunks (0 ∷ 1 ∷ 0x81 ∷ 2 ∷ 0 ∷ 1 ∷ 0 ∷ 1 ∷ 0 ∷ []) (0 ∷ 1 ∷ [])).answer ≡ Fault fault.IwSerial }
     ensures later_chunk { (two_chunks (0 ∷ 1 ∷ 0x81 ∷ 2 ∷ 0 ∷ 1 ∷ 0 ∷ 1 ∷ 0 ∷ []) (1 ∷ 10 ∷ 0x3F ∷ [])).layer.slices ≡ 11 }
+{}
+
+/// Sizes that are taken or not: one that isn't is refused once the last byte of the header is there, without a decision; but an
+/// empty size and one above the limit come before.
+pub fn worked_layer_sizes()
+    ensures refused { (checked_chunk (0 ∷ 1 ∷ 0x81 ∷ 2 ∷ 0 ∷ 2 ∷ 0 ∷ 1 ∷ 0 ∷ []) true).answer ≡ Fault fault.LayerSize }
+    ensures no_decision { (checked_chunk (0 ∷ 1 ∷ 0x81 ∷ 2 ∷ 0 ∷ 2 ∷ 0 ∷ 1 ∷ 0 ∷ 0x3F ∷ []) true).layer.decisions ≡ 0 }
+    ensures late { (checked_chunk (0 ∷ 1 ∷ 0x81 ∷ 2 ∷ 0 ∷ 2 ∷ 0 ∷ 1 ∷ []) false).answer ≡ Need }
+    ensures empty { (checked_chunk (0 ∷ 1 ∷ 0x81 ∷ 2 ∷ 0 ∷ 0 ∷ 0 ∷ 1 ∷ 0 ∷ []) true).answer ≡ Fault fault.IwHeader }
+    ensures large { (checked_chunk (0 ∷ 1 ∷ 0x81 ∷ 2 ∷ 0 ∷ 11 ∷ 0 ∷ 10 ∷ 0 ∷ []) true).answer ≡ Fault fault.TooLarge }
+    ensures taken { (checked_chunk (0 ∷ 1 ∷ 0x81 ∷ 2 ∷ 0 ∷ 1 ∷ 0 ∷ 1 ∷ 0 ∷ []) true).answer ≡ Done }
+{}
+
+/// Chunks of two slices: slice 1 reads nothing of a plane of one place, but with a delay of 1 both planes of chroma begin there.
+/// And a chunk of 200 slices without a byte of ZP data is exhausted after 176 decisions.
+pub fn worked_slices_of_chunks()
+    ensures two { (one_chunk (0 ∷ 2 ∷ 0x81 ∷ 2 ∷ 0 ∷ 1 ∷ 0 ∷ 1 ∷ 0 ∷ []) true).layer.slices ≡ 2 }
+    ensures two_decisions { (one_chunk (0 ∷ 2 ∷ 0x81 ∷ 2 ∷ 0 ∷ 1 ∷ 0 ∷ 1 ∷ 0 ∷ []) true).layer.decisions ≡ 1 }
+    ensures chroma { (one_chunk (0 ∷ 2 ∷ 1 ∷ 2 ∷ 0 ∷ 1 ∷ 0 ∷ 1 ∷ 0x81 ∷ []) true).layer.decisions ≡ 3 }
+    ensures exhausted { (one_chunk (0 ∷ 200 ∷ 0x81 ∷ 2 ∷ 0 ∷ 1 ∷ 0 ∷ 1 ∷ 0 ∷ []) true).answer ≡ Fault fault.ZpExhausted }
+    ensures exhausted_decisions { (one_chunk (0 ∷ 200 ∷ 0x81 ∷ 2 ∷ 0 ∷ 1 ∷ 0 ∷ 1 ∷ 0 ∷ []) true).layer.decisions ≡ 176 }
 {}
 
 /// Layers of one pixel with colours, at full size and at half size: all three planes are 0.

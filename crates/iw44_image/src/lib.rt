@@ -1,10 +1,13 @@
 //! Images of IW44: the chunks of a layer, and its samples.
 //!
 //! `specs/` has the definitions: `Header` (the header of a chunk, with its checks and the moments at which they are made),
-//! `Layer` (the slices of a layer's chunks, and how the layer answers) and `Samples` (its pixels). The scheme is that of
+//! `Layer` (the slices of a layer's chunks, and how the layer answers) and `Samples` (its pixels). `Starting` and `Rasters`
+//! are for the code's own functions. The scheme is that of
 //! IW44 in the DjVu Reference, version 3; the numbers are this project's own profile after it (`docs/iw44.md`).
 #![tactic(auto)]
 
+mod colours;
 mod headers;
 pub mod laws;
 mod planes;
+mod rasters;

@@ -1,0 +1,185 @@
+//! The picture of an image's coefficients.
+ghost use Rattle.std.specs.Prelude.{◌≡◌, ℕ, ◌+◌, ◌-◌, ◌*◌, ◌^◌, ◌<◌, ◌≤◌, ◌⊎◌, Bool, true, false, length, IfOk, IfSome};
+ghost use Rattle.std.specs.List.{range_with_len};
+ghost use Rattle.iw44_blocks.specs.Lattice.{IsWithin, Lattice, value_at, values_by};
+ghost use Rattle.iw44_blocks.specs.Plane.{Plane, IsSmall, grid_of};
+ghost use Rattle.iw44_lifting.specs.Lift.{lifted};
+ghost use Rattle.iw44_image.specs.declared.headers.Header.{Header};
+ghost use Rattle.iw44_image.specs.Samples.{Components, placed_value, last_scale, plane_samples, sample_of, sample_at, pixel, picture};
+ghost use Rattle.iw44_image.specs.Rasters.{AreSamples, HaveSize, IsFull, colour_at, painted};
+
+use crate::colours::{Colour, sample_of};
+use crate::headers::Header;
+use djvu_base::Raster;
+use iw44_blocks::{Coefficients, Grid, laws as blocks};
+use iw44_lifting::inverse;
+use std::alloc::{AllocError, Global};
+
+/// The samples of an image's planes, each from -128 to 127, rows from the bottom and each from the left.
+#[derive(Debug, Drop)]
+pub(crate) struct Samples {
+    y: Vec<i8>,
+    chroma: Option<ChromaSamples>,
+}
+
+#[derive(Debug, Drop)]
+struct ChromaSamples {
+    b: Vec<i8>,
+    r: Vec<i8>,
+}
+
+impl Samples {
+    /// Of a grey image.
+    pub fn grey(alloc: Global, y: &Coefficients) -> Result<Samples, AllocError>
+        requires small { IsSmall 32767 y.now }
+        ensures { IfOk result (λ samples. (header : Header) (it : Components) → header.grey ≡ true → it.y ≡ y.now → AreSamples header it samples) }
+    {
+        Ok(Samples {
+            y: plane_samples(alloc, y, false)?,
+            chroma: None,
+        })
+    }
+
+    /// Of an image with colours, whose chroma has half the size or not.
+    pub fn coloured(
+        alloc: Global,
+        y: &Coefficients,
+        b: &Coefficients,
+        r: &Coefficients,
+        half: bool,
+    ) -> Result<Samples, AllocError>
+        requires small_y { IsSmall 32767 y.now }
+        requires small_b { IsSmall 32767 b.now }
+        requires small_r { IsSmall 32767 r.now }
+        ensures { IfOk result (λ samples. (header : Header) (it : Components) → header.grey ≡ false → header.half ≡ half → it.y ≡ y.now →
+            it.b ≡ b.now → it.r ≡ r.now →
+            AreSamples header it samples) }
+    {
+        let y = plane_samples(alloc, y, false)?;
+        let b = plane_samples(alloc, b, half)?;
+        let r = plane_samples(alloc, r, half)?;
+        Ok(Samples {
+            y,
+            chroma: Some(ChromaSamples { b, r }),
+        })
+    }
+
+    /// The picture of an image with this header.
+    pub fn picture(&self, alloc: Global, header: Header) -> Result<Raster, AllocError>
+        requires area { header.width * header.height ≤ 2 ^ 24 }
+        requires samples { (it : Components) × AreSamples header it self.now × HaveSize header it }
+        ensures { (it : Components) → AreSamples header it self.now → HaveSize header it → IfOk result (λ raster. raster ≡ picture header it) }
+    {
+        let samples = self.paint(alloc, header.width, header.height)?;
+        Ok(Raster::new(header.width, header.height, samples))
+    }
+
+    /// The colour of the samples at a place of the lists.
+    fn colour(&self, at: usize) -> Colour
+        requires y { at < length self.now.y.items }
+        requires chroma { IfSome self.now.chroma (λ chroma. (at < length chroma.b.items) × (at < length chroma.r.items)) }
+        ensures { result ≡ colour_at self.now at }
+    {
+        match &self.chroma {
+            None => Colour::grey(self.y[at]),
+            Some(chroma) => Colour::of(self.y[at], chroma.b[at], chroma.r[at]),
+        }
+    }
+
+    /// The picture of this size, in pixels.
+    fn paint(&self, alloc: Global, width: u32, height: u32) -> Result<Vec<u8>, AllocError>
+        requires area { width * height ≤ 2 ^ 24 }
+        requires full { IsFull (width * height) self.now }
+        ensures { IfOk result (λ out. out.items ≡ painted width height self.now (width * height)) }
+    {
+        let mut out = Vec::with_capacity(alloc, 3 * width as usize * height as usize)?;
+        for row in 0..height {
+            self.paint_row(width, height, row, &mut out)?;
+        }
+        Ok(out)
+    }
+
+    /// Adds a row, counted from the top, to those above it.
+    fn paint_row(
+        &self,
+        width: u32,
+        height: u32,
+        row: u32,
+        out: &mut Vec<u8>,
+    ) -> Result<(), AllocError>
+        requires area { width * height ≤ 2 ^ 24 }
+        requires full { IsFull (width * height) self.now }
+        requires row { row < height }
+        requires above { out.old.items ≡ painted width height self.now (row * width) }
+        ensures { IfOk result (λ _. out.new.items ≡ painted width height self.now ((row + 1) * width)) }
+    {
+        let start = (height - 1 - row) as usize * width as usize;
+        for x in 0..width {
+            let colour = self.colour(start + x as usize);
+            colour.put(out)?;
+        }
+        Ok(())
+    }
+}
+
+/// The samples of a plane. At half size a sample stands for two by two places. One grid is made.
+pub(crate) fn plane_samples(
+    alloc: Global,
+    plane: &Coefficients,
+    half: bool,
+) -> Result<Vec<i8>, AllocError>
+    requires small { IsSmall 32767 plane.now }
+    ensures { IfOk result (λ samples. samples.items ≡ plane_samples half plane.now) }
+{
+    blocks::small_planes();
+    let mut grid = plane.grid(alloc)?;
+    inverse(&mut grid, last_scale(half));
+    grid_samples(alloc, &grid, half)
+}
+
+/// The scale at which the inverse transform of a plane ends.
+fn last_scale(half: bool) -> u32
+    ensures value { result ≡ last_scale half }
+    ensures one { (result ≡ 1) ⊎ (result ≡ 2) }
+{
+    if half { 2 } else { 1 }
+}
+
+fn grid_samples(alloc: Global, grid: &Grid, half: bool) -> Result<Vec<i8>, AllocError>
+    requires small { IsWithin (2 ^ 31 - 1) grid.now }
+    ensures { IfOk result (λ samples. samples.items ≡ values_by grid.now.width (grid.now.width * grid.now.height)
+        (λ x y. sample_of (placed_value half grid.now x y))) }
+{
+    let (width, height) = (grid.width(), grid.height());
+    let mut samples = Vec::with_capacity(alloc, width as usize * height as usize)?;
+    for y in 0..height {
+        push_row(grid, half, y, &mut samples)?;
+    }
+    Ok(samples)
+}
+
+/// Adds the samples of a row to those of the rows below it.
+fn push_row(grid: &Grid, half: bool, y: u32, samples: &mut Vec<i8>) -> Result<(), AllocError>
+    requires small { IsWithin (2 ^ 31 - 1) grid.now }
+    requires row { y < grid.now.height }
+    requires below { samples.old.items ≡ values_by grid.now.width (y * grid.now.width) (λ x y. sample_of (placed_value half grid.now x y)) }
+    ensures { IfOk result (λ _. samples.new.items ≡ values_by grid.now.width ((y + 1) * grid.now.width) (λ x y. sample_of (placed_value half grid.now x y))) }
+{
+    for x in 0..grid.width() {
+        samples.push(sample_at(grid, half, x, y))?;
+    }
+    Ok(())
+}
+
+fn sample_at(grid: &Grid, half: bool, x: u32, y: u32) -> i8
+    requires small { IsWithin (2 ^ 31 - 1) grid.now }
+    requires column { x < grid.now.width }
+    requires row { y < grid.now.height }
+    ensures { result ≡ sample_of (placed_value half grid.now x y) }
+{
+    if half {
+        sample_of(grid.value(2 * (x / 2), 2 * (y / 2)))
+    } else {
+        sample_of(grid.value(x, y))
+    }
+}

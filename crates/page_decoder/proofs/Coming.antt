@@ -5,6 +5,7 @@ use Rattle.std.proofs.lemmas.List.{length-append}
 use Rattle.djvu_base.specs.declared.faults.FaultKind.{FaultKind}
 use Rattle.zp_table.specs.declared.rows.Row.{Row}
 use Rattle.zp_table.specs.Rows.{IsTable}
+use Rattle.jb2_records.specs.declared.purpose.Purpose.{Purpose}
 use Rattle.jb2_records.specs.declared.purpose.Purpose.TheVariants as purpose
 use Rattle.jb2_records.specs.declared.reader.Jb2Step.{Jb2Step}
 use Rattle.jb2_records.specs.declared.reader.Jb2Step.TheVariants as records
@@ -147,7 +148,7 @@ module _ (table : List Row) (is : IsTable table) (law : RecordsGrow) (layers_law
         decisions = omega (arith, less);
       }
 
-  purpose_on : (purpose : jb2.Purpose) (bytes more : List ℕ) (ended : Bool) (decoded d other : Decoded)
+  purpose_on : (purpose : Purpose) (bytes more : List ℕ) (ended : Bool) (decoded d other : Decoded)
       → CameOn (records_by (jb2.records_of (records_in table purpose (part bytes) decoded)) (part bytes) d)
       (records_by (jb2.records_of (records_in table purpose (data_of (bytes ++ more) ended) decoded)) (data_of (bytes ++ more) ended) other)
   purpose_on purpose bytes more ended decoded d other =

@@ -8,6 +8,7 @@ use Rattle.zp_table.specs.declared.rows.Row.{Row}
 use Rattle.zp_decoder.specs.Chunk.{chunk}
 use Rattle.bit_plane.specs.Pixels.{Pixels}
 use Rattle.include_graph.specs.Included.{include_name}
+use Rattle.jb2_records.specs.declared.purpose.Purpose.{Purpose}
 use Rattle.jb2_records.specs.declared.purpose.Purpose.TheVariants as purpose
 use Rattle.jb2_records.specs.declared.reader.Jb2Step.{Jb2Step}
 use Rattle.jb2_records.specs.declared.reader.Jb2Step.TheVariants as records
@@ -83,7 +84,7 @@ include_outcome given offset decoded = if given.ended then named (include_name g
 -- ---- shapes
 
 -- the records of a chunk, over the dictionary in force
-abbrev pub records_in : List Row → jb2.Purpose → Data → Decoded → jb2.Input
+abbrev pub records_in : List Row → Purpose → Data → Decoded → jb2.Input
 records_in table purpose given decoded = record {
   chunk = chunk table given.bytes given.ended;
   inherited = unwrap_or (in_force decoded) [];

@@ -9,7 +9,9 @@ use Rattle.bit_plane.specs.Ink.{ink_box_of}
 use Rattle.zp_decoder.specs.Chunk.{chunk}
 use Rattle.jb2_records.specs.Records.{Record, Start, MarkBoth, MarkLibrary, MarkImage, RefineBoth, RefineLibrary, RefineImage, Copy, Plain, Require}
 use Rattle.jb2_records.specs.Records.{Comment, End, Relative, NewRow, SameRow, Extent, is_end, is_started, image_size, library, shape_at}
-use Rattle.jb2_records.specs.Reading.{Purpose, Dictionary, Mask, Input, most, least, type_by, type_fault, has_shapes, start_fault, shape_fault}
+use Rattle.jb2_records.specs.declared.purpose.Purpose.{Purpose}
+use Rattle.jb2_records.specs.declared.purpose.Purpose.TheVariants as purpose
+use Rattle.jb2_records.specs.Reading.{Input, most, least, type_by, type_fault, has_shapes, start_fault, shape_fault}
 use Rattle.jb2_records.specs.Reading.{place_fault, count_fault}
 use Rattle.jb2_writer.specs.Fields.{type_number, side_difference}
 
@@ -25,7 +27,7 @@ size_told (entry ∷ later) = size_told later
 
 -- a mask has the size that its start tells
 abbrev pub mask_purpose : List Record → Purpose
-mask_purpose records = Mask (size_told records).width (size_told records).height
+mask_purpose records = purpose.Mask (size_told records).width (size_told records).height
 
 abbrev pub is_sound : Option FaultKind → Bool
 is_sound fault = not (is_some fault)
@@ -104,7 +106,7 @@ abbrev pub refused : List Pixels → Purpose → List Record → Option ℕ
 refused inherited purpose records = refused_from (rules inherited purpose) 0 [] records
 
 abbrev pub dictionary_refused : List Pixels → List Record → Option ℕ
-dictionary_refused inherited records = refused inherited Dictionary records
+dictionary_refused inherited records = refused inherited purpose.Dictionary records
 
 abbrev pub mask_refused : List Pixels → List Record → Option ℕ
 mask_refused inherited records = refused inherited (mask_purpose records) records

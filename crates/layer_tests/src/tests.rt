@@ -1,6 +1,7 @@
 use std::alloc::{AllocError, Global};
 use std::test::Fail;
 
+mod growths;
 mod logs;
 mod pools;
 mod shelves;

@@ -30,14 +30,22 @@ fn entry_number(answer: Looking<Entry>) -> Option<u32> {
     match answer {
         Looking::Value(Entry::Drew(notice)) => Some(notice.chunks()),
         Looking::Value(Entry::Ended(PageEnd::Finished)) => Some(1_001),
-        Looking::Value(Entry::Ended(PageEnd::Refused(fault))) => fault.place.offset.checked_add(1_002),
+        Looking::Value(Entry::Ended(PageEnd::Refused(fault))) => fault
+            .place
+            .offset
+            .checked_add(1_002),
         Looking::Value(Entry::Ended(PageEnd::NoMemory)) => Some(1_003),
         _ => None,
     }
 }
 
 /// Announces so many notices of page 0, each with its number, and the end.
-fn announces(log: &PortLog, seat: &mut LogSeat, alloc: Global, notices: u32) -> Result<(), AllocError>
+fn announces(
+    log: &PortLog,
+    seat: &mut LogSeat,
+    alloc: Global,
+    notices: u32,
+) -> Result<(), AllocError>
     requires seat { IsSeatOf log.now seat.old }
     requires may { MayAnnounce seat.old 0 }
     requires new { ((count_of seat.old.counts 0).filled ≡ 0) × ((count_of seat.old.counts 0).ended ≡ false) }

@@ -33,6 +33,13 @@ fn a_result_is_published_once(rt: HostRuntime) -> Result<(), Fail> {
     Ok(())
 }
 
+fn result_read(answer: Looking<u64>) -> Option<u64> {
+    match answer {
+        Looking::Value(found) => Some(found),
+        _ => None,
+    }
+}
+
 /// What a second seat is answered while the first holds the claim of a file.
 fn second_claim(
     shelf: &Shelf<u64>,
@@ -62,7 +69,7 @@ fn a_claimed_file_is_taken(rt: HostRuntime) -> Result<(), Fail> {
     let (shelf, mut first) = Shelf::<u64>::new(rt.alloc(), 2)?;
     let mut second = shelf.split(&mut first);
     assert_eq!(rt; second_claim(&shelf, &mut first, &mut second, 0), 1);
-    assert_eq!(rt; takes_on(&shelf, &mut second, 0, 8), 107);
+    assert_eq!(rt; result_read(shelf.look(&mut second, 0)), Some(7));
     shelf.join(&mut first, second);
     Ok(())
 }

@@ -1,8 +1,9 @@
 //! Threads that share a pool.
-ghost use Rattle.std.specs.Prelude.{◌≡◌, ◌⊎◌, ◌≤◌, ◌<◌};
+ghost use Rattle.std.specs.Prelude.{◌≡◌, ◌⊎◌, ◌≤◌, ◌<◌, IfOk};
+ghost use Rattle.once_board.specs.Boards.{IsFirst};
 ghost use Rattle.data_pool.specs.Pools.{IsSeatOf, MayFeed};
 
-use super::pools::{is_ok, new_pool, one_byte};
+use super::pools::{is_ok, one_byte};
 use super::*;
 use data_pool::{Looking, Piece, Pool, PoolSeat};
 use file_shelf::{Shelf, ShelfSeat};
@@ -73,22 +74,40 @@ fn reads_both(pool: &Pool, mut seat: PoolSeat) -> (PoolSeat, bool)
     (seat, first <= 101 && second <= 101)
 }
 
+/// Splits two seats off the first seat of a pool of two files: one that feeds file 1, and one that only reads. The first feeds file 0.
+fn seats_of_three(pool: &Pool, first: &mut PoolSeat) -> Result<(PoolSeat, PoolSeat), AllocError>
+    requires seat { IsSeatOf pool.now first.old }
+    requires two { (pool.now.files ≡ 2) × (pool.now.feeders ≡ 2) }
+    requires new { IsFirst first.old.hold }
+    ensures seats { IfOk result (λ split. IsSeatOf pool.now first.new × IsSeatOf pool.now split.0 × IsSeatOf pool.now split.1) }
+    ensures feeds { IfOk result (λ split. MayFeed first.new 0 × MayFeed split.0 1) }
+{
+    let second = pool.split(first, Some(1))?;
+    let third = pool.split(first, None)?;
+    Ok((second, third))
+}
+
 #[test]
 fn two_threads_feed_two_files_while_a_third_reads(rt: HostRuntime) -> Result<(), Fail> {
     let alloc = rt.alloc();
-    let (pool, mut first) = new_pool(alloc, 2, 2)?;
-    let second = pool.split(&mut first, Some(1))?;
-    let third = pool.split(&mut first, None)?;
+    let (pool, mut first) = Pool::new(alloc, 2, 2)?;
+    let (second, third) = seats_of_three(&pool, &mut first)?;
     let shared = &pool;
     let handle = &rt;
     let (one, (two, three)) = join(
         handle,
         || feeds(shared, first, 0, alloc),
-        || join(
-            handle,
-            || feeds(shared, second, 1, alloc),
-            || reads_both(shared, third),
-        ),
+        ||
+            requires seats { IsSeatOf shared.now second × IsSeatOf shared.now third }
+            requires feeds { MayFeed second 1 }
+            requires files { 2 ≤ shared.now.files }
+        {
+            join(
+                handle,
+                || feeds(shared, second, 1, alloc),
+                || reads_both(shared, third),
+            )
+        },
     );
     assert!(rt; one.1 && two.1 && three.1);
     let (mut first, _) = one;

@@ -1,7 +1,7 @@
 //! The log: how it is made, announced to and read.
 ghost use Rattle.std.specs.Prelude.{◌≡◌, ℕ, ◌≤◌, ◌<◌, replicate, false, IfOk};
 ghost use Rattle.once_board.specs.Boards.{IsFirst, Looks};
-ghost use Rattle.once_board.specs.Filled.{count_of, none_filled};
+ghost use Rattle.once_board.specs.Filled.{count_of, none_filled, one_further};
 ghost use Rattle.once_board.specs.Holds.{Extends, OwnsAll, SameHoldings};
 ghost use Rattle.port_log.specs.Entries.{is_end, may_stand};
 ghost use Rattle.port_log.specs.Logs.{IsLog, IsSeatOf, MayAnnounce, place_of};
@@ -76,6 +76,7 @@ impl PortLog {
         ensures seat { IsSeatOf self.now seat.new }
         ensures announced { seat.new ≡ announced page entry seat.old }
         ensures entries { AnnouncedOne page entry seat.old seat.new }
+        ensures count { count_of seat.new.counts page ≡ one_further (is_end entry) (count_of seat.old.counts page) }
         ensures held { (seat.new.hold.rights ≡ seat.old.hold.rights) × (seat.new.hold.parts ≡ seat.old.hold.parts) }
         ensures works { (other : ℕ) → MayAnnounce seat.old other → MayAnnounce seat.new other }
         ensures extends { Extends seat.old.hold seat.new.hold }

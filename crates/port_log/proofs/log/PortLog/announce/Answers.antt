@@ -1,5 +1,5 @@
-use Rattle.std.proofs.Common.{◌≡◌, ◌∙◌, suc, ap, refl, arith, ◌<◌, ◌≤◌, length, length-set, subst, sym, set, false}
-use Rattle.once_board.specs.Filled.{count_of, one_further, HasFilled}
+use Rattle.std.proofs.Common.{◌≡◌, ◌∙◌, suc, ap, refl, arith, ◌<◌, ◌≤◌, length, length-set, get_or-set_same, subst, sym, set, false}
+use Rattle.once_board.specs.Filled.{none_filled, count_of, one_further, HasFilled}
 use Rattle.once_board.specs.Rows.{rows_in_turn}
 use Rattle.once_board.proofs.Lemmas.{both_back, seat_puts, seat_put_one}
 use Rattle.port_log.specs.Calls.{AnnouncedOne}
@@ -58,3 +58,12 @@ returns-clause-entries c =
     (seat_put_one is_end 260 _ (row_seat s) c.self.invariant.laid (both_back IsSeatOf _ _ _ _ c.self.view_is c.seat.view_is c.requires.seat)
     c.seat.invariant.filled c.args.page c.args.entry c.fill.new.seat.hold (may c) (counted c) (unended c) (room c) c.fill.ensures.filled
     c.fill.ensures.extends c.fill.ensures.place (row_seat after) refl refl refl (ap (set s.counts c.args.page) (next_is c)))
+
+pub returns-clause-count : goal.returns-clause-count
+returns-clause-count c =
+    let s = seat_of c in
+    let eight = c.seat.invariant.eight in
+    let few = c.seat.invariant.few in
+    let inside = (may c).inside in
+    get_or-set_same s.counts c.args.page c.further-next.result none_filled (omega arith)
+    ∙ (next_is c ∙ ap (λ v. one_further (is_end c.args.entry) (count_of v.counts c.args.page)) c.seat.view_is)

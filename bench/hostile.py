@@ -109,6 +109,7 @@ def page(data):
     return b"AT&TFORM" + struct.pack(">I", len(body)) + body
 
 
+os.makedirs(sys.argv[1], exist_ok=True)
 for make in (refinements, copies, requires):
     with open(os.path.join(sys.argv[1], make.__name__), "wb") as file:
         file.write(page(make()))

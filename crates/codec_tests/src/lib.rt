@@ -3,10 +3,6 @@
 #![tactic(auto)]
 
 #[cfg(test)]
-mod coefficients;
-#[cfg(test)]
-mod cuts;
-#[cfg(test)]
 mod decisions;
 #[cfg(test)]
 mod drawings;
@@ -23,14 +19,8 @@ mod places;
 #[cfg(test)]
 mod planes;
 #[cfg(test)]
-mod records;
-#[cfg(test)]
-mod shapes;
-#[cfg(test)]
 mod shared;
 #[cfg(test)]
 mod tables;
 #[cfg(test)]
 mod threads;
-#[cfg(test)]
-mod transforms;

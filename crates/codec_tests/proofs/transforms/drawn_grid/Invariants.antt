@@ -1,5 +1,0 @@
-use Rattle.iw44_blocks.specs.Lattice.{IsWithin}
-use Rattle.codec_tests.proofs.transforms.drawn_grid.Given as goal
-
-abbrev pub invariant-loop-y : goal.invariant-loop-y
-invariant-loop-y l = IsWithin 32767 l.grid

@@ -1,5 +1,0 @@
-use Rattle.iw44_blocks.specs.Lattice.{IsWithin}
-use Rattle.codec_tests.proofs.transforms.fill_row.Given as goal
-
-abbrev pub invariant-loop-x : goal.invariant-loop-x
-invariant-loop-x l = IsWithin 32767 l.grid

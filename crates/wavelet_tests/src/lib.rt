@@ -1,0 +1,8 @@
+//! Tests of wavelet layers, over their public calls: what no clause says. Their values were worked out by hand, or by another
+//! program after the rules in `docs/`.
+#![tactic(auto)]
+
+#[cfg(test)]
+mod coefficients;
+#[cfg(test)]
+mod transforms;

@@ -2,7 +2,6 @@
 
 use bit_plane::Plane;
 use djvu_base::Turn;
-use iw44_blocks::{Coefficients, Grid};
 use jb2_numbers::NumberContexts;
 use jb2_records::{DictReader, Dictionary, MaskReader};
 use jb2_shapes::ShapeContexts;
@@ -32,8 +31,6 @@ fn hand_on(alloc: Global) -> Result<(), AllocError> {
     let plane = Plane::new(alloc, 3, 2)?;
     may_be_shared(&plane);
     may_go(plane);
-    may_go(Coefficients::new(alloc, 3, 2)?);
-    may_go(Grid::new(alloc, 3, 2)?);
     let layers = Layers {
         width: 3,
         height: 2,

@@ -5,4 +5,6 @@
 #[cfg(test)]
 mod coefficients;
 #[cfg(test)]
+mod threads;
+#[cfg(test)]
 mod transforms;

@@ -9,3 +9,24 @@ mod Checking
 mod Painting
 -- open_chunk, read_version, read_sizes, Start::behind
 mod Beginning
+-- PlaneReaders::advance
+mod PlaneSteps
+-- Stepping
+mod Going
+-- Choosing, Giving, Advancing: steps through the slices of a chunk
+mod Stepping
+mod Choosing
+-- what stays true of an image
+mod Soundness
+-- IwImage::end_chunk, IwImage::chunk_begin
+mod Giving
+-- IwImage::read_slice
+mod Advancing
+-- IwImage::read_header, IwImage::begin
+mod Headed
+-- IwImage::push
+mod Pushing
+-- IwImage::make_planes
+mod PlaneMaking
+-- IwImage::advance
+mod Looping

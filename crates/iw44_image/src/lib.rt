@@ -8,6 +8,13 @@
 
 mod colours;
 mod headers;
+mod image;
 pub mod laws;
 mod planes;
 mod rasters;
+mod reading;
+mod steps;
+mod unread;
+
+pub use image::IwImage;
+pub use steps::IwStep;

@@ -1,6 +1,8 @@
 -- The lemmas of this crate; above each stand the laws whose clauses it ends in.
 -- laws headers_stay, more_bytes_only_go_on, decisions_of_a_chunk_are_bounded
 mod Growing
+-- law complete_chunks_are_answered
+mod Completing
 -- laws layers_go_on, layers_grow
 mod Listing
 -- law sizes_are_checked_first

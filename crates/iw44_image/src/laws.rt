@@ -36,6 +36,11 @@ pub fn more_bytes_only_go_on()
         (read_chunk table allowed (data_of (bytes ++ more) ended) layer).layer.decisions }
 {}
 
+/// A chunk of which all data are there is done or refused.
+pub fn complete_chunks_are_answered()
+    ensures { (table : List Row) (allowed : Allowed) (bytes : List ℕ) (layer : Layer) → (read_chunk table allowed (data_of bytes true) layer).answer ≢ Need }
+{}
+
 /// A layer is read chunk by chunk: where some chunks are done, further ones are read from where these ended, and where they
 /// aren't, further ones change nothing. So what holds of a chunk holds of the last one of a layer. Decisions don't fall.
 pub fn layers_go_on()

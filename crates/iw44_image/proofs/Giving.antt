@@ -1,6 +1,7 @@
 -- What a plane's reader gives to the reading of a chunk.
 use Rattle.std.proofs.Common.{◌≡◌, ℕ, zero, suc, ◌+◌, ◌-◌, ◌<◌, ◌≤◌, Bool, true, false, List, [], ◌++◌, length, Option, Some, None, refl, ap, sym}
 use Rattle.std.proofs.Common.{◌∙◌, subst, arith}
+use Rattle.std.specs.Prelude.{IsSome}
 use Rattle.std.proofs.lemmas.Grind.{common_steps}
 use Rattle.djvu_base.specs.Meter.{TicksExactly}
 use Rattle.zp_table.specs.declared.rows.Row.{Row}
@@ -20,8 +21,8 @@ use Rattle.iw44_image.specs.declared.steps.Stage.{Stage}
 use Rattle.iw44_image.specs.declared.steps.Stage.TheVariants as stage
 use Rattle.iw44_image.specs.Layer.{Layer, LayerReading, Done, Need, ends, chunk_end, plane_for}
 use Rattle.iw44_image.specs.Readers.{AreSound, planes_of, Placed, plane_reading, HaveRead}
-use Rattle.iw44_image.specs.Image.{Frame, header_in, layer_in, is_whole, reading_in, InSlice, InRest, InHeader, HoldsAt, TicksTo}
-use Rattle.iw44_image.specs.Keeping.{ArePlanesSound}
+use Rattle.iw44_image.specs.Image.{Image, Frame, header_in, layer_in, is_whole, reading_in, InSlice, InRest, InHeader, HoldsAt, TicksTo}
+use Rattle.iw44_image.specs.Keeping.{ArePlanesSound, IsInRest, IsAt, IsKept}
 use Rattle.iw44_image.proofs.Growing.{table_some}
 use Rattle.iw44_image.proofs.Soundness.{sound_in, states_below}
 use Rattle.iw44_image.proofs.Stepping.{Gave, begun_reading}
@@ -92,3 +93,7 @@ header_moves frame to_come layer bytes decisions planes zp left at is holds =
     let here : InHeader frame layer bytes decisions planes left = subst (λ (s : Stage). HoldsAt s frame layer bytes decisions planes zp left) is holds in
     let moved : InHeader there layer bytes decisions planes left = record { layer_is = here.layer_is; left_is = here.left_is; placed = here.placed } in
     subst (λ (s : Stage). HoldsAt s there layer bytes decisions planes zp left) (sym is) moved
+
+-- behind all slices the header is known
+pub rest_known : (image : Image) (count : ℕ) → IsKept image → image.stage ≡ stage.Rest count → IsSome image.header
+rest_known image count kept at = let rest : IsInRest image count = subst (λ (s : Stage). IsAt s image) at kept.at in rest.known

@@ -26,6 +26,8 @@ mod Giving
 mod Advancing
 -- IwImage::read_header, IwImage::begin
 mod Headed
+-- law told_sizes_are_checked
+mod Sizing
 -- IwImage::push
 mod Pushing
 -- IwImage::make_planes

@@ -1,5 +1,6 @@
 -- Steps of an image, one after the other.
-use Rattle.std.proofs.Common.{◌≡◌, ℕ, ◌+◌, ◌-◌, ◌≤◌, List, [], Option, Some, None, refl, ap, sym, ◌∙◌, subst, arith}
+use Rattle.std.proofs.Common.{◌≡◌, ℕ, ◌+◌, ◌-◌, ◌≤◌, true, false, List, [], Option, Some, None, refl, ap, sym, ◌∙◌, subst, arith}
+use Rattle.std.specs.Prelude.{Result, Ok, Err, is_err, OnOk}
 use Rattle.djvu_base.specs.Meter.{TicksExactly}
 use Rattle.djvu_base.specs.declared.faults.FaultKind.{FaultKind}
 use Rattle.djvu_base.proofs.Ticks.{ticks_both, ticks_none}
@@ -43,7 +44,9 @@ pub answers_from : (answer : IwStep) (layer : Layer) (bytes : List ℕ) (now : �
     Answers answer layer bytes now mid new → Answers answer layer bytes now old new
 answers_from (step.Sized width height) layer bytes now old mid new alike told = record {
   first = sym alike.header ∙ told.first;
+  told = told.told;
   known = told.known ∙ ap (λ (r : LayerReading). r.layer.header) (reading_same old mid bytes layer alike);
+  none_read = told.none_read;
   width_is = told.width_is;
   height_is = told.height_is;
   planes = told.planes;
@@ -120,6 +123,11 @@ pub memory_answer : (old new : Image) (layer : Layer) (bytes : List ℕ) (decisi
     (now : ℕ) × (Answers step.OutOfMemory layer bytes now old new × TicksTo decisions now count count)
 memory_answer old new layer bytes decisions count is holds =
     (decisions, (subst (λ (i : Image). Holds layer bytes decisions i) (sym is) holds, ticks_stay decisions count))
+
+-- what is promised of a result without an error
+pub where_ok : {T E P : Type 0} (result : Result T E) → is_err result ≡ false → OnOk result P → P
+where_ok (Ok given) none holds = holds
+where_ok (Err given) none holds = absurd (let wrong : true ≡ false = none in cc)
 
 -- after planes were made, the answer of some steps
 pub made_answer : (result : Option IwStep) (answer : IwStep) (old made mid new : Image) (before between after : ℕ) → AreAlike old made →

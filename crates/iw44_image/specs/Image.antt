@@ -1,5 +1,6 @@
 -- What contracts see of an image, and what it answers.
 use Rattle.std.specs.Prelude.{◌≡◌, ℕ, ◌+◌, ◌-◌, ◌≤◌, ◌==◌, Bool, true, List, [], ◌∷◌, ◌++◌, Option, Some, None}
+use Rattle.std.specs.Prelude.{IsSome}
 use Rattle.djvu_base.specs.Meter.{TicksExactly}
 use Rattle.djvu_base.specs.Picture.{Picture}
 use Rattle.djvu_base.specs.declared.faults.FaultKind.{FaultKind}
@@ -182,7 +183,9 @@ Holds layer bytes decisions image = HoldsAt image.stage (frame_of image) layer b
 -- where the size is told, nothing behind the header was read
 pub record TellsSize (width height : ℕ) (layer : Layer) (bytes : List ℕ) (decisions : ℕ) (old new : Image) : Type 0 where
   pub first : old.header ≡ None
+  pub told : IsSome new.header
   pub known : new.header ≡ (reading_of old bytes layer).layer.header
+  pub none_read : decisions ≡ layer.decisions
   pub width_is : width ≡ (header_of new).width
   pub height_is : height ≡ (header_of new).height
   pub planes : new.planes ≡ None

@@ -120,11 +120,14 @@ abbrev pub open_behind : Option IwStep → Option ℕ → Option ℕ
 open_behind None left = left
 open_behind (Some answer) left = open_after answer left
 
--- what is true of each step, for which no memory is taken; without an answer the header stays, and less is left to do
+-- what is true of each step, for which no memory is taken: a header that is known stays, and a chunk that is done has one;
+-- without an answer no header comes, and less is left to do
 pub record HasStepped (result : Option IwStep) (old new : Image) : Type 0 where
   pub to_come : new.to_come ≡ open_behind result old.to_come
   pub refusal : refused new ≡ refused_after result
   pub header : result ≡ None → new.header ≡ old.header
+  pub keeps : IsSome old.header → new.header ≡ old.header
+  pub done : result ≡ Some step.ChunkDone → IsSome new.header
   pub made : result ≡ None → ArePlanesMade new
   pub less : result ≡ None → work new < work old
   pub memory : result ≢ Some step.OutOfMemory

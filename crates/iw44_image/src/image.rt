@@ -139,6 +139,8 @@ impl IwImage {
         ensures out_of_memory { result ≡ IwStep.OutOfMemory → (self.new ≡ self.old) × (meter.new ≡ meter.old) }
         ensures refused { (kind : FaultKind) → result ≡ IwStep.Refused kind → refused self.new ≡ Some kind }
         ensures to_come { self.new.to_come ≡ open_after result self.old.to_come }
+        ensures header { IsSome self.old.header → self.new.header ≡ self.old.header }
+        ensures done { result ≡ IwStep.ChunkDone → IsSome self.new.header }
         ensures table { self.new.zp.table ≡ self.old.zp.table }
         ensures limit { self.new.limit ≡ self.old.limit }
     {

@@ -5,6 +5,7 @@ use Rattle.iw44_image.specs.declared.headers.Header.{Header}
 use Rattle.iw44_image.specs.declared.steps.Stage.{Stage}
 use Rattle.iw44_image.specs.Starting.{HasArea}
 use Rattle.iw44_image.specs.Header.{Opened, open_chunk}
+use Rattle.iw44_image.specs.Layer.{Layer}
 use Rattle.iw44_image.specs.Image.{Image, Frame, Holds, HoldsAt, InHeader, frame_of, reading_of, is_whole}
 use Rattle.iw44_image.specs.Keeping.{first_stage}
 use Rattle.iw44_image.proofs.Beginning.{known_header}
@@ -85,8 +86,10 @@ returns-clause-steps c = λ layer bytes decisions holds.
     let planes = first_planes im c.args.header c.self.invariant area none in
     record {
       first = subst (λ (i : Image). i.header ≡ None) c.self.view_is none;
+      told = refl;
       known = subst (λ (i : Image). Some c.args.header ≡ (reading_of i bytes layer).layer.header) c.self.view_is
           (opened_header (frame_of im) layer bytes im.left c.skip.new.self decisions c.args.slices im.planes c.args.header here none opened);
+      none_read = sym (ap (λ (l : Layer). l.decisions) here.layer_is);
       width_is = refl;
       height_is = refl;
       planes = planes.1;

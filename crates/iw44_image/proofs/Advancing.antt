@@ -70,6 +70,11 @@ moved_to old planes zp left now = record {
   stage = now;
 }
 
+abbrev pub Ticks : Channel → PlaneReaders → Decoder → ℕ → ℕ → Type 0
+Ticks channel planes zp meter later = (header : Header) (slice decisions : ℕ) (course : Course) (payload : List ℕ) (place : Option Interval) →
+    AreSound (length zp.table) header planes → Placed header channel slice course planes → Fed payload place zp →
+    TicksExactly ((plane_reading header channel course decisions payload place zp planes).at.decisions - decisions) meter later
+
 -- what is known once a plane's reader has answered
 pub record Advance (old : Image) (planes new : PlaneReaders) (next : Decoder) (answer : SliceStep) (channel : Channel) (done count : ℕ)
     (meter later : ℕ) : Type 0 where
@@ -79,14 +84,31 @@ pub record Advance (old : Image) (planes new : PlaneReaders) (next : Decoder) (a
   pub running : IsSome old.to_come
   pub stands : (payload : List ℕ) (place : Option Interval) → Fed payload place old.zp → IsStanding (length payload) place
   pub reads : Reads channel planes new old.zp next answer
-  pub ticks : (header : Header) (slice decisions : ℕ) (course : Course) (payload : List ℕ) (place : Option Interval) →
-      AreSound (length old.zp.table) header planes → Placed header channel slice course planes → Fed payload place old.zp →
-      TicksExactly ((plane_reading header channel course decisions payload place old.zp planes).at.decisions - decisions) meter later
+  pub ticks : Ticks channel planes old.zp meter later
   pub sound : (h : Header) → AreSound (length old.zp.table) h planes → AreSound (length old.zp.table) h new
   pub table : next.table ≡ old.zp.table
   pub ended : next.ended ≡ old.zp.ended
 
-module _ (old : Image) (planes new : PlaneReaders) (next : Decoder) (answer : SliceStep) (channel : Channel) (done count meter later : ℕ)
+-- by what the code's functions promise
+pub advance_of : {old view : Image} {planes new : PlaneReaders} {next : Decoder} {answer : SliceStep} {channel : Channel} {done count meter later : ℕ} →
+    old ≡ view → IsKept old → view.stage ≡ stage.Slice channel done count → old.planes ≡ Some planes → IsSome view.to_come →
+    ((payload : List ℕ) (place : Option Interval) → Fed payload place old.zp → IsStanding (length payload) place) → Reads channel planes new old.zp next answer →
+    Ticks channel planes old.zp meter later → ((h : Header) → AreSound (length old.zp.table) h planes → AreSound (length old.zp.table) h new) →
+    next.table ≡ old.zp.table → next.ended ≡ old.zp.ended → Advance old planes new next answer channel done count meter later
+advance_of is kept at made running stands reads ticks sound table ended = record {
+  kept = kept;
+  stage_is = ap (λ (i : Image). i.stage) is ∙ at;
+  planes_is = made;
+  running = subst (λ (i : Image). IsSome i.to_come) (sym is) running;
+  stands = stands;
+  reads = reads;
+  ticks = ticks;
+  sound = sound;
+  table = table;
+  ended = ended;
+}
+
+module _ {old : Image} {planes new : PlaneReaders} {next : Decoder} {answer : SliceStep} {channel : Channel} {done count meter later : ℕ}
     (a : Advance old planes new next answer channel done count meter later) where
   pub in_slice : IsInSlice old channel done count
   in_slice = subst (λ (s : Stage). IsAt s old) a.stage_is a.kept.at

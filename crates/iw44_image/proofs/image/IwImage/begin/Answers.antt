@@ -1,6 +1,7 @@
 use Rattle.std.proofs.Common.{◌≡◌, ◌≤◌, ℕ, List, [], Bool, Option, Some, None, length, drop, refl, ap, sym, ◌∙◌, subst}
 use Rattle.std.specs.Prelude.{IsSome}
 use Rattle.zp_decoder.specs.Decoder.{is_all}
+use Rattle.iw44_image.specs.contracts.image.IwImage.{the_view}
 use Rattle.iw44_image.specs.declared.headers.Header.{Header}
 use Rattle.iw44_image.specs.declared.steps.Stage.{Stage}
 use Rattle.iw44_image.specs.Starting.{HasArea}
@@ -14,7 +15,7 @@ use Rattle.iw44_image.proofs.image.IwImage.begin.Goals as goal
 
 pub invariant_of-self : goal.invariant_of-self
 invariant_of-self c =
-    let im : Image = record { limit = c.self.inside.most; header = c.self.inside.told; to_come = c.self.inside.to_come; planes = c.self.inside.readers; zp = c.self.inside.decoder; left = c.self.inside.unread; chunks = c.self.inside.chunks_done; slices = c.self.inside.slices_done; stage = c.self.inside.at } in
+    let im : Image = the_view c.self.inside in
     let stage_is = ap (λ (i : Image). i.stage) c.self.view_is ∙ c.requires.stage in
     let whole = c.is_whole-whole.ensures ∙ ap (λ (i : Image). is_whole i.to_come) (sym c.self.view_is) in
     let told : c.finish.new.zp.ended ≡ is_all c.skip.new.self (is_whole im.to_come) = c.finish.ensures.ended ∙ c.is_all.ensures
@@ -28,7 +29,7 @@ invariant_of-self c =
 pub returns-then-is_some-clause-steps : goal.returns-then-is_some-clause-steps
 unfolding Holds
 returns-then-is_some-clause-steps c = λ layer bytes decisions holds.
-    let im : Image = record { limit = c.self.inside.most; header = c.self.inside.told; to_come = c.self.inside.to_come; planes = c.self.inside.readers; zp = c.self.inside.decoder; left = c.self.inside.unread; chunks = c.self.inside.chunks_done; slices = c.self.inside.slices_done; stage = c.self.inside.at } in
+    let im : Image = the_view c.self.inside in
     let stage_is = ap (λ (i : Image). i.stage) c.self.view_is ∙ c.requires.stage in
     let whole = c.is_whole-whole.ensures ∙ ap (λ (i : Image). is_whole i.to_come) (sym c.self.view_is) in
     let told : c.finish.new.zp.ended ≡ is_all c.skip.new.self (is_whole im.to_come) = c.finish.ensures.ended ∙ c.is_all.ensures
@@ -49,7 +50,7 @@ returns-then-is_some-clause-steps c = λ layer bytes decisions holds.
 
 pub invariant_of-self-2 : goal.invariant_of-self-2
 invariant_of-self-2 c =
-    let im : Image = record { limit = c.self.inside.most; header = c.self.inside.told; to_come = c.self.inside.to_come; planes = c.self.inside.readers; zp = c.self.inside.decoder; left = c.self.inside.unread; chunks = c.self.inside.chunks_done; slices = c.self.inside.slices_done; stage = c.self.inside.at } in
+    let im : Image = the_view c.self.inside in
     let stage_is = ap (λ (i : Image). i.stage) c.self.view_is ∙ c.requires.stage in
     let whole = c.is_whole-whole.ensures ∙ ap (λ (i : Image). is_whole i.to_come) (sym c.self.view_is) in
     let told : c.finish.new.zp.ended ≡ is_all c.skip.new.self (is_whole im.to_come) = c.finish.ensures.ended ∙ c.is_all.ensures
@@ -66,7 +67,7 @@ invariant_of-self-2 c =
 pub returns-clause-steps : goal.returns-clause-steps
 unfolding Holds
 returns-clause-steps c = λ layer bytes decisions holds.
-    let im : Image = record { limit = c.self.inside.most; header = c.self.inside.told; to_come = c.self.inside.to_come; planes = c.self.inside.readers; zp = c.self.inside.decoder; left = c.self.inside.unread; chunks = c.self.inside.chunks_done; slices = c.self.inside.slices_done; stage = c.self.inside.at } in
+    let im : Image = the_view c.self.inside in
     let stage_is = ap (λ (i : Image). i.stage) c.self.view_is ∙ c.requires.stage in
     let whole = c.is_whole-whole.ensures ∙ ap (λ (i : Image). is_whole i.to_come) (sym c.self.view_is) in
     let told : c.finish.new.zp.ended ≡ is_all c.skip.new.self (is_whole im.to_come) = c.finish.ensures.ended ∙ c.is_all.ensures

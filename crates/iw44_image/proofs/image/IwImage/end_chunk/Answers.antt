@@ -1,4 +1,5 @@
 use Rattle.std.proofs.Common.{◌≡◌, ℕ, ◌+◌, Bool, true, List, [], Option, None, refl, ap, sym, ◌∙◌, subst}
+use Rattle.iw44_image.specs.contracts.image.IwImage.{the_view}
 use Rattle.iw44_image.specs.declared.steps.Stage.{Stage}
 use Rattle.iw44_image.specs.declared.steps.Stage.TheVariants as stage
 use Rattle.iw44_image.specs.Layer.{Layer, LayerReading, Done, ends, chunk_end}
@@ -20,7 +21,7 @@ returns-then-not-is_whole-clause-steps c = λ layer bytes decisions holds.
 pub returns-clause-steps : goal.returns-clause-steps
 unfolding Holds
 returns-clause-steps c = λ layer bytes decisions holds.
-    let im : Image = record { limit = c.self.inside.most; header = c.self.inside.told; to_come = c.self.inside.to_come; planes = c.self.inside.readers; zp = c.self.inside.decoder; left = c.self.inside.unread; chunks = c.self.inside.chunks_done; slices = c.self.inside.slices_done; stage = c.self.inside.at } in
+    let im : Image = the_view c.self.inside in
     let new : Image = record { limit = im.limit; header = im.header; to_come = None; planes = im.planes; zp = im.zp; left = c.clear.new.self; chunks = im.chunks + 1; slices = im.slices + c.from.result; stage = stage.Header } in
     let stage_is = ap (λ (i : Image). i.stage) c.self.view_is ∙ c.requires.stage in
     let before = subst (λ (i : Image). Holds layer bytes decisions i) (sym c.self.view_is) holds in

@@ -1,4 +1,5 @@
 use Rattle.std.proofs.Common.{◌≡◌, ℕ, List, Option, Some, None, ap, sym, ◌∙◌, subst}
+use Rattle.iw44_image.specs.contracts.image.IwImage.{the_view}
 use Rattle.iw44_image.specs.declared.headers.Header.{Header}
 use Rattle.iw44_image.specs.declared.planes.PlaneReaders.{PlaneReaders}
 use Rattle.iw44_image.specs.Layer.{header_or}
@@ -11,7 +12,7 @@ use Rattle.iw44_image.proofs.image.IwImage.make_planes.Goals.{in-Some+in-Some-se
 pub returns-in_ok-new-clause-holds : goal.returns-in_ok-new-clause-holds
 unfolding Holds
 returns-in_ok-new-clause-holds c = λ layer bytes decisions holds.
-    let im : Image = record { limit = c.self.inside.most; header = c.self.inside.told; to_come = c.self.inside.to_come; planes = c.self.inside.readers; zp = c.self.inside.decoder; left = c.self.inside.unread; chunks = c.self.inside.chunks_done; slices = c.self.inside.slices_done; stage = c.self.inside.at } in
+    let im : Image = the_view c.self.inside in
     let before = subst (λ (i : Image). Holds layer bytes decisions i) (sym c.self.view_is) holds in
     let none : im.planes ≡ None = no_planes im.planes c.is_none.result c.is_none.ensures c.if-is_none.true in
     let new : AreNew (header_in (frame_of im)) c.in_ok-new.field-0 =

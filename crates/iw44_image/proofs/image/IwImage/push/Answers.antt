@@ -1,4 +1,5 @@
 use Rattle.std.proofs.Common.{◌≡◌, ◌≤◌, ◌-◌, ℕ, List, ◌++◌, length, Option, Some, ap, sym, ◌∙◌, subst}
+use Rattle.iw44_image.specs.contracts.image.IwImage.{the_view}
 use Rattle.iw44_image.specs.Image.{Image, Holds, HoldsAt, frame_of}
 use Rattle.iw44_image.specs.Keeping.{HasRoom}
 use Rattle.iw44_image.proofs.Pushing.{more_held, more_kept, frame_with}
@@ -7,7 +8,7 @@ use Rattle.iw44_image.proofs.image.IwImage.push.Goals as goal
 pub returns-in-Some-clause-holds : goal.returns-in-Some-clause-holds
 unfolding Holds
 returns-in-Some-clause-holds c = λ layer bytes decisions holds.
-    let im : Image = record { limit = c.self.inside.most; header = c.self.inside.told; to_come = c.self.inside.to_come; planes = c.self.inside.readers; zp = c.self.inside.decoder; left = c.self.inside.unread; chunks = c.self.inside.chunks_done; slices = c.self.inside.slices_done; stage = c.self.inside.at } in
+    let im : Image = the_view c.self.inside in
     let n : ℕ = c.in-Some.left in
     let room : length c.args.piece.now ≤ n = subst (λ (o : Option ℕ). HasRoom (length c.args.piece.now) o) c.in-Some.is
     (subst (λ (i : Image). HasRoom (length c.args.piece.now) i.to_come) (sym c.self.view_is) c.requires) in

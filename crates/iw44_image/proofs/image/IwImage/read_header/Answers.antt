@@ -1,4 +1,5 @@
 use Rattle.std.proofs.Common.{◌≡◌, ℕ, List, Bool, Option, ap, sym, ◌∙◌, subst}
+use Rattle.iw44_image.specs.contracts.image.IwImage.{the_view}
 use Rattle.iw44_image.specs.declared.steps.Stage.{Stage}
 use Rattle.iw44_image.specs.Header.{Short, Wrong, open_chunk}
 use Rattle.iw44_image.specs.Layer.{Need, Fault, ends}
@@ -9,7 +10,7 @@ use Rattle.iw44_image.proofs.image.IwImage.read_header.Goals as goal
 pub returns-in-Short-clause-steps : goal.returns-in-Short-clause-steps
 unfolding Holds
 returns-in-Short-clause-steps c = λ layer bytes decisions holds.
-    let im : Image = record { limit = c.self.inside.most; header = c.self.inside.told; to_come = c.self.inside.to_come; planes = c.self.inside.readers; zp = c.self.inside.decoder; left = c.self.inside.unread; chunks = c.self.inside.chunks_done; slices = c.self.inside.slices_done; stage = c.self.inside.at } in
+    let im : Image = the_view c.self.inside in
     let stage_is = ap (λ (i : Image). i.stage) c.self.view_is ∙ c.requires.stage in
     let before = subst (λ (i : Image). Holds layer bytes decisions i) (sym c.self.view_is) holds in
     let here : InHeader (frame_of im) layer bytes decisions im.planes im.left =
@@ -24,7 +25,7 @@ returns-in-Short-clause-steps c = λ layer bytes decisions holds.
 pub returns-in-Wrong-clause-steps : goal.returns-in-Wrong-clause-steps
 unfolding Holds
 returns-in-Wrong-clause-steps c = λ layer bytes decisions holds.
-    let im : Image = record { limit = c.self.inside.most; header = c.self.inside.told; to_come = c.self.inside.to_come; planes = c.self.inside.readers; zp = c.self.inside.decoder; left = c.self.inside.unread; chunks = c.self.inside.chunks_done; slices = c.self.inside.slices_done; stage = c.self.inside.at } in
+    let im : Image = the_view c.self.inside in
     let stage_is = ap (λ (i : Image). i.stage) c.self.view_is ∙ c.requires.stage in
     let before = subst (λ (i : Image). Holds layer bytes decisions i) (sym c.self.view_is) holds in
     let here : InHeader (frame_of im) layer bytes decisions im.planes im.left =

@@ -2,6 +2,7 @@ use Rattle.std.proofs.Common.{◌≡◌, ◌≢◌, ℕ, ◌-◌, List, [], Opti
 use Rattle.std.specs.Prelude.{IsSome}
 use Rattle.zp_decoder.specs.Decoder.{is_all}
 use Rattle.iw44_slices.specs.declared.steps.SliceStep.{SliceStep}
+use Rattle.iw44_image.specs.contracts.image.IwImage.{the_view}
 use Rattle.iw44_image.specs.declared.planes.PlaneReaders.{PlaneReaders}
 use Rattle.iw44_image.specs.declared.steps.Stage.{Stage}
 use Rattle.iw44_image.specs.declared.steps.IwStep.{IwStep}
@@ -10,133 +11,79 @@ use Rattle.zp_table.specs.declared.rows.Row.{Row}
 use Rattle.iw44_image.specs.declared.steps.Stage.TheVariants as stage
 use Rattle.iw44_image.specs.Layer.{ends, Need, Fault}
 use Rattle.iw44_image.specs.Image.{Image, Holds, Steps, TicksTo, reading_in, reading_of, layer_of, is_whole}
-use Rattle.iw44_image.proofs.Advancing.{Advance, kept_moved, same_at, next_at, told_still, ended_holds, taken_holds, needs_reads, stops_reads}
+use Rattle.iw44_image.proofs.Advancing.{Advance, advance_of, kept_moved, same_at, next_at, told_still, ended_holds, taken_holds, needs_reads, stops_reads}
 use Rattle.iw44_image.proofs.Advancing.{all_came, wants, here, gave, ticks, reading}
 use Rattle.iw44_image.proofs.image.IwImage.read_slice.Goals as goal
 use Rattle.iw44_image.proofs.image.IwImage.read_slice.Goals.{then-offer, else-offer}
 
 pub invariant_of-self : goal.invariant_of-self
 invariant_of-self g c =
-    let im : Image = record { limit = c.self.inside.most; header = c.self.inside.told; to_come = c.self.inside.to_come; planes = c.self.inside.readers; zp = c.self.inside.decoder; left = c.self.inside.unread; chunks = c.self.inside.chunks_done; slices = c.self.inside.slices_done; stage = c.self.inside.at } in
+    let im : Image = the_view c.self.inside in
     let a : Advance im c.in-Some.planes c.advance.new.self c.advance.new.zp c.advance.result c.args.channel c.args.done c.args.count
-    (g.M.Meter.count c.args.meter.now) (g.M.Meter.count c.advance.new.meter) = record {
-      kept = c.self.invariant;
-      stage_is = ap (λ (i : Image). i.stage) c.self.view_is ∙ c.requires.stage;
-      planes_is = c.in-Some.is;
-      running = subst (λ (i : Image). IsSome i.to_come) (sym c.self.view_is) c.requires.running;
-      stands = c.was_fed.ensures.standing;
-      reads = c.advance.ensures.read;
-      ticks = c.advance.ensures.ticks;
-      sound = c.advance.ensures.sound;
-      table = c.advance.ensures.table;
-      ended = c.advance.ensures.ended;
-    } in
-    kept_moved im c.in-Some.planes c.advance.new.self c.advance.new.zp c.advance.result c.args.channel c.args.done c.args.count _ _ a c.advance.new.zp im.left im.stage refl
-    (same_at im c.in-Some.planes c.advance.new.self c.advance.new.zp c.advance.result c.args.channel c.args.done c.args.count _ _ a c.advance.new.zp im.left
-    (told_still im c.in-Some.planes c.advance.new.self c.advance.new.zp c.advance.result c.args.channel c.args.done c.args.count _ _ a))
+    (g.M.Meter.count c.args.meter.now) (g.M.Meter.count c.advance.new.meter) =
+    advance_of c.self.view_is c.self.invariant c.requires.stage c.in-Some.is c.requires.running c.was_fed.ensures.standing c.advance.ensures.read
+    c.advance.ensures.ticks c.advance.ensures.sound c.advance.ensures.table c.advance.ensures.ended in
+    kept_moved a c.advance.new.zp im.left im.stage refl
+    (same_at a c.advance.new.zp im.left
+    (told_still a))
 
 pub invariant_of-self-in-SliceEnd : goal.invariant_of-self-in-SliceEnd
 invariant_of-self-in-SliceEnd g c =
-    let im : Image = record { limit = c.self.inside.most; header = c.self.inside.told; to_come = c.self.inside.to_come; planes = c.self.inside.readers; zp = c.self.inside.decoder; left = c.self.inside.unread; chunks = c.self.inside.chunks_done; slices = c.self.inside.slices_done; stage = c.self.inside.at } in
+    let im : Image = the_view c.self.inside in
     let a : Advance im c.in-Some.planes c.advance.new.self c.advance.new.zp c.advance.result c.args.channel c.args.done c.args.count
-    (g.M.Meter.count c.args.meter.now) (g.M.Meter.count c.advance.new.meter) = record {
-      kept = c.self.invariant;
-      stage_is = ap (λ (i : Image). i.stage) c.self.view_is ∙ c.requires.stage;
-      planes_is = c.in-Some.is;
-      running = subst (λ (i : Image). IsSome i.to_come) (sym c.self.view_is) c.requires.running;
-      stands = c.was_fed.ensures.standing;
-      reads = c.advance.ensures.read;
-      ticks = c.advance.ensures.ticks;
-      sound = c.advance.ensures.sound;
-      table = c.advance.ensures.table;
-      ended = c.advance.ensures.ended;
-    } in
-    kept_moved im c.in-Some.planes c.advance.new.self c.advance.new.zp c.advance.result c.args.channel c.args.done c.args.count _ _ a c.advance.new.zp im.left c.next_stage-self-inside.result refl
-    (next_at im c.in-Some.planes c.advance.new.self c.advance.new.zp c.advance.result c.args.channel c.args.done c.args.count _ _ a c.has_chroma-chroma.result c.next_stage-self-inside.result
+    (g.M.Meter.count c.args.meter.now) (g.M.Meter.count c.advance.new.meter) =
+    advance_of c.self.view_is c.self.invariant c.requires.stage c.in-Some.is c.requires.running c.was_fed.ensures.standing c.advance.ensures.read
+    c.advance.ensures.ticks c.advance.ensures.sound c.advance.ensures.table c.advance.ensures.ended in
+    kept_moved a c.advance.new.zp im.left c.next_stage-self-inside.result refl
+    (next_at a c.has_chroma-chroma.result c.next_stage-self-inside.result
     (sym c.has_chroma-chroma.ensures) c.next_stage-self-inside.ensures)
 
 pub returns-in-SliceEnd-clause-steps : goal.returns-in-SliceEnd-clause-steps
 unfolding Holds
 returns-in-SliceEnd-clause-steps g c = λ layer bytes decisions holds.
-    let im : Image = record { limit = c.self.inside.most; header = c.self.inside.told; to_come = c.self.inside.to_come; planes = c.self.inside.readers; zp = c.self.inside.decoder; left = c.self.inside.unread; chunks = c.self.inside.chunks_done; slices = c.self.inside.slices_done; stage = c.self.inside.at } in
+    let im : Image = the_view c.self.inside in
     let a : Advance im c.in-Some.planes c.advance.new.self c.advance.new.zp c.advance.result c.args.channel c.args.done c.args.count
-    (g.M.Meter.count c.args.meter.now) (g.M.Meter.count c.advance.new.meter) = record {
-      kept = c.self.invariant;
-      stage_is = ap (λ (i : Image). i.stage) c.self.view_is ∙ c.requires.stage;
-      planes_is = c.in-Some.is;
-      running = subst (λ (i : Image). IsSome i.to_come) (sym c.self.view_is) c.requires.running;
-      stands = c.was_fed.ensures.standing;
-      reads = c.advance.ensures.read;
-      ticks = c.advance.ensures.ticks;
-      sound = c.advance.ensures.sound;
-      table = c.advance.ensures.table;
-      ended = c.advance.ensures.ended;
-    } in
+    (g.M.Meter.count c.args.meter.now) (g.M.Meter.count c.advance.new.meter) =
+    advance_of c.self.view_is c.self.invariant c.requires.stage c.in-Some.is c.requires.running c.was_fed.ensures.standing c.advance.ensures.read
+    c.advance.ensures.ticks c.advance.ensures.sound c.advance.ensures.table c.advance.ensures.ended in
     let before = subst (λ (i : Image). Holds layer bytes decisions i) (sym c.self.view_is) holds in
-    let more = ticks im c.in-Some.planes c.advance.new.self c.advance.new.zp c.advance.result c.args.channel c.args.done c.args.count _ _ a layer bytes decisions before in
-    let there = ended_holds im c.in-Some.planes c.advance.new.self c.advance.new.zp c.advance.result c.args.channel c.args.done c.args.count _ _ a layer bytes decisions before
+    let more = ticks a layer bytes decisions before in
+    let there = ended_holds a layer bytes decisions before
     c.has_chroma-chroma.result c.next_stage-self-inside.result c.in-SliceEnd.is (sym c.has_chroma-chroma.ensures) c.next_stage-self-inside.ensures in
     (_, (there, more))
 
 pub invariant_of-self-in-NeedBytes : goal.invariant_of-self-in-NeedBytes
 invariant_of-self-in-NeedBytes g c =
-    let im : Image = record { limit = c.self.inside.most; header = c.self.inside.told; to_come = c.self.inside.to_come; planes = c.self.inside.readers; zp = c.self.inside.decoder; left = c.self.inside.unread; chunks = c.self.inside.chunks_done; slices = c.self.inside.slices_done; stage = c.self.inside.at } in
+    let im : Image = the_view c.self.inside in
     let a : Advance im c.in-Some.planes c.advance.new.self c.advance.new.zp c.advance.result c.args.channel c.args.done c.args.count
-    (g.M.Meter.count c.args.meter.now) (g.M.Meter.count c.advance.new.meter) = record {
-      kept = c.self.invariant;
-      stage_is = ap (λ (i : Image). i.stage) c.self.view_is ∙ c.requires.stage;
-      planes_is = c.in-Some.is;
-      running = subst (λ (i : Image). IsSome i.to_come) (sym c.self.view_is) c.requires.running;
-      stands = c.was_fed.ensures.standing;
-      reads = c.advance.ensures.read;
-      ticks = c.advance.ensures.ticks;
-      sound = c.advance.ensures.sound;
-      table = c.advance.ensures.table;
-      ended = c.advance.ensures.ended;
-    } in
+    (g.M.Meter.count c.args.meter.now) (g.M.Meter.count c.advance.new.meter) =
+    advance_of c.self.view_is c.self.invariant c.requires.stage c.in-Some.is c.requires.running c.was_fed.ensures.standing c.advance.ensures.read
+    c.advance.ensures.ticks c.advance.ensures.sound c.advance.ensures.table c.advance.ensures.ended in
     let whole = c.is_whole-whole.ensures ∙ ap (λ (i : Image). is_whole i.to_come) (sym c.self.view_is) in
-    kept_moved im c.in-Some.planes c.advance.new.self c.advance.new.zp c.advance.result c.args.channel c.args.done c.args.count _ _ a c.offer.new.zp c.offer.new.self im.stage c.offer.ensures.takes.table
-    (same_at im c.in-Some.planes c.advance.new.self c.advance.new.zp c.advance.result c.args.channel c.args.done c.args.count _ _ a c.offer.new.zp c.offer.new.self (c.offer.ensures.told ∙ ap (is_all c.offer.new.self) whole))
+    kept_moved a c.offer.new.zp c.offer.new.self im.stage c.offer.ensures.takes.table
+    (same_at a c.offer.new.zp c.offer.new.self (c.offer.ensures.told ∙ ap (is_all c.offer.new.self) whole))
 
 pub invariant_of-self-in-Exhausted : goal.invariant_of-self-in-Exhausted
 invariant_of-self-in-Exhausted g c =
-    let im : Image = record { limit = c.self.inside.most; header = c.self.inside.told; to_come = c.self.inside.to_come; planes = c.self.inside.readers; zp = c.self.inside.decoder; left = c.self.inside.unread; chunks = c.self.inside.chunks_done; slices = c.self.inside.slices_done; stage = c.self.inside.at } in
+    let im : Image = the_view c.self.inside in
     let a : Advance im c.in-Some.planes c.advance.new.self c.advance.new.zp c.advance.result c.args.channel c.args.done c.args.count
-    (g.M.Meter.count c.args.meter.now) (g.M.Meter.count c.advance.new.meter) = record {
-      kept = c.self.invariant;
-      stage_is = ap (λ (i : Image). i.stage) c.self.view_is ∙ c.requires.stage;
-      planes_is = c.in-Some.is;
-      running = subst (λ (i : Image). IsSome i.to_come) (sym c.self.view_is) c.requires.running;
-      stands = c.was_fed.ensures.standing;
-      reads = c.advance.ensures.read;
-      ticks = c.advance.ensures.ticks;
-      sound = c.advance.ensures.sound;
-      table = c.advance.ensures.table;
-      ended = c.advance.ensures.ended;
-    } in
-    kept_moved im c.in-Some.planes c.advance.new.self c.advance.new.zp c.advance.result c.args.channel c.args.done c.args.count _ _ a c.advance.new.zp im.left _ refl tt
+    (g.M.Meter.count c.args.meter.now) (g.M.Meter.count c.advance.new.meter) =
+    advance_of c.self.view_is c.self.invariant c.requires.stage c.in-Some.is c.requires.running c.was_fed.ensures.standing c.advance.ensures.read
+    c.advance.ensures.ticks c.advance.ensures.sound c.advance.ensures.table c.advance.ensures.ended in
+    kept_moved a c.advance.new.zp im.left _ refl tt
 
 pub returns-in-Exhausted-clause-steps : goal.returns-in-Exhausted-clause-steps
 unfolding Holds
 returns-in-Exhausted-clause-steps g c = λ layer bytes decisions holds.
-    let im : Image = record { limit = c.self.inside.most; header = c.self.inside.told; to_come = c.self.inside.to_come; planes = c.self.inside.readers; zp = c.self.inside.decoder; left = c.self.inside.unread; chunks = c.self.inside.chunks_done; slices = c.self.inside.slices_done; stage = c.self.inside.at } in
+    let im : Image = the_view c.self.inside in
     let a : Advance im c.in-Some.planes c.advance.new.self c.advance.new.zp c.advance.result c.args.channel c.args.done c.args.count
-    (g.M.Meter.count c.args.meter.now) (g.M.Meter.count c.advance.new.meter) = record {
-      kept = c.self.invariant;
-      stage_is = ap (λ (i : Image). i.stage) c.self.view_is ∙ c.requires.stage;
-      planes_is = c.in-Some.is;
-      running = subst (λ (i : Image). IsSome i.to_come) (sym c.self.view_is) c.requires.running;
-      stands = c.was_fed.ensures.standing;
-      reads = c.advance.ensures.read;
-      ticks = c.advance.ensures.ticks;
-      sound = c.advance.ensures.sound;
-      table = c.advance.ensures.table;
-      ended = c.advance.ensures.ended;
-    } in
+    (g.M.Meter.count c.args.meter.now) (g.M.Meter.count c.advance.new.meter) =
+    advance_of c.self.view_is c.self.invariant c.requires.stage c.in-Some.is c.requires.running c.was_fed.ensures.standing c.advance.ensures.read
+    c.advance.ensures.ticks c.advance.ensures.sound c.advance.ensures.table c.advance.ensures.ended in
     let before = subst (λ (i : Image). Holds layer bytes decisions i) (sym c.self.view_is) holds in
-    let more = ticks im c.in-Some.planes c.advance.new.self c.advance.new.zp c.advance.result c.args.channel c.args.done c.args.count _ _ a layer bytes decisions before in
-    let reads = stops_reads im c.in-Some.planes c.advance.new.self c.advance.new.zp c.advance.result c.args.channel c.args.done c.args.count _ _ a layer bytes decisions before c.in-Exhausted.is (all_came im c.in-Some.planes c.advance.new.self c.advance.new.zp c.advance.result c.args.channel c.args.done c.args.count _ _ a layer bytes decisions before c.in-Exhausted.is) in
-    let now : ℕ = (reading im c.in-Some.planes c.advance.new.self c.advance.new.zp c.advance.result c.args.channel c.args.done c.args.count _ _ a layer bytes decisions before).at.decisions in
+    let more = ticks a layer bytes decisions before in
+    let reads = stops_reads a layer bytes decisions before c.in-Exhausted.is (all_came a layer bytes decisions before c.in-Exhausted.is) in
+    let now : ℕ = (reading a layer bytes decisions before).at.decisions in
     let new : Image = record { limit = im.limit; header = im.header; to_come = im.to_come; planes = Some c.advance.new.self; zp = c.advance.new.zp; left = im.left; chunks = im.chunks; slices = im.slices; stage = stage.Refused fault.ZpExhausted } in
     let held : Holds layer bytes now new = subst (λ (t : List Row). reading_in
     (record { table = t; limit = im.limit; header = im.header; to_come = im.to_come; chunks = im.chunks; slices = im.slices }) bytes layer
@@ -146,26 +93,17 @@ returns-in-Exhausted-clause-steps g c = λ layer bytes decisions holds.
 pub returns-after-offer-clause-steps : goal.returns-after-offer-clause-steps
 unfolding Holds
 returns-after-offer-clause-steps g c = λ layer bytes decisions holds.
-    let im : Image = record { limit = c.self.inside.most; header = c.self.inside.told; to_come = c.self.inside.to_come; planes = c.self.inside.readers; zp = c.self.inside.decoder; left = c.self.inside.unread; chunks = c.self.inside.chunks_done; slices = c.self.inside.slices_done; stage = c.self.inside.at } in
+    let im : Image = the_view c.self.inside in
     let a : Advance im c.in-Some.planes c.advance.new.self c.advance.new.zp c.advance.result c.args.channel c.args.done c.args.count
-    (g.M.Meter.count c.args.meter.now) (g.M.Meter.count c.advance.new.meter) = record {
-      kept = c.self.invariant;
-      stage_is = ap (λ (i : Image). i.stage) c.self.view_is ∙ c.requires.stage;
-      planes_is = c.in-Some.is;
-      running = subst (λ (i : Image). IsSome i.to_come) (sym c.self.view_is) c.requires.running;
-      stands = c.was_fed.ensures.standing;
-      reads = c.advance.ensures.read;
-      ticks = c.advance.ensures.ticks;
-      sound = c.advance.ensures.sound;
-      table = c.advance.ensures.table;
-      ended = c.advance.ensures.ended;
-    } in
+    (g.M.Meter.count c.args.meter.now) (g.M.Meter.count c.advance.new.meter) =
+    advance_of c.self.view_is c.self.invariant c.requires.stage c.in-Some.is c.requires.running c.was_fed.ensures.standing c.advance.ensures.read
+    c.advance.ensures.ticks c.advance.ensures.sound c.advance.ensures.table c.advance.ensures.ended in
     let before = subst (λ (i : Image). Holds layer bytes decisions i) (sym c.self.view_is) holds in
     let whole = c.is_whole-whole.ensures ∙ ap (λ (i : Image). is_whole i.to_come) (sym c.self.view_is) in
-    let more = ticks im c.in-Some.planes c.advance.new.self c.advance.new.zp c.advance.result c.args.channel c.args.done c.args.count _ _ a layer bytes decisions before in
-    let there = taken_holds im c.in-Some.planes c.advance.new.self c.advance.new.zp c.advance.result c.args.channel c.args.done c.args.count _ _ a layer bytes decisions before c.offer.new.zp c.offer.new.self c.in-NeedBytes.is c.offer.ensures.takes (c.offer.ensures.told ∙ ap (is_all c.offer.new.self) whole) in
+    let more = ticks a layer bytes decisions before in
+    let there = taken_holds a layer bytes decisions before c.offer.new.zp c.offer.new.self c.in-NeedBytes.is c.offer.ensures.takes (c.offer.ensures.told ∙ ap (is_all c.offer.new.self) whole) in
     let new : Image = record { limit = im.limit; header = im.header; to_come = im.to_come; planes = Some c.advance.new.self; zp = c.offer.new.zp; left = c.offer.new.self; chunks = im.chunks; slices = im.slices; stage = im.stage } in
-    let now : ℕ = (reading im c.in-Some.planes c.advance.new.self c.advance.new.zp c.advance.result c.args.channel c.args.done c.args.count _ _ a layer bytes decisions before).at.decisions in
+    let now : ℕ = (reading a layer bytes decisions before).at.decisions in
     elim c.if-offer.branch [
       | then-offer w ↦ subst (λ (r : Option IwStep). (x : ℕ) × (Steps r layer bytes x c.args.self.now new × TicksTo decisions x
           (g.M.Meter.count c.args.meter.now) (g.M.Meter.count c.advance.new.meter))) (sym w.result-is)
@@ -173,7 +111,7 @@ returns-after-offer-clause-steps g c = λ layer bytes decisions holds.
       | else-offer w ↦ subst (λ (r : Option IwStep). (x : ℕ) × (Steps r layer bytes x c.args.self.now new × TicksTo decisions x
           (g.M.Meter.count c.args.meter.now) (g.M.Meter.count c.advance.new.meter))) (sym w.result-is)
           (let none = c.offer.ensures.all w.if-offer.false
-          (here im c.in-Some.planes c.advance.new.self c.advance.new.zp c.advance.result c.args.channel c.args.done c.args.count _ _ a layer bytes decisions before).taken _ (gave im c.in-Some.planes c.advance.new.self c.advance.new.zp c.advance.result c.args.channel c.args.done c.args.count _ _ a layer bytes decisions before).read.fed (wants im c.in-Some.planes c.advance.new.self c.advance.new.zp c.advance.result c.args.channel c.args.done c.args.count _ _ a layer bytes decisions before c.in-NeedBytes.is) in
-          let reads = needs_reads im c.in-Some.planes c.advance.new.self c.advance.new.zp c.advance.result c.args.channel c.args.done c.args.count _ _ a layer bytes decisions before c.in-NeedBytes.is none in
+          (here a layer bytes decisions before).taken _ (gave a layer bytes decisions before).read.fed (wants a layer bytes decisions before c.in-NeedBytes.is) in
+          let reads = needs_reads a layer bytes decisions before c.in-NeedBytes.is none in
           (now, ((subst (λ (i : Image). reading_of i bytes layer ≡ ends Need (layer_of new now)) c.self.view_is reads, there), more)))
     ]

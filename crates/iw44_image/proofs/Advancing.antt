@@ -27,7 +27,7 @@ use Rattle.iw44_image.specs.declared.steps.Stage.TheVariants as stage
 use Rattle.iw44_image.specs.Layer.{Layer, LayerReading, Need, Fault, ends, has_chroma, plane_for}
 use Rattle.iw44_image.specs.Offering.{TakesMore}
 use Rattle.iw44_image.specs.Readers.{AreSound, planes_of, Placed, plane_reading, HaveRead}
-use Rattle.iw44_image.specs.Image.{Image, Frame, frame_of, header_in, layer_in, is_whole, reading_in, InSlice, HoldsAt, TicksTo}
+use Rattle.iw44_image.specs.Image.{Image, Frame, image_by, frame_by, frame_of, header_in, layer_in, is_whole, reading_in, InSlice, HoldsAt, TicksTo}
 use Rattle.iw44_image.specs.Keeping.{ArePlanesSound, IsInSlice, IsAt, IsKept, next_stage}
 use Rattle.iw44_image.proofs.Stepping.{Gave, slice_ended, slice_left, slice_needs, slice_stops, slice_takes, nothing_left}
 use Rattle.iw44_image.proofs.Choosing.{next_holds}
@@ -58,17 +58,7 @@ exhausted_told rows payload false course at e = absurd (never_exhausted rows pay
 
 -- an image after a step within a slice
 abbrev pub moved_to : Image → PlaneReaders → Decoder → List ℕ → Stage → Image
-moved_to old planes zp left now = record {
-  limit = old.limit;
-  header = old.header;
-  to_come = old.to_come;
-  planes = Some planes;
-  zp = zp;
-  left = left;
-  chunks = old.chunks;
-  slices = old.slices;
-  stage = now;
-}
+moved_to old planes zp left now = image_by old.limit old.header old.to_come (Some planes) zp left old.chunks old.slices now
 
 abbrev pub Ticks : Channel → PlaneReaders → Decoder → ℕ → ℕ → Type 0
 Ticks channel planes zp meter later = (header : Header) (slice decisions : ℕ) (course : Course) (payload : List ℕ) (place : Option Interval) →
@@ -92,8 +82,8 @@ pub record Advance (old : Image) (planes new : PlaneReaders) (next : Decoder) (a
 -- by what the code's functions promise
 pub advance_of : {old view : Image} {planes new : PlaneReaders} {next : Decoder} {answer : SliceStep} {channel : Channel} {done count meter later : ℕ} →
     old ≡ view → IsKept old → view.stage ≡ stage.Slice channel done count → old.planes ≡ Some planes → IsSome view.to_come →
-    ((payload : List ℕ) (place : Option Interval) → Fed payload place old.zp → IsStanding (length payload) place) → Reads channel planes new old.zp next answer →
-    Ticks channel planes old.zp meter later → ((h : Header) → AreSound (length old.zp.table) h planes → AreSound (length old.zp.table) h new) →
+    ((payload : List ℕ) (place : Option Interval) → Fed payload place old.zp → IsStanding (length payload) place) →
+    Reads channel planes new old.zp next answer → Ticks channel planes old.zp meter later → ((h : Header) → AreSound (length old.zp.table) h planes → AreSound (length old.zp.table) h new) →
     next.table ≡ old.zp.table → next.ended ≡ old.zp.ended → Advance old planes new next answer channel done count meter later
 advance_of is kept at made running stands reads ticks sound table ended = record {
   kept = kept;
@@ -172,15 +162,15 @@ module _ {old : Image} {planes new : PlaneReaders} {next : Decoder} {answer : Sl
     -- a frame is the same with the decoder that went on
     frame_is : (zp : Decoder) (rest : List ℕ) (now : Stage) → zp.table ≡ next.table → frame_of old ≡ frame_of (moved_to old new zp rest now)
     frame_is zp rest now table =
-        ap (λ (t : List Row). let f : Frame = record { table = t; limit = old.limit; header = old.header; to_come = old.to_come; chunks = old.chunks; slices = old.slices } in f) (sym (table ∙ a.table))
+        ap (λ (t : List Row). let f : Frame = frame_by t old.limit old.header old.to_come old.chunks old.slices in f) (sym (table ∙ a.table))
 
     pub ended_holds : (chroma : Bool) (now : Stage) → answer ≡ step.SliceEnd → has_chroma (header_in (frame_of old)) (old.slices + done) ≡ chroma →
         now ≡ next_stage chroma channel done count →
         HoldsAt now (frame_of (moved_to old new next old.left now)) layer bytes reading.at.decisions (Some new) next old.left
     ended_holds chroma now all has is =
         let ended = slice_ended (frame_of old) layer bytes old.left decisions planes new old.zp next channel done count here reading answer gave all in
-        let there = next_holds (length old.zp.table) (frame_of old) layer bytes old.left reading.at.decisions new next channel done count chroma ended told_still
-        (a.sound (header_in (frame_of old)) planes_sound).chroma in_slice.channel_fits has in
+        let there = next_holds (length old.zp.table) (frame_of old) layer bytes old.left reading.at.decisions new next channel done count chroma ended
+        told_still (a.sound (header_in (frame_of old)) planes_sound).chroma in_slice.channel_fits has in
         subst (λ (f : Frame). HoldsAt now f layer bytes reading.at.decisions (Some new) next old.left) (frame_is next old.left now refl)
         (subst (λ (s : Stage). HoldsAt s (frame_of old) layer bytes reading.at.decisions (Some new) next old.left) (sym is) there)
 
@@ -204,11 +194,15 @@ module _ {old : Image} {planes new : PlaneReaders} {next : Decoder} {answer : Sl
 
     pub needs_reads : answer ≡ step.NeedBytes → old.left ≡ [] → reading_in (frame_of old) bytes layer ≡ ends Need
         (layer_in (frame_of old) (Some new) reading.at.decisions)
-    needs_reads needs none = slice_needs (frame_of old) layer bytes old.left decisions planes new old.zp next channel done count here reading answer gave needs in_slice.told none
+    needs_reads needs none =
+        slice_needs (frame_of old) layer bytes old.left decisions planes new old.zp next channel done count here reading answer gave needs
+        in_slice.told none
 
     pub stops_reads : answer ≡ step.Exhausted → old.left ≡ [] → reading_in (frame_of old) bytes layer ≡ ends (Fault fault.ZpExhausted)
         (layer_in (frame_of old) (Some new) reading.at.decisions)
-    stops_reads stops none = slice_stops (frame_of old) layer bytes old.left decisions planes new old.zp next channel done count here reading answer gave stops in_slice.told none
+    stops_reads stops none =
+        slice_stops (frame_of old) layer bytes old.left decisions planes new old.zp next channel done count here reading answer gave stops
+        in_slice.told none
 
     -- the decoder wants bytes, and it was told the end where the chunk is exhausted
     pub wants : answer ≡ step.NeedBytes → 0 < bytes_wanted here.taken reading.at.place

@@ -149,4 +149,5 @@ told_stays limit number known told bytes ended header slices zp is e =
 pub known_header : (limit number : ℕ) (known : Option Header) (bytes : List ℕ) (ended : Bool) (header : Header) (slices : ℕ) (zp : List ℕ) → IsSome known →
     open_chunk limit number known bytes ended ≡ Opened header slices zp → Some header ≡ known
 known_header limit number None bytes ended header slices zp some e = absurd (let wrong : false ≡ true = some in cc)
-known_header limit number (Some told) bytes ended header slices zp some e = ap (λ (h : Header). let o : Option Header = Some h in o) (kept_header limit number told bytes ended header slices zp e)
+known_header limit number (Some told) bytes ended header slices zp some e =
+    ap (λ (h : Header). let o : Option Header = Some h in o) (kept_header limit number told bytes ended header slices zp e)

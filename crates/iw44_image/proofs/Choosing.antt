@@ -124,7 +124,8 @@ behind_by frame layer bytes left decisions planes zp done count here (suc later)
 behind_holds : (frame : Frame) (layer : Layer) (bytes left : List ℕ) (decisions : ℕ) (planes : PlaneReaders) (zp : Decoder) (done count : ℕ) →
     Behind frame layer bytes decisions planes zp left done count →
     zp.ended ≡ is_all left (is_whole frame.to_come) → HoldsAt (stage_behind done count) frame layer bytes decisions (Some planes) zp left
-behind_holds frame layer bytes left decisions planes zp done count here told = behind_by frame layer bytes left decisions planes zp done count here here.later refl told
+behind_holds frame layer bytes left decisions planes zp done count here told =
+    behind_by frame layer bytes left decisions planes zp done count here here.later refl told
 
 -- where a slice of a plane has ended, the next stage holds
 pub next_holds : (rows : ℕ) (frame : Frame) (layer : Layer) (bytes left : List ℕ) (decisions : ℕ) (planes : PlaneReaders) (zp : Decoder)

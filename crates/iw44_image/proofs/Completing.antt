@@ -20,7 +20,8 @@ use Rattle.iw44_image.specs.Layer.{Allowed, data_of, opening_of, Task, Layer, La
 use Rattle.iw44_image.specs.Layer.{task_reading, read_tasks, read_opened, read_chunk}
 
 -- its decisions need no further bytes, nor do its slices
-decided : (rows : List Row) (form : Form) (payload : List ℕ) (place : Option Interval) → (outcome_of rows form payload true place).answer ≡ decision.NeedBytes → ⊥
+decided : (rows : List Row) (form : Form) (payload : List ℕ) (place : Option Interval) →
+    (outcome_of rows form payload true place).answer ≡ decision.NeedBytes → ⊥
 decided rows form payload place e =
     elim (comes rows form payload true place (split_of rows form (interval_at payload place).a) (interval_at payload place)) [
       | needs d is ↦ cc
@@ -28,7 +29,8 @@ decided rows form payload place e =
           let told : (outcome_of rows form payload true place).answer ≡ decision.Exhausted = ap (λ (o : Outcome). o.answer) is in
           let wrong = sym told ∙ e in cc
       | moves d x is ↦
-          let told : (outcome_of rows form payload true place).answer ≡ decision.Bit (bit_of form (split_of rows form (interval_at payload place).a) (interval_at payload place)) =
+          let bit : Bool = bit_of form (split_of rows form (interval_at payload place).a) (interval_at payload place) in
+          let told : (outcome_of rows form payload true place).answer ≡ decision.Bit bit =
           ap (λ (o : Outcome). o.answer) is in
           let wrong = sym told ∙ e in cc
     ]

@@ -21,7 +21,7 @@ use Rattle.iw44_image.specs.declared.steps.Stage.{Stage}
 use Rattle.iw44_image.specs.declared.steps.Stage.TheVariants as stage
 use Rattle.iw44_image.specs.Layer.{Layer, LayerReading, Done, Need, ends, chunk_end, plane_for}
 use Rattle.iw44_image.specs.Readers.{AreSound, planes_of, Placed, plane_reading, HaveRead}
-use Rattle.iw44_image.specs.Image.{Image, Frame, header_in, layer_in, is_whole, reading_in, InSlice, InRest, InHeader, HoldsAt, TicksTo}
+use Rattle.iw44_image.specs.Image.{Image, Frame, frame_by, header_in, layer_in, is_whole, reading_in, InSlice, InRest, InHeader, HoldsAt, TicksTo}
 use Rattle.iw44_image.specs.Keeping.{ArePlanesSound, IsInRest, IsAt, IsKept}
 use Rattle.iw44_image.proofs.Growing.{table_some}
 use Rattle.iw44_image.proofs.Soundness.{sound_in, states_below}
@@ -84,12 +84,15 @@ rest_reads frame layer bytes decisions planes zp count here =
 
 -- ---- before a chunk
 
+abbrev pub frame_with : Frame → Option ℕ → Frame
+frame_with frame to_come = frame_by frame.table frame.limit frame.header to_come frame.chunks frame.slices
+
 pub header_moves : (frame : Frame) (to_come : Option ℕ) (layer : Layer) (bytes : List ℕ) (decisions : ℕ) (planes : Option PlaneReaders) (zp : Decoder)
     (left : List ℕ) (at : Stage) → at ≡ stage.Header →
     HoldsAt at frame layer bytes decisions planes zp left →
-    HoldsAt at (record { table = frame.table; limit = frame.limit; header = frame.header; to_come = to_come; chunks = frame.chunks; slices = frame.slices }) layer bytes decisions planes zp left
+    HoldsAt at (frame_with frame to_come) layer bytes decisions planes zp left
 header_moves frame to_come layer bytes decisions planes zp left at is holds =
-    let there : Frame = record { table = frame.table; limit = frame.limit; header = frame.header; to_come = to_come; chunks = frame.chunks; slices = frame.slices } in
+    let there : Frame = frame_with frame to_come in
     let here : InHeader frame layer bytes decisions planes left = subst (λ (s : Stage). HoldsAt s frame layer bytes decisions planes zp left) is holds in
     let moved : InHeader there layer bytes decisions planes left = record { layer_is = here.layer_is; left_is = here.left_is; placed = here.placed } in
     subst (λ (s : Stage). HoldsAt s there layer bytes decisions planes zp left) (sym is) moved

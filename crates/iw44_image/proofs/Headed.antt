@@ -21,7 +21,7 @@ use Rattle.iw44_image.specs.Header.{Opening, Opened, open_chunk}
 use Rattle.iw44_image.specs.Layer.{Task, Layer, LayerReading, tasks, task_reading, with_header, layer_after, after_slice, chunk_end, read_tasks, read_opened}
 use Rattle.iw44_image.specs.Starting.{HasArea}
 use Rattle.iw44_image.specs.Image.{Image, Frame, header_in, layer_in, planes_in, is_whole, reading_in, Begun, ArePlaced, InSlice, InRest, InHeader, AreNextAt}
-use Rattle.iw44_image.specs.Image.{HoldsAt}
+use Rattle.iw44_image.specs.Image.{frame_by, image_by, HoldsAt}
 use Rattle.iw44_image.specs.Keeping.{ArePlanesSound, IsInHeader, IsInSlice, IsAt, IsKept, first_stage}
 use Rattle.iw44_image.proofs.Beginning.{opened_alike, told_stays}
 use Rattle.iw44_image.proofs.Checking.{any_checked}
@@ -58,7 +58,7 @@ tasks_header from slices (next ∷ later) layer place =
 
 -- ---- before the first slice
 
-not_none : (n : ℕ) → (suc n == 0) ≡ false
+pub not_none : (n : ℕ) → (suc n == 0) ≡ false
 not_none n = grind (arith, common_steps)
 
 next_placed : (header : Header) (slice : ℕ) (planes : Option PlaneReaders) → AreNextAt header slice planes →
@@ -103,24 +103,24 @@ first_holds frame layer bytes left decisions (suc later) planes zp begun is slic
 -- ---- behind the header
 
 -- before a header no plane is there, and none moves
-opened_by : (limit : ℕ) (known : Option Header) (to_come : Option ℕ) (chunks slices decisions count : ℕ) (header : Header) (bytes rest : List ℕ) (planes : Option PlaneReaders) →
-    (table : List Row) (layer : Layer) (zp : Decoder) (rows : ℕ) →
-    layer ≡ layer_in (record { table = table; limit = limit; header = known; to_come = to_come; chunks = chunks; slices = slices }) planes decisions →
+opened_by : (limit : ℕ) (known : Option Header) (to_come : Option ℕ) (chunks slices decisions count : ℕ) (header : Header) (bytes rest : List ℕ)
+    (planes : Option PlaneReaders) (table : List Row) (layer : Layer) (zp : Decoder) (rows : ℕ) →
+    layer ≡ layer_in (frame_by table limit known to_come chunks slices) planes decisions →
     ((ended : Bool) → open_chunk limit chunks known bytes ended ≡ Opened header count rest) → ArePlanesSound rows known planes →
-    AreNextAt (header_in (record { table = table; limit = limit; header = known; to_come = to_come; chunks = chunks; slices = slices })) slices planes →
+    AreNextAt (header_in (frame_by table limit known to_come chunks slices)) slices planes →
     Fed [] None zp → zp.ended ≡ is_all rest (is_whole to_come) →
-    HoldsAt (first_stage count) (record { table = table; limit = limit; header = Some header; to_come = to_come; chunks = chunks; slices = slices })
+    HoldsAt (first_stage count) (frame_by table limit (Some header) to_come chunks slices)
     layer bytes decisions planes zp rest
 opened_by limit None to_come chunks slices decisions count header bytes rest (Some planes) table layer zp rows is opened sound next fed told = absurd sound
 opened_by limit None to_come chunks slices decisions count header bytes rest None table layer zp rows is opened sound next fed told =
-    let old : Frame = record { table = table; limit = limit; header = None; to_come = to_come; chunks = chunks; slices = slices } in
-    let frame : Frame = record { table = table; limit = limit; header = Some header; to_come = to_come; chunks = chunks; slices = slices } in
+    let old : Frame = frame_by table limit None to_come chunks slices in
+    let frame : Frame = frame_by table limit (Some header) to_come chunks slices in
     subst (λ (l : Layer). HoldsAt (first_stage count) frame l bytes decisions None zp rest) (sym is)
     (first_holds frame (layer_in old None decisions) bytes rest decisions count None zp (record { known = refl; opened = opened }) refl refl fed told next)
 opened_by limit (Some first) to_come chunks slices decisions count header bytes rest planes table layer zp rows is opened sound next fed told =
-    let frame : Frame = record { table = table; limit = limit; header = Some first; to_come = to_come; chunks = chunks; slices = slices } in
+    let frame : Frame = frame_by table limit (Some first) to_come chunks slices in
     let same : header ≡ first = told_stays limit chunks (Some first) first bytes true header count rest refl (opened true) in
-    subst (λ (h : Header). HoldsAt (first_stage count) (record { table = table; limit = limit; header = Some h; to_come = to_come; chunks = chunks; slices = slices })
+    subst (λ (h : Header). HoldsAt (first_stage count) (frame_by table limit (Some h) to_come chunks slices)
     layer bytes decisions planes zp rest) (sym same)
     (subst (λ (l : Layer). HoldsAt (first_stage count) frame l bytes decisions planes zp rest) (sym is)
     (first_holds frame (layer_in frame planes decisions) bytes rest decisions count planes zp
@@ -131,7 +131,7 @@ pub opened_holds : (old : Frame) (table : List Row) (header : Header) (layer : L
     InHeader old layer bytes decisions planes left → ArePlanesSound rows old.header planes →
     open_chunk old.limit old.chunks old.header left (is_whole old.to_come) ≡ Opened header count rest →
     Fed [] None zp → zp.ended ≡ is_all rest (is_whole old.to_come) →
-    HoldsAt (first_stage count) (record { table = table; limit = old.limit; header = Some header; to_come = old.to_come; chunks = old.chunks; slices = old.slices })
+    HoldsAt (first_stage count) (frame_by table old.limit (Some header) old.to_come old.chunks old.slices)
     layer bytes decisions planes zp rest
 opened_holds old table header layer bytes left rest decisions count rows planes zp here sound is fed told =
     opened_by old.limit old.header old.to_come old.chunks old.slices decisions count header bytes rest planes table layer zp rows here.layer_is
@@ -157,10 +157,10 @@ opened_header frame layer bytes left rest decisions count planes header here non
 first_at : (count : ℕ) (limit : ℕ) (header : Option Header) (to_come : Option ℕ) (planes : Option PlaneReaders) (zp : Decoder) (left : List ℕ)
     (chunks slices : ℕ) (now : Stage) →
     IsSome header → chunks ≤ 255 → slices ≤ 255 * chunks → zp.ended ≡ is_all left (is_whole to_come) →
-    IsAt (first_stage count) (record { limit = limit; header = header; to_come = to_come; planes = planes; zp = zp; left = left; chunks = chunks; slices = slices; stage = now })
+    IsAt (first_stage count) (image_by limit header to_come planes zp left chunks slices now)
 first_at zero limit header to_come planes zp left chunks slices now known few done told = record { known = known; chunks = few; slices = done }
 first_at (suc count) limit header to_come planes zp left chunks slices now known few done told =
-    let im : Image = record { limit = limit; header = header; to_come = to_come; planes = planes; zp = zp; left = left; chunks = chunks; slices = slices; stage = now } in
+    let im : Image = image_by limit header to_come planes zp left chunks slices now in
     let here : IsInSlice im Y 0 (suc count) = record { known = known; chunks = few; slices = done; some = omega arith; told = told; channel_fits = tt } in
     subst (λ (t : Bool). IsAt (if t then stage.Rest 0 else stage.Slice Y 0 (suc count)) im) (sym (not_none count)) here
 
@@ -184,14 +184,14 @@ still_open (Some left) running none = let wrong : Some left ≡ None = none in c
 pub first_kept : (old : Image) (header : Option Header) (planes : Option PlaneReaders) (zp : Decoder) (left : List ℕ) (count : ℕ) (now : Stage) →
     IsKept old → old.stage ≡ stage.Header → IsSome old.to_come → old.chunks ≤ 255 → IsSome header → zp.table ≡ old.zp.table →
     ArePlanesSound (length old.zp.table) header planes → zp.ended ≡ is_all left (is_whole old.to_come) → now ≡ first_stage count →
-    IsKept (record { limit = old.limit; header = header; to_come = old.to_come; planes = planes; zp = zp; left = left; chunks = old.chunks; slices = old.slices; stage = now })
+    IsKept (image_by old.limit header old.to_come planes zp left old.chunks old.slices now)
 first_kept old header planes zp left count now kept at running few known table sound told is =
     let before : IsInHeader old = subst (λ (s : Stage). IsAt s old) at kept.at in
     record {
       table = subst IsTable (sym table) kept.table;
       limit = kept.limit;
       planes = subst (λ (t : List Row). ArePlanesSound (length t) header planes) (sym table) sound;
-      at = subst (λ (s : Stage). IsAt s (record { limit = old.limit; header = header; to_come = old.to_come; planes = planes; zp = zp; left = left; chunks = old.chunks; slices = old.slices; stage = now }))
+      at = subst (λ (s : Stage). IsAt s (image_by old.limit header old.to_come planes zp left old.chunks old.slices now))
           (sym is) (first_at count old.limit header old.to_come planes zp left old.chunks old.slices now known few before.slices told);
       closed = λ none. absurd (still_open old.to_come running none);
     }

@@ -14,7 +14,8 @@ use Rattle.iw44_image.specs.Layer.{Layer, LayerReading, Done, Need, Fault, ends,
 use Rattle.iw44_image.specs.Image.{Image, frame_of, layer_of, is_whole, refused, reading_of, Holds, HoldsAt, TellsSize, Answers, Steps, TicksTo}
 use Rattle.iw44_image.specs.Keeping.{ArePlanesMade, HasStepped}
 
-pub ticks_joined : (first mid last before between after : ℕ) → TicksTo first mid before between → TicksTo mid last between after → TicksTo first last before after
+pub ticks_joined : (first mid last before between after : ℕ) → TicksTo first mid before between → TicksTo mid last between after →
+    TicksTo first last before after
 ticks_joined first mid last before between after one other =
     let all : mid - first + (last - mid) ≡ last - first = omega (arith, one.more, other.more) in
     record {

@@ -37,7 +37,8 @@ r_new header (Some chroma) new = coded_new header chroma.r new.1.1
 
 pub planes_new : (header : Header) (planes : PlaneReaders) → AreNew header planes → planes_of header planes ≡ new_planes header
 planes_new header planes new =
-    ap (λ (c : Coded). let p : Planes = record { y = c; b = coded_b header planes.chroma; r = coded_r header planes.chroma } in p) (coded_new header planes.y new.y)
+    ap (λ (c : Coded). let p : Planes = record { y = c; b = coded_b header planes.chroma; r = coded_r header planes.chroma } in p)
+    (coded_new header planes.y new.y)
     ∙ ap (λ (c : Coded). let p : Planes = record { y = new_coded header; b = c; r = coded_r header planes.chroma } in p) (b_new header planes.chroma new.chroma)
     ∙ ap (λ (c : Coded). let p : Planes = record { y = new_coded header; b = new_coded header; r = c } in p) (r_new header planes.chroma new.chroma)
 

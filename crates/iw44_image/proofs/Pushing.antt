@@ -16,15 +16,13 @@ use Rattle.iw44_image.specs.Header.{Opening, Opened, open_chunk}
 use Rattle.iw44_image.specs.Layer.{Layer, LayerReading, Answer, Fault, ends, any_size, data_of, read_chunk}
 use Rattle.iw44_image.specs.Growth.{OpenGrows}
 use Rattle.iw44_image.specs.Offering.{Fits}
-use Rattle.iw44_image.specs.Image.{Image, Frame, header_in, layer_in, is_whole, reading_in, Begun, InSlice, InRest, InHeader, HoldsAt}
+use Rattle.iw44_image.specs.Image.{Image, Frame, frame_by, image_by, header_in, layer_in, is_whole, reading_in, Begun, InSlice, InRest, InHeader, HoldsAt}
 use Rattle.iw44_image.specs.Keeping.{kept_at, IsAt, IsKept}
 use Rattle.iw44_image.proofs.Growing.{open_grows, chunk_refused}
+use Rattle.iw44_image.proofs.Giving.{frame_with}
+use Rattle.iw44_image.proofs.Headed.{not_none}
 
 -- a frame with so many bytes of the open chunk to come
-abbrev pub frame_with : Frame → Option ℕ → Frame
-frame_with frame to_come =
-    record { table = frame.table; limit = frame.limit; header = frame.header; to_come = to_come; chunks = frame.chunks; slices = frame.slices }
-
 begun_grows : (frame : Frame) (to_come : Option ℕ) (layer : Layer) (bytes piece zp : List ℕ) (count : ℕ) → Begun frame layer bytes count zp →
     Begun (frame_with frame to_come) layer (bytes ++ piece) count (zp ++ piece)
 begun_grows frame to_come layer bytes piece zp count begun = record {
@@ -38,9 +36,6 @@ begun_turned : (frame : Frame) (layer : Layer) (bytes taken left piece : List �
     Begun frame layer bytes count (taken ++ (left ++ piece))
 begun_turned frame layer bytes taken left piece count begun =
     subst (λ (p : List ℕ). Begun frame layer bytes count p) (append_assoc taken left piece) begun
-
-not_none : (n : ℕ) → (suc n == 0) ≡ false
-not_none n = grind (arith, common_steps)
 
 no_room : (piece : List ℕ) → length piece ≤ 0 → piece ≡ []
 no_room [] room = refl
@@ -89,13 +84,13 @@ rest_grows frame n layer bytes piece decisions planes zp count is room here = re
 
 refusal_stays : (table : List Row) (limit : ℕ) (header : Option Header) (chunks slices n : ℕ) (layer : Layer)
     (bytes piece : List ℕ) (after : Layer) (kind : FaultKind) → length piece ≤ n →
-    reading_in (record { table = table; limit = limit; header = header; to_come = Some n; chunks = chunks; slices = slices }) bytes layer ≡ ends (Fault kind) after →
-    reading_in (record { table = table; limit = limit; header = header; to_come = Some (n - length piece); chunks = chunks; slices = slices }) (bytes ++ piece) layer
+    reading_in (frame_by table limit header (Some n) chunks slices) bytes layer ≡ ends (Fault kind) after →
+    reading_in (frame_by table limit header (Some (n - length piece)) chunks slices) (bytes ++ piece) layer
     ≡ ends (Fault kind) after
 refusal_stays table limit header chunks slices zero layer bytes piece after kind room is =
     let none : piece ≡ [] = no_room piece room in
-    ap (λ (p : List ℕ). reading_in (record { table = table; limit = limit; header = header; to_come = Some (0 - length p); chunks = chunks; slices = slices }) (bytes ++ p) layer) none
-    ∙ ap (λ (b : List ℕ). reading_in (record { table = table; limit = limit; header = header; to_come = Some 0; chunks = chunks; slices = slices }) b layer) (append-nil bytes)
+    ap (λ (p : List ℕ). reading_in (frame_by table limit header (Some (0 - length p)) chunks slices) (bytes ++ p) layer) none
+    ∙ ap (λ (b : List ℕ). reading_in (frame_by table limit header (Some 0) chunks slices) b layer) (append-nil bytes)
     ∙ is
 refusal_stays table limit header chunks slices (suc n) layer bytes piece after kind room is =
     let first : read_chunk table (any_size limit) (data_of bytes false) layer ≡ ends (Fault kind) after =
@@ -110,7 +105,7 @@ more_told told [] (byte ∷ piece) zero room is = absurd (omega (arith, room))
 more_told told [] (byte ∷ piece) (suc n) room is = is ∙ not_none n
 
 abbrev pub more_of : Image → ℕ → List ℕ → List ℕ → Image
-more_of old n piece left = record { limit = old.limit; header = old.header; to_come = Some (n - length piece); planes = old.planes; zp = old.zp; left = left; chunks = old.chunks; slices = old.slices; stage = old.stage }
+more_of old n piece left = image_by old.limit old.header (Some (n - length piece)) old.planes old.zp left old.chunks old.slices old.stage
 
 more_at : (at : Stage) (old : Image) (n : ℕ) (piece : List ℕ) → old.to_come ≡ Some n → length piece ≤ n → IsAt at old →
     IsAt at (more_of old n piece (kept_at at old.left piece))

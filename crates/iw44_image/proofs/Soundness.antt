@@ -15,7 +15,7 @@ use Rattle.iw44_image.specs.declared.steps.Stage.{Stage}
 use Rattle.iw44_image.specs.declared.steps.Stage.TheVariants as stage
 use Rattle.iw44_image.specs.Layer.{has_chroma, header_or, plane_for}
 use Rattle.iw44_image.specs.Readers.{AreSoundChroma, AreSound, HasChroma, HasChannel, planes_of, coded_b, coded_r}
-use Rattle.iw44_image.specs.Image.{Image, header_of, is_whole}
+use Rattle.iw44_image.specs.Image.{Image, image_by, header_of, is_whole}
 use Rattle.iw44_image.specs.Keeping.{ArePlanesSound, ChannelFits, IsInSlice, IsAt, IsKept, stage_behind, next_stage}
 
 planes_sound : (rows : ℕ) (header : Option Header) (old new : PlaneReaders) → ArePlanesSound rows header (Some old) →
@@ -35,10 +35,10 @@ sound_in rows header h planes is sound = let s = subst (λ (o : Option Header). 
 
 pub kept_read : (limit : ℕ) (header : Option Header) (to_come : Option ℕ) (o : Option PlaneReaders) (old new : PlaneReaders) (zp next : Decoder)
     (left rest : List ℕ) (chunks slices : ℕ) (was now : Stage) →
-    IsKept (record { limit = limit; header = header; to_come = to_come; planes = o; zp = zp; left = left; chunks = chunks; slices = slices; stage = was }) → o ≡ Some old →
+    IsKept (image_by limit header to_come o zp left chunks slices was) → o ≡ Some old →
     next.table ≡ zp.table → ((h : Header) → AreSound (length zp.table) h old → AreSound (length zp.table) h new) →
-    IsAt now (record { limit = limit; header = header; to_come = to_come; planes = Some new; zp = next; left = rest; chunks = chunks; slices = slices; stage = now }) → IsSome to_come →
-    IsKept (record { limit = limit; header = header; to_come = to_come; planes = Some new; zp = next; left = rest; chunks = chunks; slices = slices; stage = now })
+    IsAt now (image_by limit header to_come (Some new) next rest chunks slices now) → IsSome to_come →
+    IsKept (image_by limit header to_come (Some new) next rest chunks slices now)
 kept_read limit header None o old new zp next left rest chunks slices was now kept is table keeps at running = absurd (let e : false ≡ true = running in cc)
 kept_read limit header (Some count) o old new zp next left rest chunks slices was now kept is table keeps at running = record {
   table = subst IsTable (sym table) kept.table;
@@ -52,9 +52,9 @@ kept_read limit header (Some count) o old new zp next left rest chunks slices wa
 -- in the same slice, with other bytes
 pub at_slice : (limit : ℕ) (header : Option Header) (to_come : Option ℕ) (old new : Option PlaneReaders) (zp next : Decoder) (left rest : List ℕ)
     (chunks slices : ℕ) (was now : Stage) (channel : Channel) (done count : ℕ) →
-    IsInSlice (record { limit = limit; header = header; to_come = to_come; planes = old; zp = zp; left = left; chunks = chunks; slices = slices; stage = was }) channel done count →
+    IsInSlice (image_by limit header to_come old zp left chunks slices was) channel done count →
     next.ended ≡ is_all rest (is_whole to_come) →
-    IsInSlice (record { limit = limit; header = header; to_come = to_come; planes = new; zp = next; left = rest; chunks = chunks; slices = slices; stage = now }) channel done count
+    IsInSlice (image_by limit header to_come new next rest chunks slices now) channel done count
 at_slice limit header to_come old new zp next left rest chunks slices was now channel done count here told = record {
   known = here.known;
   chunks = here.chunks;
@@ -98,10 +98,10 @@ has_channel rows header R slice planes sound channel_fits = chroma_there rows he
 -- behind a slice of a plane
 at_behind : (limit : ℕ) (header : Option Header) (to_come : Option ℕ) (old new : Option PlaneReaders) (zp next : Decoder) (left rest : List ℕ)
     (chunks slices : ℕ) (was now : Stage) (channel : Channel) (done count : ℕ) (more : Bool) →
-    IsInSlice (record { limit = limit; header = header; to_come = to_come; planes = old; zp = zp; left = left; chunks = chunks; slices = slices; stage = was }) channel done count →
+    IsInSlice (image_by limit header to_come old zp left chunks slices was) channel done count →
     next.ended ≡ is_all rest (is_whole to_come) → nat_lt (done + 1) count ≡ more →
     IsAt (if more then stage.Slice Y (done + 1) count else stage.Rest count)
-    (record { limit = limit; header = header; to_come = to_come; planes = new; zp = next; left = rest; chunks = chunks; slices = slices; stage = now })
+    (image_by limit header to_come new next rest chunks slices now)
 at_behind limit header to_come old new zp next left rest chunks slices was now channel done count true here told more = record {
   known = here.known;
   chunks = here.chunks;
@@ -118,9 +118,9 @@ at_behind limit header to_come old new zp next left rest chunks slices was now c
 
 pub at_next : (limit : ℕ) (header : Option Header) (to_come : Option ℕ) (old new : Option PlaneReaders) (zp next : Decoder) (left rest : List ℕ)
     (chunks slices : ℕ) (was now : Stage) (channel : Channel) (done count : ℕ) (chroma : Bool) →
-    IsInSlice (record { limit = limit; header = header; to_come = to_come; planes = old; zp = zp; left = left; chunks = chunks; slices = slices; stage = was }) channel done count →
+    IsInSlice (image_by limit header to_come old zp left chunks slices was) channel done count →
     next.ended ≡ is_all rest (is_whole to_come) → has_chroma (header_or header) (slices + done) ≡ chroma →
-    IsAt (next_stage chroma channel done count) (record { limit = limit; header = header; to_come = to_come; planes = new; zp = next; left = rest; chunks = chunks; slices = slices; stage = now })
+    IsAt (next_stage chroma channel done count) (image_by limit header to_come new next rest chunks slices now)
 at_next limit header to_come old new zp next left rest chunks slices was now Y done count true here told has = record {
   known = here.known;
   chunks = here.chunks;

@@ -57,7 +57,13 @@ layer_is : (frame : Frame) (channel : Channel) (slice decisions : ℕ) (taken : 
     HaveRead (header_in frame) channel slice reading taken old new after answer →
     layer_after (layer_in frame (Some old) decisions) channel reading ≡ layer_in frame (Some new) reading.at.decisions
 layer_is frame channel slice decisions taken old new after reading answer read =
-    ap (λ (p : Planes). let l : Layer = record { header = frame.header; planes = p; slices = frame.slices; chunks = frame.chunks; decisions = reading.at.decisions } in l) (sym read.planes)
+    ap (λ (p : Planes). let l : Layer = record {
+      header = frame.header;
+      planes = p;
+      slices = frame.slices;
+      chunks = frame.chunks;
+      decisions = reading.at.decisions;
+    } in l) (sym read.planes)
 
 told_fits : (told was : Bool) (more : List ℕ) (ended : Bool) → told ≡ was → Fits told more ended → Fits was more ended
 told_fits told was more ended e fits = λ is. fits (e ∙ is)

@@ -38,6 +38,10 @@ pub record Image : Type 0 where
   pub slices : ℕ
   pub stage : Stage
 
+abbrev pub image_by : ℕ → Option Header → Option ℕ → Option PlaneReaders → Decoder → List ℕ → ℕ → ℕ → Stage → Image
+image_by limit header to_come planes zp left chunks slices at =
+    record { limit = limit; header = header; to_come = to_come; planes = planes; zp = zp; left = left; chunks = chunks; slices = slices; stage = at }
+
 abbrev pub planes_in : Header → Option PlaneReaders → Planes
 planes_in header None = new_planes header
 planes_in header (Some planes) = planes_of header planes
@@ -51,8 +55,12 @@ pub record Frame : Type 0 where
   pub chunks : ℕ
   pub slices : ℕ
 
+abbrev pub frame_by : List Row → ℕ → Option Header → Option ℕ → ℕ → ℕ → Frame
+frame_by table limit header to_come chunks slices =
+    record { table = table; limit = limit; header = header; to_come = to_come; chunks = chunks; slices = slices }
+
 abbrev pub frame_of : Image → Frame
-frame_of image = record { table = image.zp.table; limit = image.limit; header = image.header; to_come = image.to_come; chunks = image.chunks; slices = image.slices }
+frame_of image = frame_by image.zp.table image.limit image.header image.to_come image.chunks image.slices
 
 abbrev pub header_in : Frame → Header
 header_in frame = header_or frame.header

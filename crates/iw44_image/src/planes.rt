@@ -110,7 +110,8 @@ impl PlaneReaders {
         requires channel { HasChannel channel self.old }
         ensures read { (header : Header) (slice decisions : ℕ) (course : Course) (payload : List ℕ) (place : Option Interval) →
             AreSound (length zp.old.table) header self.old → Placed header channel slice course self.old → Fed payload place zp.old →
-            HaveRead header channel slice (plane_reading header channel course decisions payload place zp.old self.old) payload self.old self.new zp.new result }
+            HaveRead header channel slice (plane_reading header channel course decisions payload place zp.old self.old) payload self.old self.new
+            zp.new result }
         ensures ticks { (header : Header) (slice decisions : ℕ) (course : Course) (payload : List ℕ) (place : Option Interval) →
             AreSound (length zp.old.table) header self.old → Placed header channel slice course self.old → Fed payload place zp.old →
             TicksExactly ((plane_reading header channel course decisions payload place zp.old self.old).at.decisions - decisions) (M.count meter.old)

@@ -25,4 +25,6 @@ pub returns-in_default-clause-serial : goal.returns-in_default-clause-serial
 returns-in_default-clause-serial c = c.missing.ensures.serial c.args.number
 
 pub returns-then-from-number-clause-serial : goal.returns-then-from-number-clause-serial
-returns-then-from-number-clause-serial c = let fits : c.args.number ≤ 255 = omega (arith, c.from.ensures, c.if-from-number.true, c.type_inv.bytes 0) in serial_fits c.args.number c.behind.result fits
+returns-then-from-number-clause-serial c =
+    let fits : c.args.number ≤ 255 = omega (arith, c.from.ensures, c.if-from-number.true, c.type_inv.bytes 0) in
+    serial_fits c.args.number c.behind.result fits

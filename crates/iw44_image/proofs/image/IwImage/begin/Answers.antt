@@ -7,7 +7,7 @@ use Rattle.iw44_image.specs.declared.steps.Stage.{Stage}
 use Rattle.iw44_image.specs.Starting.{HasArea}
 use Rattle.iw44_image.specs.Header.{Opened, open_chunk}
 use Rattle.iw44_image.specs.Layer.{Layer}
-use Rattle.iw44_image.specs.Image.{Image, Frame, Holds, HoldsAt, InHeader, frame_of, reading_of, is_whole}
+use Rattle.iw44_image.specs.Image.{Image, Frame, frame_by, Holds, HoldsAt, InHeader, frame_of, reading_of, is_whole}
 use Rattle.iw44_image.specs.Keeping.{first_stage}
 use Rattle.iw44_image.proofs.Beginning.{known_header}
 use Rattle.iw44_image.proofs.Headed.{first_kept, first_planes, no_header, opened_holds, opened_header}
@@ -40,7 +40,7 @@ returns-then-is_some-clause-steps c = λ layer bytes decisions holds.
     let opened : open_chunk im.limit im.chunks im.header im.left (is_whole im.to_come) ≡ Opened c.args.header c.args.slices c.skip.new.self =
     subst (λ (i : Image). open_chunk i.limit i.chunks i.header i.left (is_whole i.to_come) ≡ Opened c.args.header c.args.slices
     (drop c.args.size i.left)) (sym c.self.view_is) c.requires.opened ∙ ap (Opened c.args.header c.args.slices) (sym c.skip.ensures) in
-    let frame : Option Header → Frame = λ (h : Option Header). record { table = c.finish.new.zp.table; limit = im.limit; header = h; to_come = im.to_come; chunks = im.chunks; slices = im.slices } in
+    let frame : Option Header → Frame = λ (h : Option Header). frame_by c.finish.new.zp.table im.limit h im.to_come im.chunks im.slices in
     let there = opened_holds (frame_of im) c.finish.new.zp.table c.args.header layer bytes im.left c.skip.new.self decisions c.args.slices
     (length im.zp.table) im.planes c.finish.new.zp here c.self.invariant.planes opened (c.finish.ensures.fed [] None c.restart.ensures.fed) told in
     let known : IsSome im.header = sym c.is_some.ensures ∙ c.if-is_some.true in
@@ -61,8 +61,8 @@ invariant_of-self-2 c =
     subst (λ (i : Image). i.header ≡ None → HasArea i.limit c.args.header) (sym c.self.view_is) c.requires.area in
     let none : im.header ≡ None = no_header im.header (sym c.is_some.ensures ∙ c.if-is_some.false) in
     let planes = first_planes im c.args.header c.self.invariant area none in
-    first_kept im (Some c.args.header) im.planes c.finish.new.zp c.skip.new.self c.args.slices c.first_stage-self-inside.result c.self.invariant stage_is running few refl
-    (c.finish.ensures.table ∙ c.restart.ensures.table) planes.0 told c.first_stage-self-inside.ensures
+    first_kept im (Some c.args.header) im.planes c.finish.new.zp c.skip.new.self c.args.slices c.first_stage-self-inside.result c.self.invariant stage_is
+    running few refl (c.finish.ensures.table ∙ c.restart.ensures.table) planes.0 told c.first_stage-self-inside.ensures
 
 pub returns-clause-steps : goal.returns-clause-steps
 unfolding Holds
@@ -78,7 +78,7 @@ returns-clause-steps c = λ layer bytes decisions holds.
     let opened : open_chunk im.limit im.chunks im.header im.left (is_whole im.to_come) ≡ Opened c.args.header c.args.slices c.skip.new.self =
     subst (λ (i : Image). open_chunk i.limit i.chunks i.header i.left (is_whole i.to_come) ≡ Opened c.args.header c.args.slices
     (drop c.args.size i.left)) (sym c.self.view_is) c.requires.opened ∙ ap (Opened c.args.header c.args.slices) (sym c.skip.ensures) in
-    let frame : Option Header → Frame = λ (h : Option Header). record { table = c.finish.new.zp.table; limit = im.limit; header = h; to_come = im.to_come; chunks = im.chunks; slices = im.slices } in
+    let frame : Option Header → Frame = λ (h : Option Header). frame_by c.finish.new.zp.table im.limit h im.to_come im.chunks im.slices in
     let there = opened_holds (frame_of im) c.finish.new.zp.table c.args.header layer bytes im.left c.skip.new.self decisions c.args.slices
     (length im.zp.table) im.planes c.finish.new.zp here c.self.invariant.planes opened (c.finish.ensures.fed [] None c.restart.ensures.fed) told in
     let area : im.header ≡ None → HasArea im.limit c.args.header =

@@ -3,7 +3,7 @@ use Rattle.iw44_image.specs.contracts.image.IwImage.{the_view}
 use Rattle.iw44_image.specs.declared.steps.Stage.{Stage}
 use Rattle.iw44_image.specs.declared.steps.Stage.TheVariants as stage
 use Rattle.iw44_image.specs.Layer.{Layer, LayerReading, Done, ends, chunk_end}
-use Rattle.iw44_image.specs.Image.{Image, Holds, HoldsAt, InRest, AreNextAt, frame_of, header_of, planes_in, layer_of, reading_of}
+use Rattle.iw44_image.specs.Image.{Image, image_by, Holds, HoldsAt, InRest, AreNextAt, frame_of, header_of, planes_in, layer_of, reading_of}
 use Rattle.iw44_image.proofs.Giving.{rest_reads}
 use Rattle.iw44_image.proofs.image.IwImage.end_chunk.Goals as goal
 
@@ -22,7 +22,7 @@ pub returns-clause-steps : goal.returns-clause-steps
 unfolding Holds
 returns-clause-steps c = λ layer bytes decisions holds.
     let im : Image = the_view c.self.inside in
-    let new : Image = record { limit = im.limit; header = im.header; to_come = None; planes = im.planes; zp = im.zp; left = c.clear.new.self; chunks = im.chunks + 1; slices = im.slices + c.from.result; stage = stage.Header } in
+    let new : Image = image_by im.limit im.header None im.planes im.zp c.clear.new.self (im.chunks + 1) (im.slices + c.from.result) stage.Header in
     let stage_is = ap (λ (i : Image). i.stage) c.self.view_is ∙ c.requires.stage in
     let before = subst (λ (i : Image). Holds layer bytes decisions i) (sym c.self.view_is) holds in
     let rest : InRest (frame_of im) layer bytes decisions im.planes im.zp c.args.count =

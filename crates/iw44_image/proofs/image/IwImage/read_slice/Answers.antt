@@ -10,8 +10,8 @@ use Rattle.djvu_base.specs.declared.faults.FaultKind.TheVariants as fault
 use Rattle.zp_table.specs.declared.rows.Row.{Row}
 use Rattle.iw44_image.specs.declared.steps.Stage.TheVariants as stage
 use Rattle.iw44_image.specs.Layer.{ends, Need, Fault}
-use Rattle.iw44_image.specs.Image.{Image, Holds, Steps, TicksTo, reading_in, reading_of, layer_of, is_whole}
-use Rattle.iw44_image.proofs.Advancing.{Advance, advance_of, kept_moved, same_at, next_at, told_still, ended_holds, taken_holds, needs_reads, stops_reads}
+use Rattle.iw44_image.specs.Image.{Image, frame_by, image_by, Holds, Steps, TicksTo, reading_in, reading_of, layer_of, is_whole}
+use Rattle.iw44_image.proofs.Advancing.{Advance, moved_to, advance_of, kept_moved, same_at, next_at, told_still, ended_holds, taken_holds, needs_reads, stops_reads}
 use Rattle.iw44_image.proofs.Advancing.{all_came, wants, here, gave, ticks, reading}
 use Rattle.iw44_image.proofs.image.IwImage.read_slice.Goals as goal
 use Rattle.iw44_image.proofs.image.IwImage.read_slice.Goals.{then-offer, else-offer}
@@ -84,9 +84,9 @@ returns-in-Exhausted-clause-steps g c = λ layer bytes decisions holds.
     let more = ticks a layer bytes decisions before in
     let reads = stops_reads a layer bytes decisions before c.in-Exhausted.is (all_came a layer bytes decisions before c.in-Exhausted.is) in
     let now : ℕ = (reading a layer bytes decisions before).at.decisions in
-    let new : Image = record { limit = im.limit; header = im.header; to_come = im.to_come; planes = Some c.advance.new.self; zp = c.advance.new.zp; left = im.left; chunks = im.chunks; slices = im.slices; stage = stage.Refused fault.ZpExhausted } in
+    let new : Image = moved_to im c.advance.new.self c.advance.new.zp im.left (stage.Refused fault.ZpExhausted) in
     let held : Holds layer bytes now new = subst (λ (t : List Row). reading_in
-    (record { table = t; limit = im.limit; header = im.header; to_come = im.to_come; chunks = im.chunks; slices = im.slices }) bytes layer
+    (frame_by t im.limit im.header im.to_come im.chunks im.slices) bytes layer
     ≡ ends (Fault fault.ZpExhausted) (layer_of new now)) (sym c.advance.ensures.table) reads in
     (now, ((subst (λ (i : Image). reading_of i bytes layer ≡ ends (Fault fault.ZpExhausted) (layer_of new now)) c.self.view_is reads, held), more))
 
@@ -101,8 +101,9 @@ returns-after-offer-clause-steps g c = λ layer bytes decisions holds.
     let before = subst (λ (i : Image). Holds layer bytes decisions i) (sym c.self.view_is) holds in
     let whole = c.is_whole-whole.ensures ∙ ap (λ (i : Image). is_whole i.to_come) (sym c.self.view_is) in
     let more = ticks a layer bytes decisions before in
-    let there = taken_holds a layer bytes decisions before c.offer.new.zp c.offer.new.self c.in-NeedBytes.is c.offer.ensures.takes (c.offer.ensures.told ∙ ap (is_all c.offer.new.self) whole) in
-    let new : Image = record { limit = im.limit; header = im.header; to_come = im.to_come; planes = Some c.advance.new.self; zp = c.offer.new.zp; left = c.offer.new.self; chunks = im.chunks; slices = im.slices; stage = im.stage } in
+    let there = taken_holds a layer bytes decisions before c.offer.new.zp c.offer.new.self c.in-NeedBytes.is c.offer.ensures.takes
+    (c.offer.ensures.told ∙ ap (is_all c.offer.new.self) whole) in
+    let new : Image = moved_to im c.advance.new.self c.offer.new.zp c.offer.new.self im.stage in
     let now : ℕ = (reading a layer bytes decisions before).at.decisions in
     elim c.if-offer.branch [
       | then-offer w ↦ subst (λ (r : Option IwStep). (x : ℕ) × (Steps r layer bytes x c.args.self.now new × TicksTo decisions x
@@ -111,7 +112,8 @@ returns-after-offer-clause-steps g c = λ layer bytes decisions holds.
       | else-offer w ↦ subst (λ (r : Option IwStep). (x : ℕ) × (Steps r layer bytes x c.args.self.now new × TicksTo decisions x
           (g.M.Meter.count c.args.meter.now) (g.M.Meter.count c.advance.new.meter))) (sym w.result-is)
           (let none = c.offer.ensures.all w.if-offer.false
-          (here a layer bytes decisions before).taken _ (gave a layer bytes decisions before).read.fed (wants a layer bytes decisions before c.in-NeedBytes.is) in
+          (here a layer bytes decisions before).taken _ (gave a layer bytes decisions before).read.fed
+          (wants a layer bytes decisions before c.in-NeedBytes.is) in
           let reads = needs_reads a layer bytes decisions before c.in-NeedBytes.is none in
           (now, ((subst (λ (i : Image). reading_of i bytes layer ≡ ends Need (layer_of new now)) c.self.view_is reads, there), more)))
     ]

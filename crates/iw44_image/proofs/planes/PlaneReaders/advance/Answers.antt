@@ -29,12 +29,15 @@ returns-in-Some-clause-read g c = λ header slice decisions course payload place
     let chroma : ChromaReaders = record { b = c.advance-in-Some.new.self; r = c.in-Some.chroma.r } in
     let new : PlaneReaders = record { y = c.args.self.now.y; chroma = Some chroma } in
     subst (λ (channel : Channel). Placed header channel slice course c.args.self.now → HaveRead header channel slice
-    (plane_reading header channel course decisions payload place c.args.zp.now c.args.self.now) payload c.args.self.now new c.advance-in-Some.new.zp c.advance-in-Some.result)
+    (plane_reading header channel course decisions payload place c.args.zp.now c.args.self.now) payload c.args.self.now new
+    c.advance-in-Some.new.zp c.advance-in-Some.result)
     (sym c.in-B.is)
     (subst (λ (old : PlaneReaders). Placed header B slice course old → HaveRead header B slice
-    (plane_reading header B course decisions payload place c.args.zp.now old) payload old new c.advance-in-Some.new.zp c.advance-in-Some.result)
+    (plane_reading header B course decisions payload place c.args.zp.now old) payload old new
+    c.advance-in-Some.new.zp c.advance-in-Some.result)
     (sym (whole_is c.args.self.now c.in-Some.chroma c.in-Some.is))
-    (λ there. b_read header slice decisions course payload place c.args.zp.now c.advance-in-Some.new.zp c.args.self.now.y c.in-Some.chroma c.advance-in-Some.new.self c.advance-in-Some.result there
+    (λ there. b_read header slice decisions course payload place c.args.zp.now c.advance-in-Some.new.zp c.args.self.now.y c.in-Some.chroma
+    c.advance-in-Some.new.self c.advance-in-Some.result there
     (c.advance-in-Some.ensures.read (slice - header.delay) decisions course payload place there.1.0 fed)))
     placed
 
@@ -48,12 +51,15 @@ returns-in-Some-chroma-clause-read g c = λ header slice decisions course payloa
     let chroma : ChromaReaders = record { b = c.in-Some-chroma.chroma.b; r = c.advance-in-Some-chroma.new.self } in
     let new : PlaneReaders = record { y = c.args.self.now.y; chroma = Some chroma } in
     subst (λ (channel : Channel). Placed header channel slice course c.args.self.now → HaveRead header channel slice
-    (plane_reading header channel course decisions payload place c.args.zp.now c.args.self.now) payload c.args.self.now new c.advance-in-Some-chroma.new.zp c.advance-in-Some-chroma.result)
+    (plane_reading header channel course decisions payload place c.args.zp.now c.args.self.now) payload c.args.self.now new
+    c.advance-in-Some-chroma.new.zp c.advance-in-Some-chroma.result)
     (sym c.in-R.is)
     (subst (λ (old : PlaneReaders). Placed header R slice course old → HaveRead header R slice
-    (plane_reading header R course decisions payload place c.args.zp.now old) payload old new c.advance-in-Some-chroma.new.zp c.advance-in-Some-chroma.result)
+    (plane_reading header R course decisions payload place c.args.zp.now old) payload old new
+    c.advance-in-Some-chroma.new.zp c.advance-in-Some-chroma.result)
     (sym (whole_is c.args.self.now c.in-Some-chroma.chroma c.in-Some-chroma.is))
-    (λ there. r_read header slice decisions course payload place c.args.zp.now c.advance-in-Some-chroma.new.zp c.args.self.now.y c.in-Some-chroma.chroma c.advance-in-Some-chroma.new.self c.advance-in-Some-chroma.result there
+    (λ there. r_read header slice decisions course payload place c.args.zp.now c.advance-in-Some-chroma.new.zp c.args.self.now.y
+    c.in-Some-chroma.chroma c.advance-in-Some-chroma.new.self c.advance-in-Some-chroma.result there
     (c.advance-in-Some-chroma.ensures.read (slice - header.delay) decisions course payload place there.1.1 fed)))
     placed
 

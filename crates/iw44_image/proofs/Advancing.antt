@@ -1,13 +1,13 @@
 -- A step of an image within a slice.
-use Rattle.std.proofs.Common.{◌≡◌, ◌≢◌, ℕ, zero, suc, ◌+◌, ◌-◌, ◌<◌, ◌≤◌, Bool, true, false, List, [], ◌∷◌, ◌++◌, length, Option, Some, None}
-use Rattle.std.proofs.Common.{refl, ap, sym, ◌∙◌, subst, arith}
+use Rattle.std.proofs.Common.{◌≡◌, ◌≢◌, ℕ, ◌+◌, ◌-◌, ◌<◌, Bool, true, false, List, [], length, Option, Some}
+use Rattle.std.proofs.Common.{refl, ap, sym, ◌∙◌, subst}
 use Rattle.std.specs.Prelude.{IsSome}
 use Rattle.djvu_base.specs.Meter.{TicksExactly}
 use Rattle.djvu_base.specs.declared.faults.FaultKind.TheVariants as fault
 use Rattle.zp_table.specs.declared.rows.Row.{Row}
 use Rattle.zp_decoder.specs.declared.decoder.Decision.{Decision}
 use Rattle.zp_decoder.specs.declared.decoder.Decision.TheVariants as decision
-use Rattle.zp_decoder.specs.Chunk.{Chunk, chunk, IsReady}
+use Rattle.zp_decoder.specs.Chunk.{Chunk, chunk}
 use Rattle.zp_decoder.specs.Decision.{Interval}
 use Rattle.zp_decoder.specs.Decoder.{Decoder, Fed, is_all, bytes_wanted}
 use Rattle.zp_decoder.specs.Runs.{IsStanding}
@@ -24,9 +24,9 @@ use Rattle.iw44_image.specs.declared.planes.Channel.{Channel}
 use Rattle.iw44_image.specs.declared.planes.PlaneReaders.{PlaneReaders}
 use Rattle.iw44_image.specs.declared.steps.Stage.{Stage}
 use Rattle.iw44_image.specs.declared.steps.Stage.TheVariants as stage
-use Rattle.iw44_image.specs.Layer.{Layer, LayerReading, Need, Fault, ends, has_chroma, plane_for}
+use Rattle.iw44_image.specs.Layer.{Layer, Need, Fault, ends, has_chroma, plane_for}
 use Rattle.iw44_image.specs.Offering.{TakesMore}
-use Rattle.iw44_image.specs.Readers.{AreSound, planes_of, Placed, plane_reading, HaveRead}
+use Rattle.iw44_image.specs.Readers.{AreSound, planes_of, Placed, plane_reading}
 use Rattle.iw44_image.specs.Image.{Image, Frame, image_by, frame_by, frame_of, header_in, layer_in, is_whole, reading_in, InSlice, HoldsAt, TicksTo}
 use Rattle.iw44_image.specs.Keeping.{ArePlanesSound, IsInSlice, IsAt, IsKept, next_stage}
 use Rattle.iw44_image.proofs.Stepping.{Gave, slice_ended, slice_left, slice_needs, slice_stops, slice_takes, nothing_left}
@@ -83,7 +83,8 @@ pub record Advance (old : Image) (planes new : PlaneReaders) (next : Decoder) (a
 pub advance_of : {old view : Image} {planes new : PlaneReaders} {next : Decoder} {answer : SliceStep} {channel : Channel} {done count meter later : ℕ} →
     old ≡ view → IsKept old → view.stage ≡ stage.Slice channel done count → old.planes ≡ Some planes → IsSome view.to_come →
     ((payload : List ℕ) (place : Option Interval) → Fed payload place old.zp → IsStanding (length payload) place) →
-    Reads channel planes new old.zp next answer → Ticks channel planes old.zp meter later → ((h : Header) → AreSound (length old.zp.table) h planes → AreSound (length old.zp.table) h new) →
+    Reads channel planes new old.zp next answer → Ticks channel planes old.zp meter later →
+    ((h : Header) → AreSound (length old.zp.table) h planes → AreSound (length old.zp.table) h new) →
     next.table ≡ old.zp.table → next.ended ≡ old.zp.ended → Advance old planes new next answer channel done count meter later
 advance_of is kept at made running stands reads ticks sound table ended = record {
   kept = kept;

@@ -1,5 +1,5 @@
 -- The start of a chunk: what a test of the code says of the bytes.
-use Rattle.std.proofs.Common.{◌≡◌, ℕ, zero, suc, ◌+◌, ◌-◌, ◌*◌, ◌%◌, ◌<◌, ◌≤◌, Bool, true, false, ◌&&◌, nat_le, List, [], ◌∷◌, ◌++◌, length}
+use Rattle.std.proofs.Common.{◌≡◌, ℕ, zero, suc, ◌+◌, ◌-◌, ◌*◌, ◌%◌, ◌≤◌, Bool, true, false, ◌&&◌, nat_le, List, [], ◌∷◌, ◌++◌, length}
 use Rattle.std.proofs.Common.{get_or, take, drop, length-drop, Option, Some, None, refl, ap, sym, ◌∙◌, subst, arith}
 use Rattle.std.specs.Prelude.{if◌then◌else◌, ◌==◌, IsSome}
 use Rattle.std.proofs.Math.Seq.{drop-append-add, take-length}
@@ -8,7 +8,7 @@ use Rattle.djvu_base.specs.declared.faults.FaultKind.TheVariants as fault
 use Rattle.iw44_image.specs.declared.headers.Header.{Header}
 use Rattle.iw44_image.specs.declared.headers.Start.{Start}
 use Rattle.iw44_image.specs.declared.headers.Start.TheVariants as start
-use Rattle.iw44_image.specs.Header.{Opening, Short, Wrong, Opened, missing, after_sizes, read_sizes, read_version, read_rest, open_chunk, plain_header}
+use Rattle.iw44_image.specs.Header.{Opening, Short, Wrong, Opened, missing, after_sizes, read_sizes, read_version, read_rest, open_chunk}
 use Rattle.iw44_image.specs.Starting.{opening_in, IsInside, HasSerial}
 
 pub drop_behind : (before bytes : List ℕ) (n count : ℕ) → length before ≡ count → drop (n + count) (before ++ bytes) ≡ drop n bytes

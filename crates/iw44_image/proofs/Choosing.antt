@@ -1,24 +1,22 @@
 -- Where the reading of a chunk goes on behind a slice of a plane.
-use Rattle.std.proofs.Common.{◌≡◌, ℕ, zero, suc, ◌+◌, ◌-◌, ◌<◌, ◌≤◌, Bool, true, false, not, ◌&&◌, nat_le, nat_lt, List, [], ◌∷◌, ◌++◌, length}
+use Rattle.std.proofs.Common.{◌≡◌, ℕ, zero, suc, ◌+◌, ◌-◌, ◌<◌, ◌≤◌, Bool, true, false, nat_lt, List, [], ◌∷◌, ◌++◌}
 use Rattle.std.proofs.Common.{Option, Some, None, refl, ap, sym, ◌∙◌, subst, arith}
 use Rattle.std.specs.Prelude.{if◌then◌else◌}
 use Rattle.std.proofs.lemmas.Grind.{common_steps}
-use Rattle.std.proofs.lemmas.Bool.{cases_Bool}
 use Rattle.zp_decoder.specs.Chunk.{chunk}
 use Rattle.zp_decoder.specs.Decision.{Interval}
 use Rattle.zp_decoder.specs.Decoder.{Decoder, Fed, is_all}
-use Rattle.iw44_slices.specs.Slice.{Course, slice_course}
+use Rattle.iw44_slices.specs.Slice.{slice_course}
 use Rattle.iw44_image.specs.declared.headers.Header.{Header}
 use Rattle.iw44_image.specs.declared.planes.Channel.{Channel}
 use Rattle.iw44_image.specs.declared.planes.Channel.TheVariants.{Y, B, R}
 use Rattle.iw44_image.specs.declared.planes.ChromaReaders.{ChromaReaders}
 use Rattle.iw44_image.specs.declared.planes.PlaneReaders.{PlaneReaders}
-use Rattle.iw44_image.specs.declared.steps.Stage.{Stage}
 use Rattle.iw44_image.specs.declared.steps.Stage.TheVariants as stage
-use Rattle.iw44_image.specs.Layer.{Task, task, tasks, Layer, LayerReading, plane_for, has_chroma, chroma_tasks, read_tasks}
+use Rattle.iw44_image.specs.Layer.{Task, task, tasks, Layer, has_chroma, read_tasks}
 use Rattle.iw44_image.specs.Offering.{Fits}
-use Rattle.iw44_image.specs.Readers.{AreSoundChroma, AreNext, IsNext, StandsB, StandsR, Placed, Past, coded_b, coded_r}
-use Rattle.iw44_image.specs.Image.{Frame, header_in, layer_in, is_whole, later_tasks, read_slices, Begun, InSlice, InRest, AreNextAt, HoldsAt}
+use Rattle.iw44_image.specs.Readers.{AreSoundChroma, AreNext, StandsB, StandsR, Placed, coded_b, coded_r}
+use Rattle.iw44_image.specs.Image.{Frame, header_in, layer_in, is_whole, later_tasks, read_slices, Begun, InSlice, InRest, HoldsAt}
 use Rattle.iw44_image.specs.Keeping.{ChannelFits, stage_behind, next_stage}
 use Rattle.iw44_image.proofs.Stepping.{Ended}
 

@@ -1,7 +1,6 @@
 -- A chunk of which all data are there.
 use Rattle.std.proofs.Common.{◌≡◌, ℕ, zero, suc, ◌+◌, ◌*◌, ◌%◌, Bool, true, false, ◌&&◌, ◌||◌, List, [], ◌∷◌, Option, Some, None, refl, ap, sym, ◌∙◌, nat_lt, nat_le}
 use Rattle.std.specs.Prelude.{if◌then◌else◌, ◌==◌, ⊤}
-use Rattle.djvu_base.specs.declared.faults.FaultKind.{FaultKind}
 use Rattle.zp_table.specs.declared.rows.Row.{Row}
 use Rattle.zp_decoder.specs.declared.decoder.Decision.{Decision}
 use Rattle.zp_decoder.specs.declared.decoder.Decision.TheVariants as decision

@@ -1,9 +1,7 @@
 -- What a plane's reader gives to the reading of a chunk.
-use Rattle.std.proofs.Common.{◌≡◌, ℕ, zero, suc, ◌+◌, ◌-◌, ◌<◌, ◌≤◌, Bool, true, false, List, [], ◌++◌, length, Option, Some, None, refl, ap, sym}
-use Rattle.std.proofs.Common.{◌∙◌, subst, arith}
+use Rattle.std.proofs.Common.{◌≡◌, ℕ, ◌≤◌, List, ◌++◌, length, Option, Some, refl, sym}
+use Rattle.std.proofs.Common.{◌∙◌, subst}
 use Rattle.std.specs.Prelude.{IsSome}
-use Rattle.std.proofs.lemmas.Grind.{common_steps}
-use Rattle.djvu_base.specs.Meter.{TicksExactly}
 use Rattle.zp_table.specs.declared.rows.Row.{Row}
 use Rattle.zp_table.specs.Rows.{IsTable}
 use Rattle.zp_decoder.specs.Chunk.{chunk, IsReady}
@@ -11,7 +9,7 @@ use Rattle.zp_decoder.specs.Decision.{Interval}
 use Rattle.zp_decoder.specs.Decoder.{Decoder, Fed}
 use Rattle.zp_decoder.specs.Runs.{IsStanding}
 use Rattle.iw44_slices.specs.Slice.{Course}
-use Rattle.iw44_slices.specs.Reading.{Reading, standing}
+use Rattle.iw44_slices.specs.Reading.{standing}
 use Rattle.iw44_slices.specs.declared.steps.SliceStep.{SliceStep}
 use Rattle.iw44_slices.proofs.Lemmas.{leaves_room}
 use Rattle.iw44_image.specs.declared.headers.Header.{Header}
@@ -19,9 +17,9 @@ use Rattle.iw44_image.specs.declared.planes.Channel.{Channel}
 use Rattle.iw44_image.specs.declared.planes.PlaneReaders.{PlaneReaders}
 use Rattle.iw44_image.specs.declared.steps.Stage.{Stage}
 use Rattle.iw44_image.specs.declared.steps.Stage.TheVariants as stage
-use Rattle.iw44_image.specs.Layer.{Layer, LayerReading, Done, Need, ends, chunk_end, plane_for}
+use Rattle.iw44_image.specs.Layer.{Layer, chunk_end, plane_for}
 use Rattle.iw44_image.specs.Readers.{AreSound, planes_of, Placed, plane_reading, HaveRead}
-use Rattle.iw44_image.specs.Image.{Image, Frame, frame_by, header_in, layer_in, is_whole, reading_in, InSlice, InRest, InHeader, HoldsAt, TicksTo}
+use Rattle.iw44_image.specs.Image.{Image, Frame, frame_by, header_in, layer_in, is_whole, reading_in, InSlice, InRest, InHeader, HoldsAt}
 use Rattle.iw44_image.specs.Keeping.{ArePlanesSound, IsInRest, IsAt, IsKept}
 use Rattle.iw44_image.proofs.Growing.{table_some}
 use Rattle.iw44_image.proofs.Soundness.{sound_in, states_below}
@@ -84,6 +82,7 @@ rest_reads frame layer bytes decisions planes zp count here =
 
 -- ---- before a chunk
 
+-- with so many bytes of the open chunk to come
 abbrev pub frame_with : Frame → Option ℕ → Frame
 frame_with frame to_come = frame_by frame.table frame.limit frame.header to_come frame.chunks frame.slices
 

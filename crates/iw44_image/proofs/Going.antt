@@ -1,25 +1,22 @@
 -- How the reading of a chunk goes on, whatever bytes may follow.
-use Rattle.std.proofs.Common.{◌≡◌, ◌≢◌, ℕ, zero, suc, ◌+◌, ◌-◌, ◌*◌, ◌<◌, ◌≤◌, Bool, true, false, nat_le, List, [], ◌∷◌, ◌++◌, length, Option}
-use Rattle.std.proofs.Common.{Some, None, refl, ap, sym, ◌∙◌, subst, arith, append_assoc}
+use Rattle.std.proofs.Common.{◌≡◌, ℕ, Bool, true, false, List, [], ◌++◌, Option}
+use Rattle.std.proofs.Common.{refl, ap, sym, ◌∙◌, subst}
 use Rattle.std.proofs.lemmas.List.{append-nil}
-use Rattle.djvu_base.specs.declared.faults.FaultKind.{FaultKind}
 use Rattle.djvu_base.specs.declared.faults.FaultKind.TheVariants as fault
 use Rattle.zp_table.specs.declared.rows.Row.{Row}
 use Rattle.zp_decoder.specs.declared.decoder.Decision.{Decision}
 use Rattle.zp_decoder.specs.declared.decoder.Decision.TheVariants as decision
 use Rattle.zp_decoder.specs.Chunk.{Chunk, chunk, IsReady}
 use Rattle.zp_decoder.specs.Decision.{Interval}
-use Rattle.zp_decoder.specs.Decoder.{Decoder, Fed, is_all}
 use Rattle.iw44_blocks.specs.Plane.{Plane}
-use Rattle.iw44_slices.specs.Slice.{Course, Ended, Asks, Asked, slice_course}
+use Rattle.iw44_slices.specs.Slice.{Course, Ended, Asks, Asked}
 use Rattle.iw44_slices.specs.Reading.{Reading, At, standing, after_decision, outcome_at, moved, read_on}
 use Rattle.iw44_slices.specs.declared.steps.SliceStep.{SliceStep}
 use Rattle.iw44_slices.specs.declared.steps.SliceStep.TheVariants as step
-use Rattle.iw44_slices.proofs.Lemmas.{cut_anywhere, whole_stays, never_exhausted}
-use Rattle.iw44_image.specs.declared.headers.Header.{Header}
+use Rattle.iw44_slices.proofs.Lemmas.{cut_anywhere, whole_stays}
 use Rattle.iw44_image.specs.declared.planes.Channel.{Channel}
 use Rattle.iw44_image.specs.declared.planes.Channel.TheVariants.{Y, B, R}
-use Rattle.iw44_image.specs.Layer.{Task, Layer, LayerReading, Answer, Done, Need, Fault, ends, plane_for, layer_after, course_reading, after_slice, read_tasks}
+use Rattle.iw44_image.specs.Layer.{Task, Layer, LayerReading, Need, Fault, ends, plane_for, layer_after, course_reading, after_slice, read_tasks}
 use Rattle.iw44_image.specs.Offering.{Fits}
 use Rattle.iw44_image.specs.Image.{read_from}
 

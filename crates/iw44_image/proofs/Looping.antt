@@ -1,17 +1,16 @@
 -- Steps of an image, one after the other.
-use Rattle.std.proofs.Common.{◌≡◌, ℕ, ◌+◌, ◌-◌, ◌≤◌, true, false, List, [], Option, Some, None, refl, ap, sym, ◌∙◌, subst, arith}
+use Rattle.std.proofs.Common.{◌≡◌, ℕ, ◌+◌, ◌-◌, true, false, List, Option, Some, None, refl, ap, sym, ◌∙◌, subst, arith}
 use Rattle.std.specs.Prelude.{Result, Ok, Err, is_err, OnOk}
 use Rattle.djvu_base.specs.Meter.{TicksExactly}
 use Rattle.djvu_base.specs.declared.faults.FaultKind.{FaultKind}
 use Rattle.djvu_base.proofs.Ticks.{ticks_both, ticks_none}
 use Rattle.zp_table.specs.declared.rows.Row.{Row}
-use Rattle.iw44_image.specs.declared.headers.Header.{Header}
 use Rattle.iw44_image.specs.declared.steps.IwStep.{IwStep}
 use Rattle.iw44_image.specs.declared.steps.IwStep.TheVariants as step
 use Rattle.iw44_image.specs.declared.steps.Stage.{Stage}
 use Rattle.iw44_image.specs.declared.steps.Stage.TheVariants as stage
-use Rattle.iw44_image.specs.Layer.{Layer, LayerReading, Done, Need, Fault, ends, any_size, data_of, read_chunk}
-use Rattle.iw44_image.specs.Image.{Image, frame_of, layer_of, is_whole, refused, reading_of, Holds, HoldsAt, TellsSize, Answers, Steps, TicksTo}
+use Rattle.iw44_image.specs.Layer.{Layer, LayerReading, Fault, ends, any_size, data_of, read_chunk}
+use Rattle.iw44_image.specs.Image.{Image, frame_of, layer_of, is_whole, refused, reading_of, Holds, HoldsAt, Answers, Steps, TicksTo}
 use Rattle.iw44_image.specs.Keeping.{ArePlanesMade, HasStepped}
 
 pub ticks_joined : (first mid last before between after : ℕ) → TicksTo first mid before between → TicksTo mid last between after →
@@ -107,9 +106,13 @@ pub goes_to : (result : Option IwStep) (answer : IwStep) (old mid new : Image) (
     (now : ℕ) × (Answers answer layer bytes now old new × TicksTo decisions now before after)
 goes_to result answer old mid new before between after some goes is layer bytes decisions holds =
     let here = goes.holds layer bytes decisions holds in
-    let there = subst (λ (r : Option IwStep). IsStep r mid new between after) some is layer bytes here.0 here.1.0 in
-    (there.0, (answers_from answer layer bytes there.0 old mid new goes.alike there.1.0,
-    ticks_joined decisions here.0 there.0 before between after here.1.1 there.1.1))
+    let there = subst (λ (r : Option IwStep). IsStep r mid new between after) some is layer bytes here.0 here.1.0 in (
+      there.0,
+      (
+        answers_from answer layer bytes there.0 old mid new goes.alike there.1.0,
+        ticks_joined decisions here.0 there.0 before between after here.1.1 there.1.1,
+      ),
+    )
 
 -- a refusal that stands, and planes for which there is no memory
 pub refused_answer : (old : Image) (kind : FaultKind) (layer : Layer) (bytes : List ℕ) (decisions count : ℕ) → old.stage ≡ stage.Refused kind →

@@ -1,15 +1,12 @@
 -- An image whose planes are made.
-use Rattle.std.proofs.Common.{◌≡◌, ℕ, ◌+◌, ◌-◌, ◌^◌, Bool, true, false, List, [], length, Option, Some, None, refl, ap, sym, ◌∙◌, subst, arith, ◌++◌}
+use Rattle.std.proofs.Common.{◌≡◌, ℕ, ◌+◌, ◌-◌, Bool, true, false, List, Option, Some, None, refl, ap, sym, ◌∙◌, subst, arith, ◌++◌}
 use Rattle.std.specs.Prelude.{is_some, not}
-use Rattle.zp_table.specs.declared.rows.Row.{Row}
-use Rattle.zp_table.specs.Rows.{IsTable}
 use Rattle.zp_decoder.specs.Chunk.{chunk}
 use Rattle.zp_decoder.specs.Decoder.{Decoder}
 use Rattle.iw44_blocks.specs.Plane.{Plane, zero_plane}
 use Rattle.iw44_slices.specs.Slice.{Course, slice_course}
 use Rattle.iw44_slices.specs.Reading.{States}
 use Rattle.iw44_slices.specs.Reader.{Stands, states_of}
-use Rattle.djvu_base.specs.declared.faults.FaultKind.{FaultKind}
 use Rattle.iw44_image.specs.declared.headers.Header.{Header}
 use Rattle.iw44_image.specs.declared.planes.Channel.{Channel}
 use Rattle.iw44_image.specs.declared.planes.Channel.TheVariants.{Y}
@@ -18,9 +15,9 @@ use Rattle.iw44_image.specs.declared.planes.ChromaReaders.{ChromaReaders}
 use Rattle.iw44_image.specs.declared.planes.PlaneReaders.{PlaneReaders}
 use Rattle.iw44_image.specs.declared.steps.Stage.{Stage}
 use Rattle.iw44_image.specs.declared.steps.Stage.TheVariants as stage
-use Rattle.iw44_image.specs.Layer.{Coded, Planes, Layer, LayerReading, Fault, ends, new_coded, new_planes, tasks, chunk_end}
+use Rattle.iw44_image.specs.Layer.{Coded, Planes, Layer, Fault, ends, new_coded, new_planes, tasks, chunk_end}
 use Rattle.iw44_image.specs.Readers.{IsNew, AreNewChroma, AreNew, coded_of, coded_b, coded_r, planes_of, IsNext, AreNext, Placed}
-use Rattle.iw44_image.specs.Image.{Frame, header_in, layer_in, reading_in, read_from, later_tasks, ArePlaced, InSlice, InRest, InHeader, AreNextAt, HoldsAt}
+use Rattle.iw44_image.specs.Image.{Frame, header_in, layer_in, read_from, later_tasks, ArePlaced, InSlice, InRest, AreNextAt, HoldsAt}
 
 coded_new : (header : Header) (plane : PlaneReader) → IsNew header plane → coded_of plane ≡ new_coded header
 coded_new header plane new =

@@ -1,15 +1,13 @@
 -- A slice of a plane, among the planes of an image.
-use Rattle.std.proofs.Common.{◌≡◌, ℕ, ◌+◌, ◌-◌, true, List, Option, Some, None, refl, ap, sym, ◌∙◌, subst}
-use Rattle.zp_decoder.specs.Chunk.{chunk}
+use Rattle.std.proofs.Common.{◌≡◌, ℕ, ◌-◌, true, List, Option, Some, None, refl, ap, ◌∙◌, subst}
 use Rattle.zp_decoder.specs.Decision.{Interval}
-use Rattle.zp_decoder.specs.Decoder.{Decoder, Fed}
+use Rattle.zp_decoder.specs.Decoder.{Decoder}
 use Rattle.iw44_blocks.specs.Plane.{Plane}
 use Rattle.iw44_slices.specs.Slice.{Course}
-use Rattle.iw44_slices.specs.Reading.{States, Reading, standing, read_on}
+use Rattle.iw44_slices.specs.Reading.{States, Reading}
 use Rattle.iw44_slices.specs.Reader.{states_of, reading_from}
 use Rattle.iw44_slices.specs.declared.steps.SliceStep.{SliceStep}
 use Rattle.iw44_image.specs.declared.headers.Header.{Header}
-use Rattle.iw44_image.specs.declared.planes.Channel.{Channel}
 use Rattle.iw44_image.specs.declared.planes.Channel.TheVariants.{Y, B, R}
 use Rattle.iw44_image.specs.declared.planes.PlaneReader.{PlaneReader}
 use Rattle.iw44_image.specs.declared.planes.ChromaReaders.{ChromaReaders}
@@ -17,7 +15,7 @@ use Rattle.iw44_image.specs.declared.planes.PlaneReaders.{PlaneReaders}
 use Rattle.iw44_image.specs.Layer.{Coded, Planes, coded_after}
 use Rattle.iw44_image.specs.Samples.{components_of}
 use Rattle.iw44_image.specs.Rasters.{IsOfSize, HaveSize}
-use Rattle.iw44_image.specs.Readers.{IsSound, HasRead, AreSoundChroma, AreSound, coded_of, coded_b, coded_r, planes_of, Placed, plane_reading, HaveRead}
+use Rattle.iw44_image.specs.Readers.{HasRead, AreSoundChroma, AreSound, coded_of, coded_b, coded_r, planes_of, Placed, plane_reading, HaveRead}
 
 coded_is : (slice : ℕ) (reading : Reading) (payload : List ℕ) (plane : PlaneReader) (zp : Decoder) (answer : SliceStep) →
     HasRead slice reading payload plane zp answer →

@@ -1,9 +1,8 @@
 -- An image with more bytes of its open chunk.
-use Rattle.std.proofs.Common.{◌≡◌, ℕ, zero, suc, ◌+◌, ◌-◌, ◌<◌, ◌≤◌, Bool, true, false, List, [], ◌∷◌, ◌++◌, length, Option, Some, None}
+use Rattle.std.proofs.Common.{◌≡◌, ℕ, zero, suc, ◌-◌, ◌≤◌, Bool, true, false, List, [], ◌∷◌, ◌++◌, length, Option, Some, None}
 use Rattle.std.proofs.Common.{refl, ap, sym, ◌∙◌, subst, arith, append_assoc}
 use Rattle.std.specs.Prelude.{◌==◌}
 use Rattle.std.proofs.lemmas.List.{append-nil}
-use Rattle.std.proofs.lemmas.Grind.{common_steps}
 use Rattle.djvu_base.specs.declared.faults.FaultKind.{FaultKind}
 use Rattle.zp_table.specs.declared.rows.Row.{Row}
 use Rattle.zp_decoder.specs.Decoder.{Decoder, is_all}
@@ -12,17 +11,16 @@ use Rattle.iw44_image.specs.declared.planes.PlaneReaders.{PlaneReaders}
 use Rattle.iw44_image.specs.declared.steps.Stage.{Stage}
 use Rattle.iw44_image.specs.declared.steps.Stage.TheVariants as stage
 use Rattle.iw44_image.specs.declared.headers.Header.{Header}
-use Rattle.iw44_image.specs.Header.{Opening, Opened, open_chunk}
-use Rattle.iw44_image.specs.Layer.{Layer, LayerReading, Answer, Fault, ends, any_size, data_of, read_chunk}
+use Rattle.iw44_image.specs.Header.{Opening, open_chunk}
+use Rattle.iw44_image.specs.Layer.{Layer, LayerReading, Fault, ends, any_size, data_of, read_chunk}
 use Rattle.iw44_image.specs.Growth.{OpenGrows}
 use Rattle.iw44_image.specs.Offering.{Fits}
-use Rattle.iw44_image.specs.Image.{Image, Frame, frame_by, image_by, header_in, layer_in, is_whole, reading_in, Begun, InSlice, InRest, InHeader, HoldsAt}
+use Rattle.iw44_image.specs.Image.{Image, Frame, frame_by, image_by, layer_in, is_whole, reading_in, Begun, InSlice, InRest, HoldsAt}
 use Rattle.iw44_image.specs.Keeping.{kept_at, IsAt, IsKept}
 use Rattle.iw44_image.proofs.Growing.{open_grows, chunk_refused}
 use Rattle.iw44_image.proofs.Giving.{frame_with}
 use Rattle.iw44_image.proofs.Headed.{not_none}
 
--- a frame with so many bytes of the open chunk to come
 begun_grows : (frame : Frame) (to_come : Option ℕ) (layer : Layer) (bytes piece zp : List ℕ) (count : ℕ) → Begun frame layer bytes count zp →
     Begun (frame_with frame to_come) layer (bytes ++ piece) count (zp ++ piece)
 begun_grows frame to_come layer bytes piece zp count begun = record {

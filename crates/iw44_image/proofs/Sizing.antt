@@ -1,12 +1,11 @@
 -- The size that the reading of a chunk has told.
 use Rattle.std.proofs.Common.{◌≡◌, ℕ, Bool, true, false, List, Option, Some, None, refl, ap, sym, ◌∙◌, subst}
-use Rattle.djvu_base.specs.declared.faults.FaultKind.{FaultKind}
 use Rattle.djvu_base.specs.declared.faults.FaultKind.TheVariants as fault
 use Rattle.zp_table.specs.declared.rows.Row.{Row}
 use Rattle.zp_decoder.specs.Chunk.{chunk}
 use Rattle.iw44_image.specs.declared.headers.Header.{Header}
 use Rattle.iw44_image.specs.Header.{Opening, Short, Wrong, Opened}
-use Rattle.iw44_image.specs.Layer.{Allowed, Data, any_size, opening_of, Layer, LayerReading, Fault, ends, tasks, with_header, read_opened, read_chunk}
+use Rattle.iw44_image.specs.Layer.{Allowed, Data, any_size, opening_of, Layer, Fault, ends, tasks, with_header, read_opened, read_chunk}
 use Rattle.iw44_image.proofs.Checking.{refused_first, taken_first, short_same, wrong_same}
 use Rattle.iw44_image.proofs.Headed.{tasks_header}
 

@@ -1,5 +1,5 @@
 -- What stays true of an image while slices are read.
-use Rattle.std.proofs.Common.{◌≡◌, ℕ, ◌+◌, ◌-◌, ◌*◌, ◌<◌, ◌≤◌, Bool, true, false, nat_lt, List, length, Option, Some, None, refl, ap, sym, ◌∙◌, subst, arith}
+use Rattle.std.proofs.Common.{◌≡◌, ℕ, ◌+◌, ◌<◌, Bool, true, false, nat_lt, List, length, Option, Some, None, refl, sym, subst, arith}
 use Rattle.std.specs.Prelude.{IsSome, if◌then◌else◌}
 use Rattle.std.proofs.lemmas.Grind.{common_steps}
 use Rattle.zp_table.specs.declared.rows.Row.{Row}
@@ -15,8 +15,8 @@ use Rattle.iw44_image.specs.declared.steps.Stage.{Stage}
 use Rattle.iw44_image.specs.declared.steps.Stage.TheVariants as stage
 use Rattle.iw44_image.specs.Layer.{has_chroma, header_or, plane_for}
 use Rattle.iw44_image.specs.Readers.{AreSoundChroma, AreSound, HasChroma, HasChannel, planes_of, coded_b, coded_r}
-use Rattle.iw44_image.specs.Image.{Image, image_by, header_of, is_whole}
-use Rattle.iw44_image.specs.Keeping.{ArePlanesSound, ChannelFits, IsInSlice, IsAt, IsKept, stage_behind, next_stage}
+use Rattle.iw44_image.specs.Image.{image_by, is_whole}
+use Rattle.iw44_image.specs.Keeping.{ArePlanesSound, ChannelFits, IsInSlice, IsAt, IsKept, next_stage}
 
 planes_sound : (rows : ℕ) (header : Option Header) (old new : PlaneReaders) → ArePlanesSound rows header (Some old) →
     ((h : Header) → AreSound rows h old → AreSound rows h new) →

@@ -1,35 +1,24 @@
 -- Steps of an image through the slices of a chunk.
-use Rattle.std.proofs.Common.{◌≡◌, ◌≢◌, ℕ, zero, suc, ◌+◌, ◌-◌, ◌*◌, ◌<◌, ◌≤◌, Bool, true, false, not, ◌&&◌, nat_le, nat_lt, List, [], ◌∷◌, ◌++◌}
-use Rattle.std.proofs.Common.{length, Option, Some, None, refl, ap, sym, ◌∙◌, subst, arith, append_assoc}
-use Rattle.std.specs.Prelude.{if◌then◌else◌}
+use Rattle.std.proofs.Common.{◌≡◌, ◌≢◌, ℕ, ◌+◌, Bool, true, List, [], ◌∷◌, ◌++◌}
+use Rattle.std.proofs.Common.{Option, Some, refl, ap, sym, ◌∙◌, append_assoc}
 use Rattle.std.proofs.lemmas.List.{append-nil}
-use Rattle.std.proofs.lemmas.Grind.{common_steps}
-use Rattle.std.proofs.lemmas.Bool.{cases_Bool}
-use Rattle.djvu_base.specs.declared.faults.FaultKind.{FaultKind}
 use Rattle.djvu_base.specs.declared.faults.FaultKind.TheVariants as fault
 use Rattle.zp_table.specs.declared.rows.Row.{Row}
-use Rattle.zp_decoder.specs.Chunk.{Chunk, chunk, IsReady}
+use Rattle.zp_decoder.specs.Chunk.{chunk, IsReady}
 use Rattle.zp_decoder.specs.Decision.{Interval}
 use Rattle.zp_decoder.specs.Decoder.{Decoder, Fed, is_all}
-use Rattle.iw44_slices.specs.Slice.{Course, slice_course}
+use Rattle.iw44_slices.specs.Slice.{Course}
 use Rattle.iw44_slices.specs.Reading.{Reading}
 use Rattle.iw44_slices.specs.declared.steps.SliceStep.{SliceStep}
 use Rattle.iw44_slices.specs.declared.steps.SliceStep.TheVariants as step
-use Rattle.iw44_image.specs.declared.headers.Header.{Header}
 use Rattle.iw44_image.specs.declared.planes.Channel.{Channel}
-use Rattle.iw44_image.specs.declared.planes.Channel.TheVariants.{Y, B, R}
-use Rattle.iw44_image.specs.declared.planes.ChromaReaders.{ChromaReaders}
 use Rattle.iw44_image.specs.declared.planes.PlaneReaders.{PlaneReaders}
-use Rattle.iw44_image.specs.declared.steps.Stage.{Stage}
-use Rattle.iw44_image.specs.declared.steps.Stage.TheVariants as stage
 use Rattle.iw44_image.specs.Header.{Opening, Opened, open_chunk}
-use Rattle.iw44_image.specs.Layer.{Task, task, tasks, course_reading, Layer, Planes, LayerReading, Done, Need, Fault, ends, plane_for, with_plane}
-use Rattle.iw44_image.specs.Layer.{coded_after, layer_after, has_chroma, chroma_tasks, chunk_end, read_tasks, read_opened}
+use Rattle.iw44_image.specs.Layer.{tasks, course_reading, Layer, Planes, Need, Fault, ends, plane_for}
+use Rattle.iw44_image.specs.Layer.{layer_after, read_tasks, read_opened}
 use Rattle.iw44_image.specs.Offering.{Fits, TakesMore}
-use Rattle.iw44_image.specs.Readers.{coded_of, planes_of, HasChroma, AreNext, IsNext, Placed, Past, plane_reading, HaveRead}
-use Rattle.iw44_image.specs.Image.{Frame, header_in, layer_in, is_whole, reading_in, read_from, later_tasks, read_slices, Begun, InSlice, InRest}
-use Rattle.iw44_image.specs.Image.{AreNextAt, HoldsAt}
-use Rattle.iw44_image.specs.Keeping.{ChannelFits, stage_behind, next_stage}
+use Rattle.iw44_image.specs.Readers.{planes_of, Past, plane_reading, HaveRead}
+use Rattle.iw44_image.specs.Image.{Frame, header_in, layer_in, is_whole, reading_in, read_from, later_tasks, read_slices, Begun, InSlice}
 use Rattle.iw44_image.proofs.Checking.{any_checked}
 use Rattle.iw44_image.proofs.Going.{goes_past, goes_left, goes_need, goes_exhausted}
 

@@ -19,10 +19,10 @@ use Rattle.iw44_image.specs.declared.steps.IwStep.TheVariants as step
 use Rattle.iw44_image.specs.declared.steps.Stage.{Stage}
 use Rattle.iw44_image.specs.declared.steps.Stage.TheVariants as stage
 use Rattle.iw44_image.specs.Header.{Opened, open_chunk}
-use Rattle.iw44_image.specs.Layer.{Planes, Task, Layer, LayerReading, Answer, Done, Need, Fault, ends, any_size, data_of, read_chunk, header_or}
+use Rattle.iw44_image.specs.Layer.{Planes, Task, Layer, LayerReading, Done, Need, Fault, ends, any_size, data_of, read_chunk, header_or}
 use Rattle.iw44_image.specs.Layer.{new_planes, with_header, task, chroma_tasks, tasks, read_tasks, layer_after, course_reading, after_slice, chunk_end}
-use Rattle.iw44_image.specs.Samples.{Components, components_of, picture}
-use Rattle.iw44_image.specs.Readers.{planes_of, IsNext, Placed}
+use Rattle.iw44_image.specs.Samples.{components_of, picture}
+use Rattle.iw44_image.specs.Readers.{planes_of, Placed}
 use Rattle.iw44_image.specs.Offering.{Fits}
 
 -- the largest area that is taken; the layer's header, once its size was told; and how many bytes of the open chunk are still

@@ -1,6 +1,6 @@
 -- For the code's own functions: what is true of every image.
 use Rattle.std.specs.Prelude.{◌≡◌, ◌≢◌, ℕ, ◌+◌, ◌-◌, ◌*◌, ◌^◌, ◌<◌, ◌≤◌, ◌==◌, nat_lt, if◌then◌else◌, Bool, true, List, ◌++◌, length, Option, Some, None, ⊤}
-use Rattle.std.specs.Prelude.{IsSome, IfSome}
+use Rattle.std.specs.Prelude.{IsSome}
 use Rattle.zp_table.specs.Rows.{IsTable}
 use Rattle.zp_decoder.specs.Decoder.{is_all}
 use Rattle.iw44_image.specs.declared.headers.Header.{Header}

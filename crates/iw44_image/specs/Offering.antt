@@ -1,5 +1,5 @@
 -- For the code's own functions: how a decoder takes bytes that are left.
-use Rattle.std.specs.Prelude.{◌≡◌, ℕ, Bool, true, List, [], ◌++◌, length, Option}
+use Rattle.std.specs.Prelude.{◌≡◌, ℕ, Bool, true, List, [], ◌++◌, Option}
 use Rattle.zp_decoder.specs.Decision.{Interval}
 use Rattle.zp_decoder.specs.Decoder.{Decoder, Fed}
 

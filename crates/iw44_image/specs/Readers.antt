@@ -1,10 +1,10 @@
 -- For the code's own functions: planes that are kept, and the readers of their slices.
-use Rattle.std.specs.Prelude.{◌≡◌, ◌≢◌, ℕ, ◌+◌, ◌-◌, ◌≤◌, ⊤, true, false, List, Option, Some, None}
+use Rattle.std.specs.Prelude.{◌≡◌, ◌≢◌, ℕ, ◌+◌, ◌-◌, ⊤, true, false, List, Option, Some, None}
 use Rattle.zp_decoder.specs.Chunk.{chunk}
 use Rattle.zp_decoder.specs.Decision.{Interval}
 use Rattle.zp_decoder.specs.Decoder.{Decoder, Fed}
 use Rattle.zp_decoder.specs.States.{AreBelow, fresh}
-use Rattle.iw44_blocks.specs.Plane.{Plane, IsSmall, zero_plane}
+use Rattle.iw44_blocks.specs.Plane.{IsSmall, zero_plane}
 use Rattle.iw44_slices.specs.Slice.{Course, slice_course}
 use Rattle.iw44_slices.specs.Reading.{Reading, standing, plane_of, read_on}
 use Rattle.iw44_slices.specs.Reader.{Stands, StandsSomewhere, states_of}

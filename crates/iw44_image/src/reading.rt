@@ -29,10 +29,11 @@ impl IwImage {
         ensures zp { self.new.zp ≡ self.old.zp }
         ensures limit { self.new.limit ≡ self.old.limit }
     {
-        if let Some(header) = self.told {
-            if self.readers.is_none() {
-                self.readers = Some(PlaneReaders::new(self.alloc, header)?);
-            }
+        let Some(header) = self.told else {
+            return Ok(());
+        };
+        if self.readers.is_none() {
+            self.readers = Some(PlaneReaders::new(self.alloc, header)?);
         }
         Ok(())
     }

@@ -1,4 +1,4 @@
-use Rattle.std.proofs.Common.{◌≡◌, ℕ, List, Option, ap, sym, ◌∙◌}
+use Rattle.std.proofs.Common.{ℕ, List, ap, sym, ◌∙◌}
 use Rattle.zp_decoder.specs.Decoder.{Decoder}
 use Rattle.iw44_image.specs.Layer.{Layer}
 use Rattle.iw44_image.specs.Image.{Image, Holds}
@@ -20,7 +20,7 @@ returns-in-Some-clause-answers g c =
       header = made.header;
     } in
     let makes : (layer : Layer) (bytes : List ℕ) (decisions : ℕ) → Holds layer bytes decisions c.args.self.now →
-        Holds layer bytes decisions c.make_planes.new.self =
+    Holds layer bytes decisions c.make_planes.new.self =
     where_ok c.make_planes.result (sym c.is_err.ensures.value ∙ c.if-is_err.false) made.holds in
     made_answer c.step.result c.in-Some.answer c.args.self.now c.make_planes.new.self c.steps.self c.step.new.self (g.M.Meter.count c.args.meter.now)
     (g.M.Meter.count c.steps.meter) (g.M.Meter.count c.step.new.meter) alike makes c.in-Some.is c.steps.invariant c.step.ensures.steps

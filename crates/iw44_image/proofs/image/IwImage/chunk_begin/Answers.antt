@@ -1,5 +1,5 @@
-use Rattle.std.proofs.Common.{◌≡◌, ap, sym, ◌∙◌, subst, Some, []}
-use Rattle.iw44_image.specs.Image.{Image, Holds, frame_of}
+use Rattle.std.proofs.Common.{ap, sym, ◌∙◌, subst, Some, []}
+use Rattle.iw44_image.specs.Image.{Image, Holds}
 use Rattle.iw44_image.proofs.Giving.{header_moves}
 use Rattle.iw44_image.proofs.image.IwImage.chunk_begin.Goals as goal
 

@@ -1,8 +1,8 @@
-use Rattle.std.proofs.Common.{◌≡◌, ℕ, ◌+◌, Bool, true, List, [], Option, None, refl, ap, sym, ◌∙◌, subst}
+use Rattle.std.proofs.Common.{◌≡◌, ℕ, ◌+◌, Bool, None, refl, ap, sym, ◌∙◌, subst}
 use Rattle.iw44_image.specs.contracts.image.IwImage.{the_view}
 use Rattle.iw44_image.specs.declared.steps.Stage.{Stage}
 use Rattle.iw44_image.specs.declared.steps.Stage.TheVariants as stage
-use Rattle.iw44_image.specs.Layer.{Layer, LayerReading, Done, ends, chunk_end}
+use Rattle.iw44_image.specs.Layer.{Layer, Done, ends, chunk_end}
 use Rattle.iw44_image.specs.Image.{Image, image_by, Holds, HoldsAt, InRest, AreNextAt, frame_of, header_of, planes_in, layer_of, reading_of}
 use Rattle.iw44_image.proofs.Giving.{rest_reads}
 use Rattle.iw44_image.proofs.image.IwImage.end_chunk.Goals as goal

@@ -1,13 +1,12 @@
-use Rattle.std.proofs.Common.{◌≡◌, ℕ, List, Option, Some, None, ap, sym, ◌∙◌, subst}
+use Rattle.std.proofs.Common.{rules, ◌≡◌, Option, Some, None, sym, subst}
 use Rattle.iw44_image.specs.contracts.image.IwImage.{the_view}
 use Rattle.iw44_image.specs.declared.headers.Header.{Header}
 use Rattle.iw44_image.specs.declared.planes.PlaneReaders.{PlaneReaders}
 use Rattle.iw44_image.specs.Layer.{header_or}
 use Rattle.iw44_image.specs.Readers.{AreNew}
-use Rattle.iw44_image.specs.Image.{Image, Holds, HoldsAt, frame_of, header_in}
+use Rattle.iw44_image.specs.Image.{Image, image_by, Holds, HoldsAt, frame_of, header_in}
 use Rattle.iw44_image.proofs.PlaneMaking.{made_holds, no_planes}
 use Rattle.iw44_image.proofs.image.IwImage.make_planes.Goals as goal
-use Rattle.iw44_image.proofs.image.IwImage.make_planes.Goals.{in-Some+in-Some-self-3, in-Some+in-None-1, in-None-1}
 
 pub returns-in_ok-new-clause-holds : goal.returns-in_ok-new-clause-holds
 unfolding Holds
@@ -19,8 +18,6 @@ returns-in_ok-new-clause-holds c = λ layer bytes decisions holds.
     subst (λ (o : Option Header). AreNew (header_or o) c.in_ok-new.field-0) (sym c.in-Some.is) c.in_ok-new.ensures.new in
     let there = made_holds im.stage (frame_of im) layer bytes im.left decisions c.in_ok-new.field-0 im.zp new
     (subst (λ (p : Option PlaneReaders). HoldsAt im.stage (frame_of im) layer bytes decisions p im.zp im.left) none before) in
-    elim c.match-self-2.branch [
-      | in-Some+in-Some-self-3 w ↦ subst (λ (i : Image). Holds layer bytes decisions i) (sym w.self-is) there
-      | in-Some+in-None-1 w ↦ subst (λ (i : Image). Holds layer bytes decisions i) (sym w.self-is) there
-      | in-None-1 w ↦ subst (λ (i : Image). Holds layer bytes decisions i) (sym w.self-is) there
-    ]
+    let made : c.match-self-2.self ≡ image_by im.limit im.header im.to_come (Some c.in_ok-new.field-0) im.zp im.left im.chunks im.slices im.stage =
+    search rules in
+    subst (λ (i : Image). Holds layer bytes decisions i) (sym made) there

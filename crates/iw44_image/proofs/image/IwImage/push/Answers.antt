@@ -1,9 +1,9 @@
-use Rattle.std.proofs.Common.{◌≡◌, ◌≤◌, ◌-◌, ℕ, List, ◌++◌, length, Option, Some, ap, sym, ◌∙◌, subst}
+use Rattle.std.proofs.Common.{◌≤◌, ◌-◌, ℕ, List, ◌++◌, length, Option, Some, sym, subst}
 use Rattle.iw44_image.specs.contracts.image.IwImage.{the_view}
 use Rattle.iw44_image.specs.Image.{Image, Holds, HoldsAt, frame_of}
 use Rattle.iw44_image.specs.Keeping.{HasRoom}
 use Rattle.iw44_image.proofs.Giving.{frame_with}
-use Rattle.iw44_image.proofs.Pushing.{more_held, more_kept}
+use Rattle.iw44_image.proofs.Pushing.{more_held}
 use Rattle.iw44_image.proofs.image.IwImage.push.Goals as goal
 
 pub returns-in-Some-clause-holds : goal.returns-in-Some-clause-holds

@@ -1,16 +1,12 @@
-use Rattle.std.proofs.Common.{◌≡◌, ◌≢◌, ℕ, ◌-◌, List, [], Option, Some, length, ap, sym, ◌∙◌, subst, refl}
-use Rattle.std.specs.Prelude.{IsSome}
+use Rattle.std.proofs.Common.{◌≡◌, ℕ, List, Option, ap, sym, ◌∙◌, subst, refl}
 use Rattle.zp_decoder.specs.Decoder.{is_all}
-use Rattle.iw44_slices.specs.declared.steps.SliceStep.{SliceStep}
 use Rattle.iw44_image.specs.contracts.image.IwImage.{the_view}
-use Rattle.iw44_image.specs.declared.planes.PlaneReaders.{PlaneReaders}
-use Rattle.iw44_image.specs.declared.steps.Stage.{Stage}
 use Rattle.iw44_image.specs.declared.steps.IwStep.{IwStep}
 use Rattle.djvu_base.specs.declared.faults.FaultKind.TheVariants as fault
 use Rattle.zp_table.specs.declared.rows.Row.{Row}
 use Rattle.iw44_image.specs.declared.steps.Stage.TheVariants as stage
 use Rattle.iw44_image.specs.Layer.{ends, Need, Fault}
-use Rattle.iw44_image.specs.Image.{Image, frame_by, image_by, Holds, Steps, TicksTo, reading_in, reading_of, layer_of, is_whole}
+use Rattle.iw44_image.specs.Image.{Image, frame_by, Holds, Steps, TicksTo, reading_in, reading_of, layer_of, is_whole}
 use Rattle.iw44_image.proofs.Advancing.{Advance, moved_to, advance_of, kept_moved, same_at, next_at, told_still, ended_holds, taken_holds, needs_reads, stops_reads}
 use Rattle.iw44_image.proofs.Advancing.{all_came, wants, here, gave, ticks, reading}
 use Rattle.iw44_image.proofs.image.IwImage.read_slice.Goals as goal

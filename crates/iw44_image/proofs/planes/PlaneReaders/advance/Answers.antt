@@ -1,13 +1,9 @@
-use Rattle.std.proofs.Common.{◌≡◌, ℕ, ◌-◌, List, Option, Some, length, sym, subst}
-use Rattle.zp_decoder.specs.Decision.{Interval}
-use Rattle.zp_decoder.specs.Decoder.{Fed}
-use Rattle.iw44_slices.specs.Slice.{Course}
-use Rattle.iw44_image.specs.declared.headers.Header.{Header}
+use Rattle.std.proofs.Common.{◌-◌, Some, length, sym, subst}
 use Rattle.iw44_image.specs.declared.planes.Channel.{Channel}
-use Rattle.iw44_image.specs.declared.planes.Channel.TheVariants.{Y, B, R}
+use Rattle.iw44_image.specs.declared.planes.Channel.TheVariants.{B, R}
 use Rattle.iw44_image.specs.declared.planes.ChromaReaders.{ChromaReaders}
 use Rattle.iw44_image.specs.declared.planes.PlaneReaders.{PlaneReaders}
-use Rattle.iw44_image.specs.Readers.{AreSound, Placed, HaveRead, plane_reading}
+use Rattle.iw44_image.specs.Readers.{Placed, HaveRead, plane_reading}
 use Rattle.iw44_image.proofs.PlaneSteps.{y_read, b_read, r_read, chroma_of, whole_is}
 use Rattle.iw44_image.proofs.planes.PlaneReaders.advance.Goals as goal
 

@@ -3,7 +3,6 @@ use Rattle.iw44_image.specs.declared.planes.ChromaReaders.{ChromaReaders}
 use Rattle.iw44_image.specs.Samples.{components_of}
 use Rattle.iw44_image.specs.Readers.{planes_of, coded_b, coded_r}
 use Rattle.iw44_image.proofs.PlaneSteps.{sizes_of, grey_of, chroma_of}
-use Rattle.iw44_image.proofs.Stepping.{slice_takes}
 use Rattle.iw44_image.proofs.planes.PlaneReaders.raster.Goals as goal
 
 pub picture-requires-clause-samples : goal.picture-requires-clause-samples

@@ -38,7 +38,7 @@ pub struct IwImage {
 }
 
 impl Model for IwImage {
-    ghost use Rattle.iw44_image.specs.Image.{Image};
+    ghost use Rattle.iw44_image.specs.Image.{Image, image_by};
     ghost use Rattle.iw44_image.specs.Keeping.{IsKept};
 
     ghost Value = { Image };
@@ -55,17 +55,7 @@ impl Model for IwImage {
       stage = a.at;
     } };
 
-    ghost invariant = { λ a. IsKept (record {
-      limit = a.most;
-      header = a.told;
-      to_come = a.to_come;
-      planes = a.readers;
-      zp = a.decoder;
-      left = a.unread;
-      chunks = a.chunks_done;
-      slices = a.slices_done;
-      stage = a.at;
-    }) };
+    ghost invariant = { λ a. IsKept (image_by a.most a.told a.to_come a.readers a.decoder a.unread a.chunks_done a.slices_done a.at) };
 }
 
 impl IwImage {

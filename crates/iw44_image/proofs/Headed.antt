@@ -15,13 +15,14 @@ use Rattle.iw44_slices.specs.declared.steps.SliceStep.TheVariants as step
 use Rattle.iw44_image.specs.declared.headers.Header.{Header}
 use Rattle.iw44_image.specs.declared.planes.Channel.TheVariants.{Y}
 use Rattle.iw44_image.specs.declared.planes.PlaneReaders.{PlaneReaders}
+use Rattle.iw44_image.specs.declared.steps.IwStep.TheVariants.{Sized}
 use Rattle.iw44_image.specs.declared.steps.Stage.{Stage}
 use Rattle.iw44_image.specs.declared.steps.Stage.TheVariants as stage
 use Rattle.iw44_image.specs.Header.{Opening, Opened, open_chunk}
 use Rattle.iw44_image.specs.Layer.{Task, Layer, LayerReading, tasks, task_reading, with_header, layer_after, after_slice, chunk_end, read_tasks, read_opened}
 use Rattle.iw44_image.specs.Starting.{HasArea}
 use Rattle.iw44_image.specs.Image.{Image, Frame, header_in, layer_in, planes_in, is_whole, reading_in, Begun, ArePlaced, InSlice, InRest, InHeader, AreNextAt}
-use Rattle.iw44_image.specs.Image.{frame_by, image_by, HoldsAt}
+use Rattle.iw44_image.specs.Image.{frame_by, image_by, HoldsAt, HasSize}
 use Rattle.iw44_image.specs.Keeping.{ArePlanesSound, IsInHeader, IsInSlice, IsAt, IsKept, first_stage}
 use Rattle.iw44_image.proofs.Beginning.{opened_alike, told_stays}
 use Rattle.iw44_image.proofs.Checking.{any_checked}
@@ -199,3 +200,8 @@ first_kept old header planes zp left count now kept at running few known table s
 pub no_header : (known : Option Header) → is_some known ≡ false → known ≡ None
 no_header None none = refl
 no_header (Some header) none = absurd (let wrong : true ≡ false = none in cc)
+
+-- the size is that of the header
+pub size_told : (known : Option Header) (header : Header) (width height : ℕ) → known ≡ None →
+    Some (Sized header.width header.height) ≡ Some (Sized width height) → HasSize width height known (Some header)
+size_told known header width height none is = record { first = none; header = header; known = refl; width_is = cc; height_is = cc }

@@ -219,6 +219,14 @@ pub record TicksTo (before after : ℕ) (old new : ℕ) : Type 0 where
   pub more : before ≤ after
   pub ticks : TicksExactly (after - before) old new
 
+-- a size was told: no header was known before, and one of this size is now
+pub record HasSize (width height : ℕ) (old new : Option Header) : Type 0 where
+  pub first : old ≡ None
+  pub header : Header
+  pub known : new ≡ Some header
+  pub width_is : header.width ≡ width
+  pub height_is : header.height ≡ height
+
 -- a chunk is open until it is done
 abbrev pub open_after : IwStep → Option ℕ → Option ℕ
 open_after (step.Sized width height) left = left

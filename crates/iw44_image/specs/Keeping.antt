@@ -15,7 +15,7 @@ use Rattle.iw44_image.specs.declared.steps.IwStep.TheVariants as step
 use Rattle.iw44_image.specs.Starting.{HasArea}
 use Rattle.iw44_image.specs.Layer.{has_chroma}
 use Rattle.iw44_image.specs.Readers.{AreSound}
-use Rattle.iw44_image.specs.Image.{Image, header_of, is_whole, refused, open_after}
+use Rattle.iw44_image.specs.Image.{Image, header_of, is_whole, refused, open_after, HasSize}
 
 -- so many bytes may still come
 abbrev pub HasRoom : ℕ → Option ℕ → Type 0
@@ -120,14 +120,17 @@ abbrev pub open_behind : Option IwStep → Option ℕ → Option ℕ
 open_behind None left = left
 open_behind (Some answer) left = open_after answer left
 
--- what is true of each step, for which no memory is taken: a header that is known stays, and a chunk that is done has one;
--- without an answer no header comes, and less is left to do
+-- what is true of each step, for which no memory is taken: a header that is known stays, and one comes with the size alone; a
+-- chunk that is done has one, and all its data; without an answer less is left to do
 pub record HasStepped (result : Option IwStep) (old new : Image) : Type 0 where
   pub to_come : new.to_come ≡ open_behind result old.to_come
   pub refusal : refused new ≡ refused_after result
   pub header : result ≡ None → new.header ≡ old.header
   pub keeps : IsSome old.header → new.header ≡ old.header
+  pub same_header : ((width height : ℕ) → result ≢ Some (step.Sized width height)) → new.header ≡ old.header
+  pub sized : (width height : ℕ) → result ≡ Some (step.Sized width height) → HasSize width height old.header new.header
   pub done : result ≡ Some step.ChunkDone → IsSome new.header
+  pub whole : result ≡ Some step.ChunkDone → old.to_come ≡ Some 0
   pub made : result ≡ None → ArePlanesMade new
   pub less : result ≡ None → work new < work old
   pub memory : result ≢ Some step.OutOfMemory

@@ -1,10 +1,10 @@
 //! Images: the chunks of a layer, read as their bytes come.
-ghost use Rattle.std.specs.Prelude.{◌≡◌, ℕ, ◌+◌, ◌-◌, ◌*◌, ◌^◌, ◌≤◌, ◌<◌, List, [], ◌++◌, length, Option, Some, None, IsSome, IfOk, OnOk, OnErr};
+ghost use Rattle.std.specs.Prelude.{◌≡◌, ◌≢◌, ℕ, ◌+◌, ◌-◌, ◌*◌, ◌^◌, ◌≤◌, ◌<◌, List, [], ◌++◌, length, Option, Some, None, IsSome, IfOk, OnOk, OnErr};
 ghost use Rattle.std.specs.Arc.{arc_value};
 ghost use Rattle.djvu_base.specs.declared.faults.FaultKind.{FaultKind};
 ghost use Rattle.zp_table.specs.Rows.{IsTable};
 ghost use Rattle.iw44_image.specs.Layer.{Layer, new_layer};
-ghost use Rattle.iw44_image.specs.Image.{Image, Holds, Answers, Steps, TicksTo, open_after, refused, picture_of, is_whole};
+ghost use Rattle.iw44_image.specs.Image.{Image, Holds, Answers, Steps, TicksTo, open_after, refused, picture_of, is_whole, HasSize};
 ghost use Rattle.iw44_image.specs.Keeping.{HasRoom, kept_at};
 
 use crate::headers::Header;
@@ -130,7 +130,10 @@ impl IwImage {
         ensures refused { (kind : FaultKind) → result ≡ IwStep.Refused kind → refused self.new ≡ Some kind }
         ensures to_come { self.new.to_come ≡ open_after result self.old.to_come }
         ensures header { IsSome self.old.header → self.new.header ≡ self.old.header }
+        ensures same_header { ((width height : ℕ) → result ≢ IwStep.Sized width height) → self.new.header ≡ self.old.header }
+        ensures sized { (width height : ℕ) → result ≡ IwStep.Sized width height → HasSize width height self.old.header self.new.header }
         ensures done { result ≡ IwStep.ChunkDone → IsSome self.new.header }
+        ensures whole { result ≡ IwStep.ChunkDone → self.old.to_come ≡ Some 0 }
         ensures table { self.new.zp.table ≡ self.old.zp.table }
         ensures limit { self.new.limit ≡ self.old.limit }
     {

@@ -1,4 +1,4 @@
-use Rattle.std.proofs.Common.{◌≡◌, ◌≤◌, ℕ, List, [], Option, Some, None, length, drop, refl, ap, sym, ◌∙◌, subst}
+use Rattle.std.proofs.Common.{rules, ◌≡◌, ◌≤◌, ℕ, List, [], Option, Some, None, length, drop, refl, ap, sym, ◌∙◌, subst}
 use Rattle.std.specs.Prelude.{IsSome}
 use Rattle.zp_decoder.specs.Decoder.{is_all}
 use Rattle.iw44_image.specs.contracts.image.IwImage.{the_view}
@@ -10,7 +10,7 @@ use Rattle.iw44_image.specs.Layer.{Layer}
 use Rattle.iw44_image.specs.Image.{Image, Frame, frame_by, Holds, HoldsAt, InHeader, frame_of, reading_of, is_whole}
 use Rattle.iw44_image.specs.Keeping.{first_stage}
 use Rattle.iw44_image.proofs.Beginning.{known_header}
-use Rattle.iw44_image.proofs.Headed.{first_kept, first_planes, no_header, opened_holds, opened_header}
+use Rattle.iw44_image.proofs.Headed.{first_kept, first_planes, no_header, opened_holds, opened_header, size_told}
 use Rattle.iw44_image.proofs.image.IwImage.begin.Goals as goal
 
 pub invariant_of-self : goal.invariant_of-self
@@ -96,4 +96,24 @@ returns-clause-steps c = λ layer bytes decisions holds.
       planes = planes.1;
       holds = subst (λ (s : Stage). HoldsAt s (frame (Some c.args.header)) layer bytes decisions im.planes c.finish.new.zp c.skip.new.self)
           (sym c.first_stage-self-inside.ensures) there;
+    }
+
+pub returns-clause-stepped : goal.returns-clause-stepped
+returns-clause-stepped c =
+    let none : c.self.inside.told ≡ None = no_header c.self.inside.told (sym c.is_some.ensures ∙ c.if-is_some.false) in
+    let before : c.args.self.now.header ≡ None = sym (ap (λ (i : Image). i.header) c.self.view_is) ∙ none in
+    record {
+      to_come = search rules;
+      refusal = search rules;
+      header = search rules;
+      keeps = search rules;
+      same_header = λ other. absurd (other c.args.header.width c.args.header.height refl);
+      sized = λ width height. size_told c.args.self.now.header c.args.header width height before;
+      done = search rules;
+      whole = search rules;
+      made = search rules;
+      less = search rules;
+      memory = search rules;
+      table = search rules;
+      limit = search rules;
     }

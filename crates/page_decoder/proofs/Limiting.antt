@@ -150,64 +150,64 @@ module _ (table : List Row) (last : LastChunk) where
       let more : length (back ++ given ∷ []) ≡ length back + 1 = length-append back (given ∷ []) in
       ((done, counted ∙ ap (λ n. n + 1) number ∙ sym more), subst (λ n. n < 256) number below)
 
-  counts_on : (of : ChunkKind) (given : Data) (offset chunks number count : ℕ) (before after : Decoded) → Brings of table given offset before after
+  counts_on : (of : ChunkKind) (given : Data) (offset chunks number decisions count : ℕ) (before after : Decoded) → Brings of table given offset before after
       → KindSo of chunks before.layers → (chunks ≡ 0 → before.layers ≡ None) → (given.ended ≡ true → are_bytes given.bytes ≡ true) → Counts table before count
-      → Counts table after (count + length (drawing_by of number after.layers))
-  counts_on kind.Info given offset chunks number count before after b k none bytes i =
+      → Counts table after (count + length (drawing_by of number decisions after.layers))
+  counts_on kind.Info given offset chunks number decisions count before after b k none bytes i =
       let empty = none k in
       let bare = i.bare empty in
       let told : count ≤ 0 + 0 + 0 + length before.back =
       subst (λ l. count ≤ some_count l + some_count (mask_in l) + some_count (front_in l) + length before.back) empty i.told in
-      subst (λ d. Counts table d (count + length (drawing_by kind.Info number d.layers))) (sym b) (record {
+      subst (λ d. Counts table d (count + length (drawing_by kind.Info number decisions d.layers))) (sym b) (record {
         bare = λ e. absurd (cc);
         told = omega (arith, told);
         few = i.few;
         back = λ layers e. subst (λ back. BackSo table layers back) (sym bare) (refl, refl);
       })
-  counts_on kind.Mask given offset chunks number count before after b k none bytes i =
+  counts_on kind.Mask given offset chunks number decisions count before after b k none bytes i =
       let layers = b.0 in
       let first : some_count layers.mask ≡ 0 = ap some_count (ap mask_in (sym b.2) ∙ k) in
       let told : count ≤ 1 + some_count layers.mask + some_count layers.front + length before.back =
       subst (λ l. count ≤ some_count l + some_count (mask_in l) + some_count (front_in l) + length before.back) b.2 i.told in
       let back = i.back layers b.2 in
-      subst (λ d. Counts table d (count + length (drawing_by kind.Mask number d.layers))) (sym b.3) (record {
+      subst (λ d. Counts table d (count + length (drawing_by kind.Mask number decisions d.layers))) (sym b.3) (record {
         bare = λ e. absurd (cc);
         told = omega (arith, told, first);
         few = i.few;
         back = λ now e. subst (λ l. BackSo table l before.back) (layers_are _ now e) back;
       })
-  counts_on kind.Front given offset chunks number count before after b k none bytes i =
+  counts_on kind.Front given offset chunks number decisions count before after b k none bytes i =
       let layers = b.0 in
       let first : some_count layers.front ≡ 0 = ap some_count (ap front_in (sym b.2) ∙ k) in
       let told : count ≤ 1 + some_count layers.mask + some_count layers.front + length before.back =
       subst (λ l. count ≤ some_count l + some_count (mask_in l) + some_count (front_in l) + length before.back) b.2 i.told in
       let back = i.back layers b.2 in
-      subst (λ d. Counts table d (count + length (drawing_by kind.Front number d.layers))) (sym b.3) (record {
+      subst (λ d. Counts table d (count + length (drawing_by kind.Front number decisions d.layers))) (sym b.3) (record {
         bare = λ e. absurd (cc);
         told = omega (arith, told, first);
         few = i.few;
         back = λ now e. subst (λ l. BackSo table l before.back) (layers_are _ now e) back;
       })
-  counts_on kind.Back given offset chunks number count before after b k none bytes i =
+  counts_on kind.Back given offset chunks number decisions count before after b k none bytes i =
       let layers = b.0 in
       let told : count ≤ 1 + some_count layers.mask + some_count layers.front + length before.back =
       subst (λ l. count ≤ some_count l + some_count (mask_in l) + some_count (front_in l) + length before.back) b.2 i.told in
       let next = back_on layers before.back given (i.back layers b.2) (bytes b.5) b.3 in
       let few = next.1 in
       let more : length (before.back ++ given ∷ []) ≡ length before.back + 1 = length-append before.back (given ∷ []) in
-      subst (λ d. Counts table d (count + length (drawing_by kind.Back number d.layers))) (sym b.4) (record {
+      subst (λ d. Counts table d (count + length (drawing_by kind.Back number decisions d.layers))) (sym b.4) (record {
         bare = λ e. absurd (cc);
         told = omega (arith, told, more);
         few = omega (arith, few, more);
         back = λ now e. subst (λ l. BackSo table l (before.back ++ given ∷ [])) (layers_are _ now e) next.0;
       })
-  counts_on kind.Include given offset chunks number count before after b k none bytes i =
+  counts_on kind.Include given offset chunks number decisions count before after b k none bytes i =
       subst (λ d. Counts table d (count + 0)) (sym b.3) (record { bare = i.bare; told = omega (arith, i.told); few = i.few; back = i.back })
-  counts_on kind.Dictionary given offset chunks number count before after b k none bytes i =
+  counts_on kind.Dictionary given offset chunks number decisions count before after b k none bytes i =
       subst (λ d. Counts table d (count + 0)) (sym b.1) (record { bare = i.bare; told = omega (arith, i.told); few = i.few; back = i.back })
-  counts_on kind.Refused given offset chunks number count before after b k none bytes i =
+  counts_on kind.Refused given offset chunks number decisions count before after b k none bytes i =
       subst (λ d. Counts table d (count + 0)) (sym b) (record { bare = i.bare; told = omega (arith, i.told); few = i.few; back = i.back })
-  counts_on kind.Passed given offset chunks number count before after b k none bytes i =
+  counts_on kind.Passed given offset chunks number decisions count before after b k none bytes i =
       subst (λ d. Counts table d (count + 0)) (sym b) (record { bare = i.bare; told = omega (arith, i.told); few = i.few; back = i.back })
 
 -- between chunks, and behind the header of one
@@ -244,10 +244,11 @@ begun home head left e page other s =
 
 chunk_limited : (home : Home) → LastChunk → (head : Head) (given : Data) (decoded : Decoded) (left : Left) (decisions : ℕ) → Fine head given
     → (came_by (kind_of head.id) home.table given head.offset left.decoded).outcome ≡ Leaves decoded → Limited home (Some head) left
-    → Counts home.table decoded (length (left.told.drawings ++ drawing_by (kind_of head.id) (suc left.chunks) decoded.layers))
+    → Counts home.table decoded (length (left.told.drawings ++ drawing_by (kind_of head.id) (suc left.chunks) decisions decoded.layers))
 chunk_limited home last head given decoded left decisions f e i =
-    subst (λ n. Counts home.table decoded n) (sym (length-append left.told.drawings (drawing_by (kind_of head.id) (suc left.chunks) decoded.layers)))
-    (counts_on home.table last (kind_of head.id) given head.offset left.chunks (suc left.chunks) (length left.told.drawings) left.decoded decoded
+    subst (λ n. Counts home.table decoded n)
+    (sym (length-append left.told.drawings (drawing_by (kind_of head.id) (suc left.chunks) decisions decoded.layers)))
+    (counts_on home.table last (kind_of head.id) given head.offset left.chunks (suc left.chunks) decisions (length left.told.drawings) left.decoded decoded
     (brings (kind_of head.id) home.table given head.offset left.decoded decoded e) (i.kind head refl) i.none f i.counts)
 
 rules : (home : Home) (known : Known) → LastChunk → Rules home known Fine any_include (IsLimited home) (AtMost home)
@@ -255,7 +256,7 @@ rules home known last = record {
   begins = λ head left e i page. record { none = (i page).none; counts = (i page).counts; kind = begun home head left e page };
   chunk = λ head given decoded left f e i page. record {
     none = λ n. absurd (cc);
-    counts = chunk_limited home last head given decoded left 0 f e (i page);
+    counts = chunk_limited home last head given decoded left (left.told.decisions + (came home.table head given left.decoded).decisions) f e (i page);
     kind = λ other none. absurd (cc);
   };
   part = λ head n left i page. record { none = (i page).none; counts = (i page).counts; kind = λ other none. absurd (cc) };

@@ -7,9 +7,10 @@ use Rattle.layer_compose.specs.declared.layers.Layers.{Layers}
 use Rattle.layer_compose.specs.Drawing.{sum_of, preview_of}
 use Rattle.iw44_image.specs.Layer.{Data}
 
--- a drawing: after how many complete chunks of the page, and of which layers
+-- a drawing: after how many complete chunks of the page, how many decisions these had, and of which layers
 pub record Drawing : Type 0 where
   pub chunks : ℕ
+  pub decisions : ℕ
   pub layers : Layers
 
 -- what is told of a drawing

@@ -1,7 +1,7 @@
 //! Faults of form of an included file, and the name that an `INCL` holds.
 ghost use Rattle.std.specs.Prelude.{◌≡◌, IfOk, reverse};
 ghost use Rattle.djvu_base.specs.Name.{is_listed};
-ghost use Rattle.include_graph.specs.Included.{kind_fault, chunk_fault, is_dictionary, is_include, misplaced_ids, unbuilt_ids, after_newlines, between_newlines, include_name};
+ghost use Rattle.include_graph.specs.Included.{kind_fault, chunk_fault, is_dictionary, is_include, misplaced_ids, after_newlines, between_newlines, include_name};
 
 use djvu_base::{FaultKind, Name};
 use iff_chunks::is_refused;
@@ -9,9 +9,6 @@ use std::alloc::{AllocError, Global};
 
 /// Chunks of pages, that no included file may have.
 const MISPLACED_IDS: [[u8; 4]; 4] = [*b"INFO", *b"Sjbz", *b"BG44", *b"FG44"];
-
-/// Layers, that aren't decoded yet.
-const UNBUILT_IDS: [[u8; 4]; 2] = [*b"BG44", *b"FG44"];
 
 /// Why a FORM of this kind is no included file.
 pub(crate) fn kind_fault(kind: [u8; 4]) -> Option<FaultKind>
@@ -29,8 +26,6 @@ pub(crate) fn chunk_fault(has_dictionary: bool, id: [u8; 4]) -> Option<FaultKind
     ensures { result ≡ chunk_fault has_dictionary id }
 {
     if is_refused(id) {
-        Some(FaultKind::Unsupported)
-    } else if is_one_of(&UNBUILT_IDS, id) {
         Some(FaultKind::Unsupported)
     } else if is_one_of(&MISPLACED_IDS, id) {
         Some(FaultKind::Misplaced)

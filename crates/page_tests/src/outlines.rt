@@ -26,7 +26,7 @@ const FILES: [(&[u8], &[u8], Option<usize>); 15] = [
     ),
     (
         b"FORM\0\0\0\x14DJVIBG44\0\0\0\x04",
-        b"unsupported 12/",
+        b"misplaced 12/",
         Some(19),
     ),
     (

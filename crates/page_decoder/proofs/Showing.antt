@@ -67,7 +67,8 @@ drawn_last chunks decisions drawings after l =
 kept_last : (drawings : List Drawing) (before after : Option Layers) → after ≡ before → before ≡ last_layers drawings → after ≡ last_layers (drawings ++ [])
 kept_last drawings before after e l = e ∙ l ∙ ap last_layers (sym (append-nil drawings))
 
-last_on : (of : ChunkKind) (chunks decisions : ℕ) (drawings : List Drawing) (before after : Option Layers) → Draws of before after → before ≡ last_layers drawings
+last_on : (of : ChunkKind) (chunks decisions : ℕ) (drawings : List Drawing) (before after : Option Layers) → Draws of before after
+    → before ≡ last_layers drawings
     → after ≡ last_layers (drawings ++ drawing_by of chunks decisions after)
 last_on kind.Info chunks decisions drawings before after d l = drawn_last chunks decisions drawings after d
 last_on kind.Include chunks decisions drawings before after d l = kept_last drawings before after d l

@@ -67,6 +67,8 @@ mod Working
 mod Serials
 -- law limits of page_laws
 mod Limiting
+-- law of page_laws::chunks
+mod Completing
 -- laws of page_laws::drawings; Drawable
 mod Ascending
 -- law drawable of page_laws::drawings

@@ -7,7 +7,7 @@ use Rattle.std.proofs.lemmas.List.{length-append}
 use Rattle.std.proofs.lemmas.List.Folds.{list_all-append}
 use Rattle.djvu_base.specs.declared.faults.FaultKind.{FaultKind}
 use Rattle.djvu_base.specs.declared.faults.FaultKind.TheVariants as fault
-use Rattle.iff_chunks.specs.Chunks.{Form, Chunk, Tail, InHead, InHeader, InData, InPad, FormEnd, Broken, form_word, chunks_of}
+use Rattle.iff_chunks.specs.Chunks.{Form, Chunk, Tail, form_word, chunks_of}
 use Rattle.iff_chunks.specs.Events.{events_of}
 use Rattle.iff_chunks.specs.Order.{AtForm, InOrder}
 use Rattle.iff_chunks.specs.Layout.{Laid, AtEnd, TooShort, Beginning, NoId, TooLong, DataArriving, PadMissing, Padded, Unpadded, IsLaidForm}
@@ -23,7 +23,7 @@ use Rattle.page_decoder.specs.Given.{Page, Home, Known, Given}
 use Rattle.page_decoder.specs.PageRead.{Ending, Decoded, Left, at_start}
 use Rattle.page_decoder.specs.Headers.{Head, front_in, second, first_fault, later_fault, page_fault, header_fault}
 use Rattle.page_decoder.specs.ChunkData.{Leaves, back_limit, allowed_on, came, came_by}
-use Rattle.page_decoder.specs.Acts.{Act, form_acts, complete_acts, tail_acts, acts_of, close_in}
+use Rattle.page_decoder.specs.Acts.{acts_of, close_in}
 use Rattle.page_decoder.specs.Read.{drawing_by, read}
 use Rattle.page_decoder.specs.Needs.{are_bytes}
 use Rattle.page_decoder.proofs.Leaving.{Brings, brings}

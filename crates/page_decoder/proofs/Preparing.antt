@@ -1,5 +1,5 @@
 -- Behind the chunks of a page, a header that is right finds what its chunk wants.
-use Rattle.std.proofs.Common.{◌≡◌, ◌≢◌, ◌<◌, ◌≤◌, ℕ, zero, suc, Bool, true, false, cond, ltb, Option, Some, None, List, [], ◌∷◌, ◌++◌, length, refl, sym, ap, ◌∙◌, subst, arith}
+use Rattle.std.proofs.Common.{◌≡◌, ◌≢◌, ◌<◌, ◌≤◌, ℕ, Bool, true, false, cond, ltb, Option, Some, None, List, [], ◌∷◌, ◌++◌, length, refl, sym, ap, ◌∙◌, subst, arith}
 use Rattle.std.proofs.lemmas.Bool.{ltb-false}
 use Rattle.djvu_base.specs.declared.faults.FaultKind.TheVariants as fault
 use Rattle.zp_table.specs.declared.rows.Row.{Row}
@@ -13,9 +13,9 @@ use Rattle.page_decoder.specs.Kinds as kind
 use Rattle.page_decoder.specs.Given.{Page, Home, Known}
 use Rattle.page_decoder.specs.PageRead.{Ending, Decoded, Left, at_start}
 use Rattle.page_decoder.specs.Headers.{Head, first_fault, page_fault, header_fault}
-use Rattle.page_decoder.specs.ChunkData.{Leaves, back_limit, allowed_on, came_by}
+use Rattle.page_decoder.specs.ChunkData.{back_limit, allowed_on}
 use Rattle.page_decoder.specs.Acts.{Act}
-use Rattle.page_decoder.specs.Read.{Step, On, at_header, step_through}
+use Rattle.page_decoder.specs.Read.{On, at_header, step_through}
 use Rattle.page_decoder.specs.Needs.{IsReady}
 use Rattle.page_decoder.proofs.Leaving.{Brings, brings}
 use Rattle.page_decoder.proofs.Limiting.{KindSo, layers_are, begun as kind_begun}

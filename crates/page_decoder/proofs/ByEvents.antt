@@ -1,5 +1,5 @@
 -- The reading of a page, chunk by chunk, is what its events come to.
-use Rattle.std.proofs.Common.{◌≡◌, ℕ, suc, ◌+◌, Bool, true, false, Option, Some, None, List, [], ◌∷◌, ◌++◌, eqb, length, is_some, refl, sym, ap, ◌∙◌, append_assoc, add-zero, zero-add, add_assoc}
+use Rattle.std.proofs.Common.{◌≡◌, ℕ, suc, ◌+◌, Bool, true, false, Option, Some, None, List, [], ◌∷◌, ◌++◌, eqb, is_some, refl, sym, ap, ◌∙◌, append_assoc, add-zero, zero-add, add_assoc}
 use Rattle.std.specs.List.{flat_map}
 use Rattle.std.proofs.lemmas.List.{append-nil}
 use Rattle.djvu_base.specs.declared.faults.FaultKind.{FaultKind}

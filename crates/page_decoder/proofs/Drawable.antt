@@ -1,12 +1,11 @@
 -- Layers that chunks leave can be drawn, and so can those of each drawing, where the file's numbers are bytes.
-use Rattle.std.proofs.Common.{◌≡◌, ◌<◌, ◌≤◌, ℕ, zero, suc, ◌+◌, ◌*◌, Bool, true, false, cond, ◌||◌, eqb, ltb, leb, Option, Some, None, ◌⊎◌, inl, inr, List, [], ◌∷◌, ◌++◌, length, refl, sym, ap, ◌∙◌, subst, arith}
+use Rattle.std.proofs.Common.{◌≡◌, ◌<◌, ◌≤◌, ℕ, zero, suc, ◌*◌, Bool, true, false, cond, ◌||◌, eqb, ltb, leb, Option, Some, None, ◌⊎◌, inl, inr, List, [], ◌∷◌, ◌++◌, length, refl, sym, ap, subst, arith}
 use Rattle.std.specs.List.{AllByRecursion, Contains}
 use Rattle.std.specs.Prelude.{nat_lt}
 use Rattle.std.proofs.lemmas.Bool.{and_parts, ltb-true, ltb-false, true≢false}
 use Rattle.std.proofs.lemmas.List.Elements.{Contains-append_cases}
-use Rattle.djvu_base.specs.declared.faults.FaultKind.{FaultKind}
 use Rattle.djvu_base.specs.declared.faults.FaultKind.TheVariants as fault
-use Rattle.iff_chunks.specs.Chunks.{Chunk, chunks_of}
+use Rattle.iff_chunks.specs.Chunks.{chunks_of}
 use Rattle.zp_table.specs.declared.rows.Row.{Row}
 use Rattle.bit_plane.specs.Pixels.{area_limit}
 use Rattle.iw44_image.specs.Layer.{Data}
@@ -20,7 +19,7 @@ use Rattle.page_decoder.specs.Kinds as kind
 use Rattle.page_decoder.specs.Given.{Home, Known, Given}
 use Rattle.page_decoder.specs.PageRead.{Drawing, Ending, Decoded, Left, at_start}
 use Rattle.page_decoder.specs.Headers.{Head}
-use Rattle.page_decoder.specs.ChunkData.{Leaves, page_of, came_by}
+use Rattle.page_decoder.specs.ChunkData.{page_of}
 use Rattle.page_decoder.specs.Acts.{acts_of, close_in}
 use Rattle.page_decoder.specs.Read.{drawing_by, read}
 use Rattle.page_decoder.specs.Needs.{are_bytes}

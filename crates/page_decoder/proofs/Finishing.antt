@@ -12,7 +12,7 @@ use Rattle.iff_chunks.specs.Chunks.{Form, Chunk, Chunks, Tail, InHead, InHeader,
 use Rattle.iff_chunks.specs.Ends.{is_cut, broken_off, closed}
 use Rattle.iff_chunks.specs.Layout.{Laid, AtEnd, TooShort, Beginning, NoId, TooLong, DataArriving, PadMissing, Padded, Unpadded, IsLaidForm}
 use Rattle.iff_chunks.specs.Refused.{refused_ids}
-use Rattle.page_decoder.specs.Reading.{Notice, Ending, Finished, Fault, NeedBytes, Reading, Came, kind_fault, unbuilt_ids, is_info, is_mask, header_fault, size_in, size_fault, size_came, info_came, mask_came, nothing_came, blank_page, came, came_by, is_drawn, notice_by, after_chunk, after_came, read_chunks, ending_of, without_chunks, cut_by, at_end, read_tail, chunks_place, read_page, read_form, reading}
+use Rattle.page_decoder.specs.Reading.{Ending, Finished, Fault, NeedBytes, Reading, Came, kind_fault, unbuilt_ids, is_info, is_mask, header_fault, size_in, size_fault, size_came, info_came, mask_came, nothing_came, blank_page, came, came_by, is_drawn, notice_by, after_chunk, after_came, read_chunks, ending_of, without_chunks, cut_by, at_end, read_tail, chunks_place, read_page, read_form, reading}
 
 -- a reading that is finished has a drawing
 abbrev pub HasDrawing : Reading → Type 0

@@ -67,6 +67,9 @@ mod Working
 mod Serials
 -- law limits of page_laws
 mod Limiting
+-- laws of page_laws::chunks
+mod Completing
+mod Preparing
 -- laws of page_laws::drawings; Drawable
 mod Ascending
 -- law drawable of page_laws::drawings

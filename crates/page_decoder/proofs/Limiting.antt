@@ -7,7 +7,7 @@ use Rattle.std.proofs.lemmas.List.{length-append}
 use Rattle.std.proofs.lemmas.List.Folds.{list_all-append}
 use Rattle.djvu_base.specs.declared.faults.FaultKind.{FaultKind}
 use Rattle.djvu_base.specs.declared.faults.FaultKind.TheVariants as fault
-use Rattle.iff_chunks.specs.Chunks.{Form, Chunk, Tail, InHead, InHeader, InData, InPad, FormEnd, Broken, form_word, chunks_of}
+use Rattle.iff_chunks.specs.Chunks.{Form, Chunk, Tail, form_word, chunks_of}
 use Rattle.iff_chunks.specs.Events.{events_of}
 use Rattle.iff_chunks.specs.Order.{AtForm, InOrder}
 use Rattle.iff_chunks.specs.Layout.{Laid, AtEnd, TooShort, Beginning, NoId, TooLong, DataArriving, PadMissing, Padded, Unpadded, IsLaidForm}
@@ -23,7 +23,7 @@ use Rattle.page_decoder.specs.Given.{Page, Home, Known, Given}
 use Rattle.page_decoder.specs.PageRead.{Ending, Decoded, Left, at_start}
 use Rattle.page_decoder.specs.Headers.{Head, front_in, second, first_fault, later_fault, page_fault, header_fault}
 use Rattle.page_decoder.specs.ChunkData.{Leaves, back_limit, allowed_on, came, came_by}
-use Rattle.page_decoder.specs.Acts.{Act, form_acts, complete_acts, tail_acts, acts_of, close_in}
+use Rattle.page_decoder.specs.Acts.{acts_of, close_in}
 use Rattle.page_decoder.specs.Read.{drawing_by, read}
 use Rattle.page_decoder.specs.Needs.{are_bytes}
 use Rattle.page_decoder.proofs.Leaving.{Brings, brings}
@@ -111,7 +111,7 @@ record Counts (table : List Row) (decoded : Decoded) (count : ℕ) : Type 0 wher
   back : (layers : Layers) → decoded.layers ≡ Some layers → BackSo table layers decoded.back
 
 -- what a header says of what was left before it, where it is right
-abbrev KindSo : ChunkKind → ℕ → Option Layers → Type 0
+abbrev pub KindSo : ChunkKind → ℕ → Option Layers → Type 0
 KindSo kind.Info chunks layers = chunks ≡ 0
 KindSo kind.Mask chunks layers = mask_in layers ≡ None
 KindSo kind.Front chunks layers = front_in layers ≡ None
@@ -141,7 +141,7 @@ later_so kind.Back chunks decoded e = tt
 later_so kind.Refused chunks decoded e = tt
 later_so kind.Passed chunks decoded e = tt
 
-kind_so : (chunks : ℕ) (decoded : Decoded) (head : Head) → page_fault chunks decoded head ≡ None → KindSo (kind_of head.id) chunks decoded.layers
+pub kind_so : (chunks : ℕ) (decoded : Decoded) (head : Head) → page_fault chunks decoded head ≡ None → KindSo (kind_of head.id) chunks decoded.layers
 kind_so zero decoded head e = first_so (kind_of head.id) head.size decoded e
 kind_so (suc chunks) decoded head e = later_so (kind_of head.id) (suc chunks) decoded e
 
@@ -150,7 +150,7 @@ abbrev pub LastChunk : Type 0
 LastChunk = (table : List Row) (allowed : Allowed) (chunks : List Data) (given : Data) → (read_layer table allowed chunks).answer ≡ iw44.Done
     → read_layer table allowed (chunks ++ given ∷ []) ≡ read_chunk table allowed given (read_layer table allowed chunks).layer
 
-layers_are : (a b : Layers) → Some a ≡ Some b → a ≡ b
+pub layers_are : (a b : Layers) → Some a ≡ Some b → a ≡ b
 layers_are a b e = let same : Some a ≡ Some b = e in cc
 
 module _ (table : List Row) (last : LastChunk) where
@@ -257,7 +257,7 @@ most home at left i page =
     let front = option_most (front_in left.decoded.layers) in
     omega (arith, it.told, it.few, layers, mask, front)
 
-begun : (home : Home) (head : Head) (left : Left) → header_fault home.role left head ≡ None → home.role ≡ Page → (other : Head) → Some head ≡ Some other
+pub begun : (home : Home) (head : Head) (left : Left) → header_fault home.role left head ≡ None → home.role ≡ Page → (other : Head) → Some head ≡ Some other
     → KindSo (kind_of other.id) left.chunks left.decoded.layers
 begun home head left e page other s =
     let same : head ≡ other = cc in

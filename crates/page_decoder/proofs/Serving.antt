@@ -4,7 +4,7 @@ use Rattle.std.specs.List.{AllByRecursion, Contains}
 use Rattle.std.specs.Prelude.{bytes_eq, codes}
 use Rattle.djvu_base.specs.Name.{is_listed}
 use Rattle.djvu_base.specs.declared.faults.FaultKind.{FaultKind}
-use Rattle.iff_chunks.specs.Chunks.{Form, Chunk, Chunks, Tail, InHead, InHeader, InData, InPad, FormEnd, Broken, chunks_of}
+use Rattle.iff_chunks.specs.Chunks.{Chunk, chunks_of}
 use Rattle.iff_chunks.specs.Refused.{refused_ids}
 use Rattle.zp_table.specs.declared.rows.Row.{Row}
 use Rattle.iw44_image.specs.Layer.{Data}
@@ -20,7 +20,7 @@ use Rattle.page_decoder.specs.Results.{Result}
 use Rattle.page_decoder.specs.Given.{Role, Page, Included, Home, Known, Given}
 use Rattle.page_decoder.specs.PageRead.{Ending, Finished, Refused, NeedBytes, NeedOutline, NeedFile, Include, Decoded, Left, PageRead, at_start}
 use Rattle.page_decoder.specs.Headers.{Head, header_fault}
-use Rattle.page_decoder.specs.Acts.{Act, Kind, Reads, Close, Waits, Breaks, Over, form_acts, complete_acts, tail_acts, acts_of, origin_of, close_of, close_in}
+use Rattle.page_decoder.specs.Acts.{Act, Kind, Reads, Close, Waits, Breaks, Over, acts_of, origin_of, close_of, close_in}
 use Rattle.page_decoder.specs.Read.{Step, On, Ends, and_then, after, at_result, in_files, at_verdict, listing, at_target, at_include, resolved, resolved_before, at_header, at_data, at_act, finished, at_over, at_close, read_from, read}
 use Rattle.page_decoder.specs.Needs.{IsOver, Because, Lacks, IsNext, IsOutlined, IncludesFile}
 use Rattle.page_decoder.proofs.Leaving.{Brings, brings}

@@ -115,7 +115,7 @@ some_on home head given decoded left decisions (suc chunks) n i e page =
     some_left left.told.drawings (drawing_by (kind_of head.id) (suc left.chunks) decisions decoded.layers)
     (i.some page (λ none. let wrong : suc chunks ≡ 0 = sym n ∙ none in cc))
 
-begun : (home : Home) (head : Head) (left : Left) → header_fault home.role left head ≡ None → (other : Head) → Some head ≡ Some other → home.role ≡ Page
+pub begun : (home : Home) (head : Head) (left : Left) → header_fault home.role left head ≡ None → (other : Head) → Some head ≡ Some other → home.role ≡ Page
     → left.chunks ≡ 0 → kind_of other.id ≡ kind.Info
 begun home head left e other s page none =
     let same : head ≡ other = cc in

@@ -11,9 +11,14 @@ use Rattle.include_graph.specs.declared.outline.OutlineItem.TheVariants as item
 use Rattle.include_graph.specs.Outlines.{outline_of}
 use Rattle.include_graph.specs.Verdicts.{number_of, is_among, verdict_of}
 use Rattle.include_graph.specs.Graphs.{Includes}
+use Rattle.iw44_image.specs.Layer as iw44
+use Rattle.layer_compose.specs.declared.layers.Layers.{Layers}
+use Rattle.page_decoder.specs.Kinds.{ChunkKind}
+use Rattle.page_decoder.specs.Kinds as kind
+use Rattle.page_decoder.specs.ChunkData.{back_before}
 use Rattle.page_decoder.specs.Results.{Result, Refused as RefusedFile}
 use Rattle.page_decoder.specs.Given.{Page, Included, Home, Known, Given, Front}
-use Rattle.page_decoder.specs.PageRead.{Ending, Finished, Refused, NeedBytes, NeedOutline, NeedFile, Include, Told}
+use Rattle.page_decoder.specs.PageRead.{Ending, Finished, Refused, NeedBytes, NeedOutline, NeedFile, Include, Decoded, Told}
 use Rattle.page_decoder.specs.Read.{listing, read, decode}
 use Rattle.page_decoder.specs.Libraries.{graph_of, given_in}
 
@@ -79,6 +84,16 @@ Because home known pending (Refused fault) = ⊤
 Because home known pending NeedBytes = ⊤
 Because home known pending (NeedOutline file) = IsUnknown home known pending file
 Because home known pending (NeedFile file) = IsNext home known pending file
+
+-- what a complete chunk of a kind, with these bytes, wants of those before it: a page's size, a background that was read so far, and an INFO
+-- that isn't short
+abbrev pub IsReady : ChunkKind → List Row → List ℕ → Decoded → Type 0
+IsReady kind.Info table bytes decoded = 4 ≤ length bytes
+IsReady kind.Mask table bytes decoded = (layers : Layers) × (decoded.layers ≡ Some layers)
+IsReady kind.Front table bytes decoded = (layers : Layers) × (decoded.layers ≡ Some layers)
+IsReady kind.Back table bytes decoded =
+    (layers : Layers) × (decoded.layers ≡ Some layers) × ((back_before layers table decoded).answer ≡ iw44.Done)
+IsReady other table bytes decoded = ⊤
 
 -- ---- included files
 

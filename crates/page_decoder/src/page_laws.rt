@@ -12,6 +12,7 @@ ghost use Rattle.page_decoder.specs.Acts.{Act, Close};
 ghost use Rattle.page_decoder.specs.Read.{after, read_from, step_through, read, decode};
 ghost use Rattle.page_decoder.specs.Needs.{Below, Lacks, IsOver, Because, are_bytes, IsOutlined, IncludesFile};
 
+pub mod chunks;
 pub mod drawings;
 pub mod libraries;
 pub mod made;

@@ -1,4 +1,4 @@
-use Rattle.std.proofs.Common.{ℕ, List, false, sym, subst}
+use Rattle.std.proofs.Common.{ℕ, false, sym, subst}
 use Rattle.std.specs.Arc.{arc_value}
 use Rattle.djvu_base.specs.Meter.{TicksAtMost}
 use Rattle.page_decoder.specs.Reading.{Came, data_came}

@@ -1,4 +1,4 @@
-use Rattle.std.proofs.Common.{◌≡◌, ◌≤◌, ℕ, Option, Some, None, List, refl, sym, ap, ◌∙◌, arith}
+use Rattle.std.proofs.Common.{◌≡◌, ◌≤◌, ℕ, Option, Some, None, List, sym, ap, ◌∙◌, arith}
 use Rattle.std.specs.List.{Contains}
 use Rattle.std.specs.Prelude.{option_map}
 use Rattle.djvu_base.specs.Library.{Library}
@@ -7,7 +7,6 @@ use Rattle.zp_table.specs.declared.rows.Row.{Row}
 use Rattle.layer_compose.specs.declared.layers.Layers.{Layers}
 use Rattle.layer_compose.specs.Drawing.{raster_of}
 use Rattle.page_decoder.specs.PageRead.{Drawing, last_layers, Ending, Finished, Refused, NeedBytes, NeedOutline, NeedFile}
-use Rattle.page_decoder.specs.Read.{read}
 use Rattle.page_decoder.specs.Libraries.{run_given, run, drawn, shown_by, Drawn, Faulty, Unknown}
 use Rattle.page_decoder.proofs.Ascending.{none_within, shown_at, all_within}
 use Rattle.page_decoder.proofs.page_laws.drawings.shown.Goals as goal

@@ -1,6 +1,6 @@
 use Rattle.std.proofs.Common.{◌<◌, [], sym, subst}
 use Rattle.page_decoder.specs.Given.{Page}
-use Rattle.page_decoder.specs.Libraries.{names_in, graph_of, given_in}
+use Rattle.page_decoder.specs.Libraries.{graph_of, given_in}
 use Rattle.page_decoder.proofs.GoingOn.{length_names, length_stays}
 use Rattle.page_decoder.proofs.Made.{served_among, includes_stay}
 use Rattle.page_decoder.proofs.page_laws.made.made_stays.Goals as goal

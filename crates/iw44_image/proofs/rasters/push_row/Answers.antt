@@ -1,4 +1,4 @@
-use Rattle.std.proofs.Common.{◌≡◌, ◌+◌, ◌*◌, ◌<◌, ◌++◌, ◌∷◌, [], ap, ◌∙◌, arith, rules, to_z, of_z, w8}
+use Rattle.std.proofs.Common.{◌≡◌, ◌<◌, ◌++◌, ◌∷◌, [], ap, ◌∙◌, arith, rules, to_z, of_z, w8}
 use Rattle.std.proofs.lemmas.Nat.{mul-add-lt}
 use Rattle.iw44_blocks.proofs.Lemmas.{value_more}
 use Rattle.iw44_image.specs.Samples.{placed_value, sample_of}

@@ -1,9 +1,7 @@
 //! Samples of values, and colours of pixels.
-ghost use Rattle.std.specs.Prelude.{◌≡◌, ℤ, pos, negsuc, ◌+ℤ◌, ◌-ℤ◌, ◌*ℤ◌, ◌^◌, ◌<◌, ◌≤◌, unsigned_abs, ◌++◌, ◌∷◌, [], IfOk};
+ghost use Rattle.std.specs.Prelude.{◌≡◌, ℤ, pos, negsuc, ◌+ℤ◌, ◌-ℤ◌, ◌*ℤ◌, ◌^◌, ◌<◌, ◌≤◌, unsigned_abs, ◌++◌, ◌∷◌, [], ◌+◌, vec_len, vec_capacity};
 ghost use Rattle.std.specs.Int.{int_shr};
 ghost use Rattle.iw44_image.specs.Samples.{within, sample_of, byte_of, grey, colour, red_part, base_part};
-
-use std::alloc::AllocError;
 
 /// The three samples of a pixel.
 #[derive(Clone, Copy, Debug, PartialEq, Eq)]
@@ -39,14 +37,16 @@ impl Colour {
         }
     }
 
-    /// Puts the samples behind others.
-    pub fn put(self, samples: &mut Vec<u8>) -> Result<(), AllocError>
-        ensures { IfOk result (λ _. samples.new.items ≡ samples.old.items ++ self.red ∷ self.green ∷ self.blue ∷ []) }
+    /// Puts the samples behind others, where there is room for them.
+    pub fn put(self, samples: &mut Vec<u8>)
+        requires room { vec_len samples.old + 3 ≤ vec_capacity samples.old }
+        ensures items { samples.new.items ≡ samples.old.items ++ self.red ∷ self.green ∷ self.blue ∷ [] }
+        ensures count { vec_len samples.new ≡ vec_len samples.old + 3 }
+        ensures room { vec_capacity samples.new ≡ vec_capacity samples.old }
     {
-        samples.push(self.red)?;
-        samples.push(self.green)?;
-        samples.push(self.blue)?;
-        Ok(())
+        samples.push_reserved(self.red);
+        samples.push_reserved(self.green);
+        samples.push_reserved(self.blue);
     }
 }
 

@@ -1,5 +1,5 @@
 //! The picture of an image's coefficients.
-ghost use Rattle.std.specs.Prelude.{◌≡◌, ℕ, ◌+◌, ◌-◌, ◌*◌, ◌^◌, ◌<◌, ◌≤◌, ◌⊎◌, Bool, true, false, length, IfOk, IfSome};
+ghost use Rattle.std.specs.Prelude.{◌≡◌, ℕ, ◌+◌, ◌-◌, ◌*◌, ◌^◌, ◌<◌, ◌≤◌, ◌⊎◌, Bool, true, false, length, IfOk, IfSome, vec_len, vec_capacity};
 ghost use Rattle.std.specs.List.{range_with_len};
 ghost use Rattle.iw44_blocks.specs.Lattice.{IsWithin, Lattice, value_at, values_by};
 ghost use Rattle.iw44_blocks.specs.Plane.{Plane, IsSmall, grid_of};
@@ -12,7 +12,7 @@ use crate::colours::{Colour, sample_of};
 use crate::headers::Header;
 use djvu_base::Raster;
 use iw44_blocks::{Coefficients, Grid, laws as blocks};
-use iw44_lifting::inverse;
+use iw44_lifting::inverse_in;
 use std::alloc::{AllocError, Global};
 
 /// The samples of an image's planes, each from -128 to 127, rows from the bottom and each from the left.
@@ -94,35 +94,33 @@ impl Samples {
     {
         let mut out = Vec::with_capacity(alloc, 3 * width as usize * height as usize)?;
         for row in 0..height {
-            self.paint_row(width, height, row, &mut out)?;
+            self.paint_row(width, height, row, &mut out);
         }
         Ok(out)
     }
 
     /// Adds a row, counted from the top, to those above it.
-    fn paint_row(
-        &self,
-        width: u32,
-        height: u32,
-        row: u32,
-        out: &mut Vec<u8>,
-    ) -> Result<(), AllocError>
+    fn paint_row(&self, width: u32, height: u32, row: u32, out: &mut Vec<u8>)
         requires area { width * height ≤ 2 ^ 24 }
         requires full { IsFull (width * height) self.now }
         requires row { row < height }
         requires above { out.old.items ≡ painted width height self.now (row * width) }
-        ensures { IfOk result (λ _. out.new.items ≡ painted width height self.now ((row + 1) * width)) }
+        requires count { vec_len out.old ≡ 3 * (row * width) }
+        requires room { 3 * (width * height) ≤ vec_capacity out.old }
+        ensures row { out.new.items ≡ painted width height self.now ((row + 1) * width) }
+        ensures count { vec_len out.new ≡ 3 * ((row + 1) * width) }
+        ensures room { vec_capacity out.new ≡ vec_capacity out.old }
     {
         let start = (height - 1 - row) as usize * width as usize;
         for x in 0..width {
             let colour = self.colour(start + x as usize);
-            colour.put(out)?;
+            colour.put(out);
         }
-        Ok(())
     }
 }
 
-/// The samples of a plane. At half size a sample stands for two by two places. One grid is made.
+/// The samples of a plane. At half size a sample stands for two by two places. One grid is made, of numbers of 32 bits: no
+/// value of the transform is larger.
 pub(crate) fn plane_samples(
     alloc: Global,
     plane: &Coefficients,
@@ -132,8 +130,8 @@ pub(crate) fn plane_samples(
     ensures { IfOk result (λ samples. samples.items ≡ plane_samples half plane.now) }
 {
     blocks::small_planes();
-    let mut grid = plane.grid(alloc)?;
-    inverse(&mut grid, last_scale(half));
+    let mut grid: Grid<i32> = plane.grid_in(alloc)?;
+    inverse_in(&mut grid, last_scale(half));
     grid_samples(alloc, &grid, half)
 }
 
@@ -145,7 +143,7 @@ fn last_scale(half: bool) -> u32
     if half { 2 } else { 1 }
 }
 
-fn grid_samples(alloc: Global, grid: &Grid, half: bool) -> Result<Vec<i8>, AllocError>
+fn grid_samples(alloc: Global, grid: &Grid<i32>, half: bool) -> Result<Vec<i8>, AllocError>
     requires small { IsWithin (2 ^ 31 - 1) grid.now }
     ensures { IfOk result (λ samples. samples.items ≡ values_by grid.now.width (grid.now.width * grid.now.height)
         (λ x y. sample_of (placed_value half grid.now x y))) }
@@ -153,25 +151,28 @@ fn grid_samples(alloc: Global, grid: &Grid, half: bool) -> Result<Vec<i8>, Alloc
     let (width, height) = (grid.width(), grid.height());
     let mut samples = Vec::with_capacity(alloc, width as usize * height as usize)?;
     for y in 0..height {
-        push_row(grid, half, y, &mut samples)?;
+        push_row(grid, half, y, &mut samples);
     }
     Ok(samples)
 }
 
 /// Adds the samples of a row to those of the rows below it.
-fn push_row(grid: &Grid, half: bool, y: u32, samples: &mut Vec<i8>) -> Result<(), AllocError>
+fn push_row(grid: &Grid<i32>, half: bool, y: u32, samples: &mut Vec<i8>)
     requires small { IsWithin (2 ^ 31 - 1) grid.now }
     requires row { y < grid.now.height }
     requires below { samples.old.items ≡ values_by grid.now.width (y * grid.now.width) (λ x y. sample_of (placed_value half grid.now x y)) }
-    ensures { IfOk result (λ _. samples.new.items ≡ values_by grid.now.width ((y + 1) * grid.now.width) (λ x y. sample_of (placed_value half grid.now x y))) }
+    requires count { vec_len samples.old ≡ y * grid.now.width }
+    requires room { grid.now.width * grid.now.height ≤ vec_capacity samples.old }
+    ensures row { samples.new.items ≡ values_by grid.now.width ((y + 1) * grid.now.width) (λ x y. sample_of (placed_value half grid.now x y)) }
+    ensures count { vec_len samples.new ≡ (y + 1) * grid.now.width }
+    ensures room { vec_capacity samples.new ≡ vec_capacity samples.old }
 {
     for x in 0..grid.width() {
-        samples.push(sample_at(grid, half, x, y))?;
+        samples.push_reserved(sample_at(grid, half, x, y));
     }
-    Ok(())
 }
 
-fn sample_at(grid: &Grid, half: bool, x: u32, y: u32) -> i8
+fn sample_at(grid: &Grid<i32>, half: bool, x: u32, y: u32) -> i8
     requires small { IsWithin (2 ^ 31 - 1) grid.now }
     requires column { x < grid.now.width }
     requires row { y < grid.now.height }

@@ -16,4 +16,4 @@ mod runs;
 mod samples;
 mod transform;
 
-pub use transform::inverse;
+pub use transform::{inverse, inverse_in};

@@ -13,7 +13,7 @@ returns c =
     let half = c.args.half in
     let grid = grid_of c.args.plane.now in
     let last = lifted (last_scale half) grid in
-    let same : c.inverse.new.grid ≡ last = c.inverse.ensures.lifted ∙ ap (λ (s : ℕ). lifted s c.in_ok-grid.grid) c.last_scale.ensures.value ∙ ap
+    let same : c.inverse_in.new.grid ≡ last = c.inverse_in.ensures.lifted ∙ ap (λ (s : ℕ). lifted s c.in_ok-grid.grid) c.last_scale.ensures.value ∙ ap
     (λ (g : Lattice). lifted (last_scale half) g) c.in_ok-grid.ensures in
     let by_grid = subst (λ (g : Lattice). IfOk c.grid_samples.result (λ samples. samples.items ≡ values_by g.width (g.width * g.height)
     (λ x y. sample_of (placed_value half g x y)))) same c.grid_samples.ensures in

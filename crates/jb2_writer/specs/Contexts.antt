@@ -1,11 +1,11 @@
 -- States of all contexts of a chunk, and bits as decisions in them.
-use Rattle.std.specs.Prelude.{ℕ, Bool, List, [], ◌∷◌}
+use Rattle.std.specs.Prelude.{◌≡◌, ℕ, true, List, [], ◌∷◌, None}
 use Rattle.zp_table.specs.declared.rows.Row.{Row}
 use Rattle.zp_decoder.specs.Decision.{Adaptive}
+use Rattle.zp_decoder.specs.Runs.{answers}
 use Rattle.zp_decoder.specs.States.{States, fresh, with_state}
 use Rattle.jb2_numbers.specs.Contexts.{Name, store}
-use Rattle.zp_encoder.specs.Codes.{Codes, codes_after, state_left}
-use Rattle.zp_encoder.specs.Written.{Written, written}
+use Rattle.zp_encoder.specs.Written.{Written, forms_of, bits_of, states_of, states_read}
 use Rattle.jb2_writer.specs.Coded.{Context, Number, Pixel, Flag, RowStart, Coded, Bit, Anew}
 
 pub record Contexts : Type 0 where
@@ -31,15 +31,24 @@ with_state_in contexts (Pixel colours) state = record contexts { pixels = with_s
 with_state_in contexts Flag state = record contexts { flag = state }
 with_state_in contexts RowStart state = record contexts { row = state }
 
--- the state that a bit leaves its context in
-abbrev pub state_behind : List Row → Contexts → Codes → Context → Bool → ℕ
-state_behind rows contexts codes context bit = state_left rows (Adaptive (state_in contexts context)) bit codes.a
+-- these decisions have the bits, each in the state of its context, and leave the contexts in their states
+abbrev pub AreCodedAs : Contexts → List Coded → List Written → Contexts → Type 0
+AreCodedAs from [] [] to = from ≡ to
+AreCodedAs from [] (decision ∷ decisions) to = ⊥
+AreCodedAs from (Bit context bit ∷ later) [] to = ⊥
+AreCodedAs from (Bit context bit ∷ later) (decision ∷ decisions) to =
+    (decision.form ≡ Adaptive (state_in from context)) × (decision.bit ≡ bit)
+    × AreCodedAs (with_state_in from context decision.state) later decisions to
+AreCodedAs from (Anew ∷ later) decisions to = AreCodedAs (record from { numbers = fresh }) later decisions to
 
--- bits as decisions with the states of their contexts
-abbrev pub written_from : List Row → Contexts → Codes → List Coded → List Written
-written_from rows contexts codes [] = []
-written_from rows contexts codes (Bit context bit ∷ later) =
-    written (Adaptive (state_in contexts context)) bit (state_behind rows contexts codes context bit)
-    ∷ written_from rows (with_state_in contexts context (state_behind rows contexts codes context bit))
-    (codes_after rows (Adaptive (state_in contexts context)) bit codes) later
-written_from rows contexts codes (Anew ∷ later) = written_from rows (record contexts { numbers = fresh }) codes later
+-- a decoder decides these from the bytes of a whole chunk as they were written, in order
+pub record AreReadAs (rows : List Row) (payload : List ℕ) (decisions : List Written) : Type 0 where
+  pub bits : answers rows payload true None (forms_of decisions) ≡ bits_of decisions
+  pub states : states_read rows payload (forms_of decisions) ≡ states_of decisions
+
+-- so it decides decisions that have these bits
+pub record AreWritten (rows : List Row) (payload : List ℕ) (bits : List Coded) : Type 0 where
+  pub decisions : List Written
+  pub end : Contexts
+  pub coded : AreCodedAs all_fresh bits decisions end
+  pub read : AreReadAs rows payload decisions

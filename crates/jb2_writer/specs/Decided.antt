@@ -1,12 +1,13 @@
 -- What a reading finds where a decoder decides the bits that were written.
-use Rattle.std.specs.Prelude.{◌≡◌, ℕ, ◌+◌, List, [], ◌∷◌, reverse}
+use Rattle.std.specs.Prelude.{◌≡◌, ℕ, ◌+◌, List, [], ◌∷◌, Option, Some, None, reverse, ⊤}
+use Rattle.bit_plane.specs.Pixels.{Pixels, IsPlane}
 use Rattle.zp_decoder.specs.declared.decoder.Decision.TheVariants as decision
 use Rattle.zp_decoder.specs.Decision.{Adaptive, Outcome, outcome_of}
 use Rattle.zp_decoder.specs.Chunk.{Chunk}
 use Rattle.zp_decoder.specs.States.{with_state}
 use Rattle.jb2_numbers.specs.Contexts.{store}
 use Rattle.jb2_records.specs.declared.reader.Jb2Step.TheVariants as answer
-use Rattle.jb2_records.specs.Records.{Record}
+use Rattle.jb2_records.specs.Records.{Record, own_shape}
 use Rattle.jb2_records.specs.Coding.{Coder}
 use Rattle.jb2_records.specs.Reading.{Input, records_of, with_fresh_numbers}
 use Rattle.jb2_writer.specs.Coded.{Context, Number, Pixel, Flag, RowStart, Coded, Bit, Anew}
@@ -41,3 +42,12 @@ AreDecided source at (Anew ∷ later) to = AreDecided source (with_fresh_numbers
 pub record AreReadBack (input : Input) (records : List Record) : Type 0 where
   pub finished : (records_of input).answer ≡ answer.Finished
   pub same : (records_of input).records ≡ reverse records
+
+abbrev pub IsPlaneIn : Option Pixels → Type 0
+IsPlaneIn None = ⊤
+IsPlaneIn (Some shape) = IsPlane shape
+
+-- each shape that the records bring has a pixel for each place
+abbrev pub HavePlanes : List Record → Type 0
+HavePlanes [] = ⊤
+HavePlanes (entry ∷ later) = IsPlaneIn (own_shape entry) × HavePlanes later

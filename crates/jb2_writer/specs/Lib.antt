@@ -3,3 +3,4 @@ pub mod Fields
 pub mod Refusal
 pub mod Contexts
 pub mod Decided
+pub mod Worked

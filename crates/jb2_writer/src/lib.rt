@@ -2,7 +2,8 @@
 //! reference, JB2). The writer itself isn't built yet.
 //!
 //! `specs/` has the definitions: `Coded` (bits of numbers and of shapes), `Fields` (bits of records), `Refusal` (records that
-//! can't be written), `Contexts` (bits as decisions with states) and `Decided` (what a reading finds of them).
+//! can't be written), `Contexts` (bits as decisions with states), `Decided` (what a reading finds of them) and `Worked` (records
+//! of all types). The law says that a reading finds what was written.
 #![tactic(auto)]
 
 pub mod laws;

@@ -55,3 +55,39 @@ returns-clause-far c = refl
 pub returns-clause-required : goal.returns-clause-required
 unfolding most_decisions
 returns-clause-required c = refl
+
+pub returns-clause-refined_read : goal.returns-clause-refined_read
+unfolding most_bits most_decisions most_records
+returns-clause-refined_read c = record { finished = refl; same = refl }
+
+pub returns-clause-refining_read : goal.returns-clause-refining_read
+unfolding most_bits most_decisions most_records
+returns-clause-refining_read c = record { finished = refl; same = refl }
+
+pub returns-clause-copied_read : goal.returns-clause-copied_read
+unfolding most_bits most_decisions most_records
+returns-clause-copied_read c = record { finished = refl; same = refl }
+
+pub returns-clause-late_read : goal.returns-clause-late_read
+unfolding most_bits most_decisions most_records
+returns-clause-late_read c = record { finished = refl; same = refl }
+
+pub returns-clause-all_read : goal.returns-clause-all_read
+unfolding most_bits most_decisions most_records
+returns-clause-all_read c = record { finished = refl; same = refl }
+
+pub returns-clause-late_coded : goal.returns-clause-late_coded
+unfolding most_decisions
+returns-clause-late_coded c = refl
+
+pub returns-clause-all_coded : goal.returns-clause-all_coded
+unfolding most_decisions
+returns-clause-all_coded c = refl
+
+pub returns-clause-all_good : goal.returns-clause-all_good
+unfolding most_decisions
+returns-clause-all_good c = refl
+
+pub returns-clause-second : goal.returns-clause-second
+unfolding most_decisions
+returns-clause-second c = refl

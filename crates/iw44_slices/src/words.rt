@@ -74,17 +74,18 @@ pub(crate) fn parents(coefficients: &Coefficients, block: u32, bucket: u16) -> u
         + nonzero(coefficients, block, first + 3)
 }
 
-/// Whether so many coefficients of a block are 0, from one on.
+/// Whether so many coefficients of a block are 0, from one on. None is read behind the first that isn't.
 pub(crate) fn is_blank(coefficients: &Coefficients, block: u32, first: u16, count: u16) -> bool
     requires block { block < block_count coefficients.now }
     requires within { first + count ≤ 1024 }
     ensures { result ≡ true → (place : ℕ) → place < count → is_zero (coefficient coefficients.now block (first + place)) ≡ true }
 {
-    let mut some = 0;
     for place in 0..count {
-        some += nonzero(coefficients, block, first + place);
+        if !is_zero(coefficients, block, first + place) {
+            return false;
+        }
     }
-    some == 0
+    true
 }
 
 /// 1 for a coefficient that isn't 0.

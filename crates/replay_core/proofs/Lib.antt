@@ -1,0 +1,4 @@
+mod Listing
+mod Moving
+mod Told
+mod Ending

@@ -1,0 +1,3 @@
+pub use Rattle.page_decoder.specs.Libraries
+pub mod Machine
+pub mod Worked

@@ -13,10 +13,10 @@ use Rattle.zp_table.specs.declared.rows.Row.{Row}
 use Rattle.zp_table.specs.Rows.{IsTable}
 use Rattle.layer_compose.specs.declared.layers.Layers.{Layers}
 use Rattle.page_decoder.specs.Given.{Given, Front, Within}
-use Rattle.page_decoder.specs.PageRead.{Drawing, Ending, Finished, Refused, NeedBytes, NeedOutline, NeedFile, PageRead, notice_of}
+use Rattle.page_decoder.specs.PageRead.{Drawing, Ending, Finished, Refused, NeedBytes, NeedOutline, NeedFile, PageRead, notice_of, last_layers}
 use Rattle.page_decoder.specs.Read.{read}
 use Rattle.page_decoder.specs.Libraries.{run_given, run, run_end, LibraryGoesOn}
-use Rattle.page_decoder.specs.Needs.{IsOver, last_layers}
+use Rattle.page_decoder.specs.Needs.{IsOver}
 use Rattle.replay_core.specs.Machine.{PageState, State, Event, Feed, End, Step, Look, Answer, Taken, Drew, AtEnd, Looked, last_of, page_notices, page_layers, layers_drawn, next_notice, step_answer, page_step, page_look, state_after, state_after_all, answer, answers, ends_told, told_at, ends_in, IsSound, LooksRise, HasEnded, GoesWell, Draws, Ends, drawn_with, stepped}
 use Rattle.replay_core.proofs.Listing.{some_same, changed_here, none_left, last_front}
 use Rattle.replay_core.proofs.Moving.{Same, Both, library_after_all}

@@ -8,14 +8,11 @@ use Rattle.std.proofs.lemmas.List.Elements.{Contains-append_cases}
 use Rattle.std.proofs.lemmas.Option.{slice_get_past, slice_get_within}
 use Rattle.djvu_base.specs.Library.{Library}
 use Rattle.djvu_base.specs.Announced.{Announced}
-use Rattle.djvu_base.specs.declared.faults.Fault.{Fault}
 use Rattle.zp_table.specs.declared.rows.Row.{Row}
-use Rattle.zp_table.specs.Rows.{IsTable}
 use Rattle.layer_compose.specs.declared.layers.Layers.{Layers}
-use Rattle.page_decoder.specs.Given.{Given, Front, Within}
-use Rattle.page_decoder.specs.PageRead.{Drawing, Ending, Finished, Refused, NeedBytes, NeedOutline, NeedFile, PageRead, notice_of, last_layers}
-use Rattle.page_decoder.specs.Read.{read}
-use Rattle.page_decoder.specs.Libraries.{run_given, run, run_end, LibraryGoesOn}
+use Rattle.page_decoder.specs.Given.{Front}
+use Rattle.page_decoder.specs.PageRead.{Drawing, Ending, NeedBytes, PageRead, notice_of, last_layers}
+use Rattle.page_decoder.specs.Libraries.{run, LibraryGoesOn}
 use Rattle.page_decoder.specs.Needs.{IsOver}
 use Rattle.replay_core.specs.Machine.{PageState, State, Event, Feed, End, Step, Look, Answer, Taken, Drew, AtEnd, Looked, last_of, page_notices, page_layers, layers_drawn, next_notice, step_answer, page_step, page_look, state_after, state_after_all, answer, answers, ends_told, told_at, ends_in, IsSound, LooksRise, HasEnded, GoesWell, Draws, Ends, drawn_with, stepped}
 use Rattle.replay_core.proofs.Listing.{some_same, changed_here, none_left, last_front}
@@ -24,7 +21,7 @@ use Rattle.replay_core.proofs.Told.{NoticesOn, Reaches, reaches, sound_after_all
 
 -- ---- an end that is answered
 
-at_end : (next : Option Announced) (its end : Ending) → step_answer next its ≡ AtEnd end → (next ≡ None) × (its ≡ end)
+pub at_end : (next : Option Announced) (its end : Ending) → step_answer next its ≡ AtEnd end → (next ≡ None) × (its ≡ end)
 at_end None its end e = (refl, cc)
 at_end (Some notice) its end e = absurd (let wrong : Drew notice ≡ AtEnd end = e in cc)
 
@@ -46,34 +43,13 @@ pub is_there : (table : List Row) (library : Library) (found : Option PageState)
 is_there table library None end over e = absurd (subst IsOver (sym (let same : NeedBytes ≡ end = cc in same)) over)
 is_there table library (Some it) end over e = (it, refl)
 
--- ---- a reading that is over stays
+-- ---- pages at their ends, in libraries that go on
 
-abbrev pub StaysFinished : Type 0
-StaysFinished = (less more : Given) → IsTable less.home.table → Within less more → (read less).end ≡ Finished → read more ≡ read less
-
-abbrev pub StaysRefused : Type 0
-StaysRefused = (less more : Given) (fault : Fault) → IsTable less.home.table → Within less more → (read less).end ≡ Refused fault → read more ≡ read less
+-- the law of readings that are over
 
 abbrev pub RunsStay : List Row → Type 0
 RunsStay table = (library later : Library) (file : ℕ) → LibraryGoesOn library later → IsOver (run table library file).end
     → run table later file ≡ run table library file
-
-pub runs_stay : StaysFinished → StaysRefused → (table : List Row) → IsTable table
-    → ((library later : Library) (file : ℕ) → LibraryGoesOn library later → Within (run_given table library file) (run_given table later file))
-    → RunsStay table
-runs_stay finished refused table is within library later file on over = ap run_by (by (read (run_given table library file)).end refl over)
-  where
-    run_by : PageRead → PageRead
-    run_by it = record { left = it.left; end = run_end it.end }
-    by : (end : Ending) → (read (run_given table library file)).end ≡ end → IsOver (run_end end)
-        → read (run_given table later file) ≡ read (run_given table library file)
-    by Finished e o = finished (run_given table library file) (run_given table later file) is (within library later file on) e
-    by (Refused fault) e o = refused (run_given table library file) (run_given table later file) fault is (within library later file on) e
-    by NeedBytes e o = absurd o
-    by (NeedOutline other) e o = absurd o
-    by (NeedFile other) e o = absurd o
-
--- ---- pages at their ends, in libraries that go on
 
 module _ (same : Same) (both : Both) (table : List Row) (on : NoticesOn table) (runs : RunsStay table) (state : State) (sound : IsSound table state)
     (events : List Event) where

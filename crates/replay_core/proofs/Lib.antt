@@ -2,3 +2,6 @@ mod Listing
 mod Moving
 mod Told
 mod Ending
+mod Drawings
+mod Needing
+mod Stepwise

@@ -1,12 +1,13 @@
 -- The core as a machine: bytes of files come and end, and the notices of pages are drawn one after another.
-use Rattle.std.specs.Prelude.{ℕ, zero, suc, ◌≡◌, ◌≢◌, ◌≤◌, ◌==◌, if◌then◌else◌, List, [], ◌∷◌, ◌++◌, length, map, Option, Some, None, slice_get, ⊤}
+use Rattle.std.specs.Prelude.{ℕ, zero, suc, ◌≡◌, ◌≢◌, ◌<◌, ◌≤◌, ◌==◌, if◌then◌else◌, List, [], ◌∷◌, ◌++◌, length, map, Option, Some, None, slice_get, ⊤, ◌⊎◌}
 use Rattle.djvu_base.specs.Library.{Mark, Open, Whole, Broken, mark_of, File, Library}
 use Rattle.djvu_base.specs.Announced.{Announced}
 use Rattle.djvu_base.specs.declared.ends.FileEnd.{FileEnd}
 use Rattle.zp_table.specs.declared.rows.Row.{Row}
 use Rattle.layer_compose.specs.declared.layers.Layers.{Layers}
-use Rattle.page_decoder.specs.PageRead.{Drawing, Ending, NeedBytes, notices_of}
-use Rattle.page_decoder.specs.Libraries.{run, shown_by, page_in}
+use Rattle.layer_compose.specs.Drawing.{raster_of}
+use Rattle.page_decoder.specs.PageRead.{Drawing, notice_of, notices_of, Ending, NeedBytes}
+use Rattle.page_decoder.specs.Libraries.{run, draw, shown_by, page_in}
 use Rattle.page_decoder.specs.Needs.{IsOver}
 
 -- a page: its file, by its number in the library, and how many of its notices were drawn
@@ -194,6 +195,17 @@ pub record LooksRise (notices : List Announced) (earlier later : Answer) : Type 
   pub there : after ≤ length notices
   pub earlier_so : earlier ≡ Looked (last_of notices before)
   pub later_so : later ≡ Looked (last_of notices after)
+
+-- a later look shows a notice where an earlier one did: the same one, or one behind more chunks
+abbrev pub ShowsNoLess : Answer → Answer → Type 0
+ShowsNoLess (Looked (Some notice)) later = (last : Announced) × (later ≡ Looked (Some last)) × ((notice ≡ last) ⊎ (notice.chunks < last.chunks))
+ShowsNoLess other later = ⊤
+
+-- a notice is that of a drawing, and this is the page's drawing behind the chunks that the notice tells
+pub record TellsDrawing (table : List Row) (library : Library) (file : ℕ) (notice : Announced) : Type 0 where
+  pub drawing : Drawing
+  pub notice_so : notice ≡ notice_of drawing
+  pub draw_so : draw table library file notice.chunks ≡ Some (raster_of drawing.layers)
 
 -- a page is over, with this end, and all its notices were drawn
 pub record HasEnded (table : List Row) (library : Library) (page : PageState) (end : Ending) : Type 0 where

@@ -36,10 +36,13 @@ in_two_pieces =
 abbrev pub two_files : State
 two_files = start (codes "d" ∷ codes "p" ∷ []) (1 ∷ [])
 
+abbrev pub page_before : List ℕ
+page_before = page 64 (include_of 0x64 ++ (grey_chunk ++ copying_mask))
+
 -- the page, whose background comes before its dictionary, and then the dictionary
 abbrev pub dictionary_last : List Event
 dictionary_last =
-    Feed 1 (page 64 (include_of 0x64 ++ (grey_chunk ++ copying_mask))) ∷ Step 0 ∷ Step 0 ∷ Step 0 ∷ Look 0 0
+    Feed 1 page_before ∷ Step 0 ∷ Step 0 ∷ Step 0 ∷ Look 0 0
     ∷ Feed 0 dictionary_file ∷ Step 0 ∷ Step 0 ∷ Step 0 ∷ Look 0 0 ∷ []
 
 -- a page that breaks off at its 44th byte, and what comes behind that

@@ -1,13 +1,15 @@
 //! Laws of the machine, over every list of events: each is a clause of a function that does nothing.
-ghost use Rattle.std.specs.Prelude.{◌≡◌, ◌≤◌, ◌<◌, ◌+◌, ℕ, List, ◌++◌, length, take, Contains, Some, slice_get, replicate};
-ghost use Rattle.djvu_base.specs.Library.{Library};
+ghost use Rattle.std.specs.Prelude.{◌≡◌, ◌≢◌, ◌≤◌, ◌<◌, ◌+◌, ℕ, List, ◌++◌, length, take, Contains, Some, None, slice_get, replicate};
+ghost use Rattle.djvu_base.specs.Library.{Open, File, Library};
+ghost use Rattle.djvu_base.specs.Announced.{Announced};
 ghost use Rattle.zp_table.specs.declared.rows.Row.{Row};
 ghost use Rattle.zp_table.specs.Rows.{IsTable};
+ghost use Rattle.include_graph.specs.Outlines.{outline_of};
 ghost use Rattle.page_decoder.specs.Given.{Front};
-ghost use Rattle.page_decoder.specs.PageRead.{Ending};
+ghost use Rattle.page_decoder.specs.PageRead.{Ending, NeedBytes, NeedOutline, NeedFile};
 ghost use Rattle.page_decoder.specs.Libraries.{LibraryGoesOn};
 ghost use Rattle.page_decoder.specs.Needs.{IsOver};
-ghost use Rattle.replay_core.specs.Machine.{State, PageState, Event, Step, Look, AtEnd, page_notices, answer, state_after_all, answers, start, drawn_in, ends_in, IsSound, AllClosed, PageGoesOn, LooksRise, HasEnded, TellsPage, GoesWell};
+ghost use Rattle.replay_core.specs.Machine.{State, PageState, Event, Step, Look, Drew, AtEnd, Looked, page_notices, answer, state_after_all, answers, start, drawn_in, ends_in, IsSound, AllClosed, PageGoesOn, LooksRise, ShowsNoLess, TellsDrawing, HasEnded, TellsPage, GoesWell};
 
 pub mod worked;
 
@@ -46,12 +48,26 @@ pub fn drawn_are_notices()
 
 /// Looks show notices of the page, and never go back: a later one shows what the earlier one showed, or a notice behind it.
 pub fn looks_rise()
-    ensures { (table : List Row) (state : State) (events : List Event) (page viewer other : ℕ) (it : PageState) → IsTable table → IsSound table state
+    ensures places { (table : List Row) (state : State) (events : List Event) (page viewer other : ℕ) (it : PageState) → IsTable table → IsSound table state
         → slice_get state.pages page ≡ Some it → LooksRise (page_notices table (state_after_all table state events).library it.file)
         (answer table state (Look viewer page)) (answer table (state_after_all table state events) (Look other page)) }
+    ensures chunks { (table : List Row) (state : State) (events : List Event) (page viewer other : ℕ) → IsTable table → IsSound table state
+        → ShowsNoLess (answer table state (Look viewer page)) (answer table (state_after_all table state events) (Look other page)) }
 {
+    page_decoder::page_laws::drawings::ascend();
     page_decoder::page_laws::growth();
     page_decoder::page_laws::libraries::libraries_go_on();
+}
+
+/// What steps and looks tell is a drawing of the page behind its first chunks, as many as the notice says.
+pub fn notices_are_drawings()
+    ensures steps { (table : List Row) (state : State) (page : ℕ) (it : PageState) (notice : Announced) → slice_get state.pages page ≡ Some it
+        → answer table state (Step page) ≡ Drew notice → TellsDrawing table state.library it.file notice }
+    ensures looks { (table : List Row) (state : State) (page viewer : ℕ) (it : PageState) (notice : Announced) → slice_get state.pages page ≡ Some it
+        → answer table state (Look viewer page) ≡ Looked (Some notice) → TellsDrawing table state.library it.file notice }
+{
+    page_decoder::page_laws::drawings::ascend();
+    page_decoder::page_laws::drawings::shown();
 }
 
 /// An end after which nothing comes is answered only when all notices were drawn, and again from then on. Once it was answered,
@@ -69,6 +85,20 @@ pub fn ends_stay()
     page_decoder::page_laws::growth();
     page_decoder::page_laws::shows();
     page_decoder::page_laws::libraries::libraries_go_on();
+}
+
+/// A step needs only what may still come: bytes of the page, while its file is open, or a file that is open and whose outline
+/// isn't known.
+pub fn needs_are_open()
+    ensures bytes { (table : List Row) (state : State) (page : ℕ) (it : PageState) (file : File) → slice_get state.pages page ≡ Some it
+        → slice_get state.library it.file ≡ Some file → answer table state (Step page) ≡ AtEnd NeedBytes → file.mark ≡ Open }
+    ensures file { (table : List Row) (state : State) (page needed : ℕ) → answer table state (Step page) ≡ AtEnd (NeedFile needed)
+        → (file : File) × (slice_get state.library needed ≡ Some file) × (file.mark ≡ Open) × (outline_of file.mark file.bytes ≡ None) }
+    ensures no_outline { (table : List Row) (state : State) (page needed : ℕ) → answer table state (Step page) ≢ AtEnd (NeedOutline needed) }
+{
+    page_decoder::page_laws::needs();
+    page_decoder::page_laws::libraries::needs_of_pages();
+    include_graph::laws::outlines_stay();
 }
 
 /// Where all files have ended no step needs anything: it draws, or answers an end after which nothing comes. As many steps as

@@ -8,9 +8,9 @@ use Rattle.replay_core.proofs.laws.closed_files_suffice.Goals as goal
 pub returns-clause-steps : goal.returns-clause-steps
 returns-clause-steps c table state page it closed e below =
     subst (λ f. GoesWell (page_step table state.library f)) (sym e)
-    (goes_well table state.library it (c.closed_libraries.ensures table state.library it.file below closed))
+    (goes_well table state.library it (c.closed_libraries.ensures.over table state.library it.file below closed))
 
 pub returns-clause-ends : goal.returns-clause-ends
 returns-clause-ends c table state page count it is sound closed e below many =
-    ((run table state.library it.file).end, c.closed_libraries.ensures table state.library it.file below closed,
+    ((run table state.library it.file).end, c.closed_libraries.ensures.over table state.library it.file below closed,
     steps_end table state page count it e (sound page it e) many)

@@ -10,7 +10,7 @@ use Rattle.page_decoder.specs.Needs.{IsOver}
 use Rattle.replay_core.specs.Machine.{PageState, Event, page_step, state_after_all, answers, start, drawn_in, ends_in, page_notices, layers_drawn, HasEnded, TellsPage}
 use Rattle.replay_core.proofs.Moving.{nowhere_then}
 use Rattle.replay_core.proofs.Told.{NoticesOn, notices_on, Reaches, reaches_it, sound_after_all, none_drawn, sound_at_start}
-use Rattle.replay_core.proofs.Ending.{RunsStay, runs_stay, ended_at, stays_ended, answered_in, layers_of_all}
+use Rattle.replay_core.proofs.Ending.{RunsStay, ended_at, stays_ended, answered_in, layers_of_all}
 use Rattle.replay_core.proofs.laws.ends_stay.Goals as goal
 
 module _ (c : goal.After-libraries_go_on) (table : List Row) (is : IsTable table) where
@@ -18,8 +18,7 @@ module _ (c : goal.After-libraries_go_on) (table : List Row) (is : IsTable table
   on = notices_on c.growth.ensures.notices c.libraries_go_on.ensures.given table is
 
   runs : RunsStay table
-  runs = runs_stay c.growth.ensures.finished c.growth.ensures.refused table is
-      (λ library later file goes. c.libraries_go_on.ensures.given table library later file is goes)
+  runs library later file goes over = c.libraries_go_on.ensures.over table library later file is goes over
 
   module _ (names : List (List ℕ)) (files : List ℕ) (events : List Event) (page : ℕ) (it : PageState)
       (e : slice_get (state_after_all table (start names files) events).pages page ≡ Some it) where

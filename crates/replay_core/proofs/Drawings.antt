@@ -49,7 +49,8 @@ its_drawing : (drawings : List Drawing) (number : ℕ) (notice : Announced) → 
     → (drawing : Drawing) × (slice_get drawings number ≡ Some drawing) × (notice ≡ notice_of drawing)
 its_drawing drawings number notice e = by (slice_get drawings number) refl
   where
-    by : (found : Option Drawing) → slice_get drawings number ≡ found → (drawing : Drawing) × (slice_get drawings number ≡ Some drawing) × (notice ≡ notice_of drawing)
+    by : (found : Option Drawing) → slice_get drawings number ≡ found
+        → (drawing : Drawing) × (slice_get drawings number ≡ Some drawing) × (notice ≡ notice_of drawing)
     by None f = absurd (let wrong : None ≡ Some notice = ap (option_map notice_of) (sym f) ∙ sym (slice_get-map notice_of drawings number) ∙ e in cc)
     by (Some drawing) f =
         (drawing, f, sym (some_same (notice_of drawing) notice (ap (option_map notice_of) (sym f) ∙ sym (slice_get-map notice_of drawings number) ∙ e)))
@@ -76,7 +77,8 @@ there [] number less = absurd (omega (arith, less))
 there (item ∷ items) zero less = (item, refl)
 there (item ∷ items) (suc number) less = there items number (omega (arith, less))
 
-same_or_later : (drawings : List Drawing) → AscendFrom 0 0 drawings → (before after : ℕ) (notice : Announced) → before ≤ after → after ≤ length (map notice_of drawings)
+same_or_later : (drawings : List Drawing) → AscendFrom 0 0 drawings → (before after : ℕ) (notice : Announced) → before ≤ after
+    → after ≤ length (map notice_of drawings)
     → last_of (map notice_of drawings) before ≡ Some notice
     → (last : Announced) × (last_of (map notice_of drawings) after ≡ Some last) × ((notice ≡ last) ⊎ (notice.chunks < last.chunks))
 same_or_later drawings order zero after notice rising within e = absurd (let wrong : None ≡ Some notice = e in cc)
@@ -97,7 +99,8 @@ same_or_later drawings order (suc before) (suc after) notice rising within e =
 
 pub shows_no_less : (drawings : List Drawing) → AscendFrom 0 0 drawings → (earlier later : Answer) → LooksRise (map notice_of drawings) earlier later
     → ShowsNoLess earlier later
-shows_no_less drawings order earlier later rise = subst (λ a. ShowsNoLess a later) (sym rise.earlier_so) (by (last_of (map notice_of drawings) rise.before) refl)
+shows_no_less drawings order earlier later rise =
+    subst (λ a. ShowsNoLess a later) (sym rise.earlier_so) (by (last_of (map notice_of drawings) rise.before) refl)
   where
     by : (shown : Option Announced) → last_of (map notice_of drawings) rise.before ≡ shown → ShowsNoLess (Looked shown) later
     by None e = tt

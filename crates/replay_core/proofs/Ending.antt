@@ -104,7 +104,8 @@ told_end (Drew notice) end has = absurd (none_among end has)
 told_end (Looked notice) end has = absurd (none_among end has)
 told_end (AtEnd its) end has = ap AtEnd (one_among its end has)
 
-by_step : (table : List Row) (state : State) (page other : ℕ) (end : Ending) → Contains (told_at ends_told page (Step other) (answer table state (Step other))) end
+by_step : (table : List Row) (state : State) (page other : ℕ) (end : Ending)
+    → Contains (told_at ends_told page (Step other) (answer table state (Step other))) end
     → answer table state (Step page) ≡ AtEnd end
 by_step table state page other end has = by (eqb page other) refl has
   where
@@ -124,10 +125,12 @@ pub answered_in : Same → Both → (table : List Row) → NoticesOn table → R
     → answer table (state_after_all table state events) (Step page) ≡ AtEnd end
 answered_in same both table on runs state sound [] page end over has = absurd (none_among end has)
 answered_in same both table on runs state sound (event ∷ events) page end over has =
-    by (Contains-append_cases (told_at ends_told page event (answer table state event)) (ends_in page events (answers table (state_after table state event) events)) end has)
+    by (Contains-append_cases (told_at ends_told page event (answer table state event))
+    (ends_in page events (answers table (state_after table state event) events)) end has)
     (answered_in same both table on runs (state_after table state event) (sound_after_all same table on state sound (event ∷ [])) events page end over)
   where
-    by : Contains (told_at ends_told page event (answer table state event)) end ⊎ Contains (ends_in page events (answers table (state_after table state event) events)) end
+    by : Contains (told_at ends_told page event (answer table state event)) end
+        ⊎ Contains (ends_in page events (answers table (state_after table state event) events)) end
         → (Contains (ends_in page events (answers table (state_after table state event) events)) end
         → answer table (state_after_all table state (event ∷ events)) (Step page) ≡ AtEnd end)
         → answer table (state_after_all table state (event ∷ events)) (Step page) ≡ AtEnd end
@@ -161,7 +164,8 @@ looks_on table on state events page viewer other it next goes e le there = recor
   there = there.draws.room;
   earlier_so =
       ap (page_look table state.library) e
-      ∙ ap Looked (sym (last_front (page_notices table state.library it.file) (page_notices table (state_after_all table state events).library it.file) it.drawn le
+      ∙ ap Looked (sym (last_front (page_notices table state.library it.file)
+      (page_notices table (state_after_all table state events).library it.file) it.drawn le
       (on state.library (state_after_all table state events).library it.file goes)));
   later_so =
       ap (page_look table (state_after_all table state events).library) there.found
@@ -192,7 +196,9 @@ drawn_more table library it count le many = by (next_notice table library it) re
         → ((drawn_with next it).file ≡ it.file) × (length (page_notices table library it.file) ≤ (drawn_with next it).drawn + count)
         × ((drawn_with next it).drawn ≤ length (page_notices table library it.file))
     by None e = let all = none_left (page_notices table library it.file) it.drawn le e in (refl, omega (arith, all), le)
-    by (Some notice) e = let within = slice_get_within (page_notices table library it.file) it.drawn notice e in (refl, omega (arith, many), omega (arith, within))
+    by (Some notice) e =
+        let within = slice_get_within (page_notices table library it.file) it.drawn notice e in
+        (refl, omega (arith, many), omega (arith, within))
 
 pub steps_end : (table : List Row) (state : State) (page count : ℕ) (it : PageState) → slice_get state.pages page ≡ Some it
     → it.drawn ≤ length (page_notices table state.library it.file) → length (page_notices table state.library it.file) ≤ it.drawn + count

@@ -75,7 +75,8 @@ found_after table state (Step other) page it e = by (eqb page other) refl
         → slice_get (change_at (stepped table state.library) other state.pages) page ≡ Some (cond b (stepped table state.library it) it)
     by true is =
         let here = changed_here (stepped table state.library) state.pages page it e in
-        subst (λ n. slice_get (change_at (stepped table state.library) n state.pages) page ≡ Some (stepped table state.library it)) (eqb-true page other is) here
+        subst (λ n. slice_get (change_at (stepped table state.library) n state.pages) page ≡ Some (stepped table state.library it))
+        (eqb-true page other is) here
     by false is = changed_apart (stepped table state.library) state.pages other page (eqb-false page other is) ∙ e
 
 pub nowhere_after : (table : List Row) (state : State) (event : Event) (page : ℕ) → slice_get state.pages page ≡ None

@@ -34,7 +34,8 @@ GivenGrows = (table : List Row) (library later : Library) (page : ℕ) → IsTab
     → Within (run_given table library page) (run_given table later page)
 
 pub notices_on : NoticesGrow → GivenGrows → (table : List Row) → IsTable table → NoticesOn table
-notices_on grow within table is library later file goes = grow (run_given table library file) (run_given table later file) is (within table library later file is goes)
+notices_on grow within table is library later file goes =
+    grow (run_given table library file) (run_given table later file) is (within table library later file is goes)
 
 draws_none : (table : List Row) (library later : Library) (file count : ℕ) → Front (page_notices table library file) (page_notices table later file)
     → count ≤ length (page_notices table library file) → Draws table library later file count count []
@@ -42,7 +43,8 @@ draws_none table library later file count front le = record {
   room =
       let many = ap length front.1 ∙ length-append (page_notices table library file) front.0 in
       omega (arith, le, many);
-  told = ap (take count) front.1 ∙ take-append-le count (page_notices table library file) front.0 le ∙ sym (append-nil (take count (page_notices table library file)));
+  told = ap (take count) front.1 ∙ take-append-le count (page_notices table library file) front.0 le
+      ∙ sym (append-nil (take count (page_notices table library file)));
 }
 
 module _ (table : List Row) (library : Library) (it : PageState) (le : it.drawn ≤ length (page_notices table library it.file)) where
@@ -58,7 +60,8 @@ module _ (table : List Row) (library : Library) (it : PageState) (le : it.drawn 
   }
 
   by_page : (is_it : Bool) (found : Option PageState) → (is_it ≡ true → found ≡ Some it)
-      → Draws table library library it.file it.drawn (cond is_it (stepped table library it) it).drawn (cond is_it (notices_told (page_step table library found)) [])
+      → Draws table library library it.file it.drawn (cond is_it (stepped table library it) it).drawn
+      (cond is_it (notices_told (page_step table library found)) [])
   by_page false found so = stays
   by_page true found so =
       subst (λ f. Draws table library library it.file it.drawn (stepped table library it).drawn (notices_told (page_step table library f)))

@@ -177,7 +177,8 @@ ends_in page events answers = told_in ends_told page events answers
 
 -- of no page more notices were drawn than it has
 abbrev pub IsSound : List Row → State → Type 0
-IsSound table state = (number : ℕ) (page : PageState) → slice_get state.pages number ≡ Some page → page.drawn ≤ length (page_notices table state.library page.file)
+IsSound table state = (number : ℕ) (page : PageState) → slice_get state.pages number ≡ Some page
+    → page.drawn ≤ length (page_notices table state.library page.file)
 
 abbrev pub AllClosed : Library → Type 0
 AllClosed library = (file : ℕ) (it : File) → slice_get library file ≡ Some it → it.mark ≢ Open

@@ -38,7 +38,8 @@ module _ (c : goal.After-libraries_go_on) (table : List Row) (is : IsTable table
     drew (Some first) f =
         let there = reaches_it c.libraries_go_on.ensures.same table on (start names files) (sound_at_start table names files) events page first it f e in
         ap (λ file. take it.drawn (page_notices table (state_after_all table (start names files) events).library file)) there.file ∙ there.draws.told
-        ∙ ap (λ count. take count (page_notices table (start names files).library first.file) ++ drawn_in page events (answers table (start names files) events))
+        ∙ ap (λ count. take count (page_notices table (start names files).library first.file)
+        ++ drawn_in page events (answers table (start names files) events))
         (none_drawn files page first f)
 
     tells : (end : Ending) → HasEnded table (state_after_all table (start names files) events).library it end

@@ -39,37 +39,51 @@ knows_both : Knows flat_rows both_pieces 0 (pixel_notice 1 255 ∷ pixel_notice 
 unfolding digits is_utf8 chars encode file_limit most_bits most_decisions most_records columns_lifted rows_lifted samples_of preview_samples
 knows_both = record { notices_so = refl; end_so = refl }
 
-behind_both : answers flat_rows (one_page both_pieces (page_at 0 1)) (Step 0 ∷ Step 0 ∷ Look 1 0 ∷ [])
-    ≡ Drew (pixel_notice 2 0) ∷ AtEnd Finished ∷ Looked (Some (pixel_notice 2 0)) ∷ []
-behind_both =
-    step_then flat_rows both_pieces 0 1 (pixel_notice 1 255 ∷ pixel_notice 2 0 ∷ []) Finished (Step 0 ∷ Look 1 0 ∷ [])
-    (AtEnd Finished ∷ Looked (Some (pixel_notice 2 0)) ∷ []) knows_both
-    (step_then flat_rows both_pieces 0 2 (pixel_notice 1 255 ∷ pixel_notice 2 0 ∷ []) Finished (Look 1 0 ∷ []) (Looked (Some (pixel_notice 2 0)) ∷ []) knows_both
-    (look_then flat_rows both_pieces 0 2 1 (pixel_notice 1 255 ∷ pixel_notice 2 0 ∷ []) Finished [] [] knows_both refl))
+abbrev first_notices : List Announced
+first_notices = pixel_notice 1 255 ∷ []
 
-behind_first : answers flat_rows (one_page first_piece (page_at 0 0)) (Step 0 ∷ Step 0 ∷ Look 0 0 ∷ Feed 0 (drop 48 page_in_pieces) ∷ Step 0 ∷ Step 0 ∷ Look 1 0 ∷ [])
-    ≡ Drew (pixel_notice 1 255) ∷ AtEnd NeedBytes ∷ Looked (Some (pixel_notice 1 255)) ∷ Taken ∷ Drew (pixel_notice 2 0) ∷ AtEnd Finished
-    ∷ Looked (Some (pixel_notice 2 0)) ∷ []
+abbrev both_notices : List Announced
+both_notices = pixel_notice 1 255 ∷ pixel_notice 2 0 ∷ []
+
+-- what comes behind the second piece, and behind the first one
+abbrev last_events : List Event
+last_events = Step 0 ∷ Step 0 ∷ Look 1 0 ∷ []
+
+abbrev last_answers : List Answer
+last_answers = Drew (pixel_notice 2 0) ∷ AtEnd Finished ∷ Looked (Some (pixel_notice 2 0)) ∷ []
+
+abbrev more_events : List Event
+more_events = Feed 0 (drop 48 page_in_pieces) ∷ last_events
+
+abbrev more_answers : List Answer
+more_answers = Taken ∷ last_answers
+
+abbrev first_events : List Event
+first_events = Step 0 ∷ Step 0 ∷ Look 0 0 ∷ more_events
+
+abbrev first_answers : List Answer
+first_answers = Drew (pixel_notice 1 255) ∷ AtEnd NeedBytes ∷ Looked (Some (pixel_notice 1 255)) ∷ more_answers
+
+behind_both : answers flat_rows (one_page both_pieces (page_at 0 1)) last_events ≡ last_answers
+behind_both =
+    step_then flat_rows both_pieces 0 1 both_notices Finished (Step 0 ∷ Look 1 0 ∷ []) (AtEnd Finished ∷ Looked (Some (pixel_notice 2 0)) ∷ []) knows_both
+    (step_then flat_rows both_pieces 0 2 both_notices Finished (Look 1 0 ∷ []) (Looked (Some (pixel_notice 2 0)) ∷ []) knows_both
+    (look_then flat_rows both_pieces 0 2 1 both_notices Finished [] [] knows_both refl))
+
+behind_first : answers flat_rows (one_page first_piece (page_at 0 0)) first_events ≡ first_answers
 behind_first =
-    step_then flat_rows first_piece 0 0 (pixel_notice 1 255 ∷ []) NeedBytes (Step 0 ∷ Look 0 0 ∷ Feed 0 (drop 48 page_in_pieces) ∷ Step 0 ∷ Step 0 ∷ Look 1 0 ∷ [])
-    (AtEnd NeedBytes ∷ Looked (Some (pixel_notice 1 255)) ∷ Taken ∷ Drew (pixel_notice 2 0) ∷ AtEnd Finished ∷ Looked (Some (pixel_notice 2 0)) ∷ []) knows_first
-    (step_then flat_rows first_piece 0 1 (pixel_notice 1 255 ∷ []) NeedBytes (Look 0 0 ∷ Feed 0 (drop 48 page_in_pieces) ∷ Step 0 ∷ Step 0 ∷ Look 1 0 ∷ [])
-    (Looked (Some (pixel_notice 1 255)) ∷ Taken ∷ Drew (pixel_notice 2 0) ∷ AtEnd Finished ∷ Looked (Some (pixel_notice 2 0)) ∷ []) knows_first
-    (look_then flat_rows first_piece 0 1 0 (pixel_notice 1 255 ∷ []) NeedBytes (Feed 0 (drop 48 page_in_pieces) ∷ Step 0 ∷ Step 0 ∷ Look 1 0 ∷ [])
-    (Taken ∷ Drew (pixel_notice 2 0) ∷ AtEnd Finished ∷ Looked (Some (pixel_notice 2 0)) ∷ []) knows_first
-    (event_then flat_rows (one_page first_piece (page_at 0 1)) (one_page both_pieces (page_at 0 1)) (Feed 0 (drop 48 page_in_pieces)) (Step 0 ∷ Step 0 ∷ Look 1 0 ∷ [])
-    Taken (Drew (pixel_notice 2 0) ∷ AtEnd Finished ∷ Looked (Some (pixel_notice 2 0)) ∷ []) refl refl behind_both)))
+    step_then flat_rows first_piece 0 0 first_notices NeedBytes (Step 0 ∷ Look 0 0 ∷ more_events)
+    (AtEnd NeedBytes ∷ Looked (Some (pixel_notice 1 255)) ∷ more_answers) knows_first
+    (step_then flat_rows first_piece 0 1 first_notices NeedBytes (Look 0 0 ∷ more_events) (Looked (Some (pixel_notice 1 255)) ∷ more_answers) knows_first
+    (look_then flat_rows first_piece 0 1 0 first_notices NeedBytes more_events more_answers knows_first
+    (event_then flat_rows (one_page first_piece (page_at 0 1)) (one_page both_pieces (page_at 0 1)) (Feed 0 (drop 48 page_in_pieces)) last_events
+    Taken last_answers refl refl behind_both)))
 
 pub returns-clause-pieces : goal.returns-clause-pieces
 returns-clause-pieces c =
-    event_then flat_rows alone alone (Look 0 0) (Feed 0 (take 48 page_in_pieces) ∷ Step 0 ∷ Step 0 ∷ Look 0 0 ∷ Feed 0 (drop 48 page_in_pieces) ∷ Step 0 ∷ Step 0 ∷ Look 1 0 ∷ [])
-    (Looked None)
-    (Taken ∷ Drew (pixel_notice 1 255) ∷ AtEnd NeedBytes ∷ Looked (Some (pixel_notice 1 255)) ∷ Taken ∷ Drew (pixel_notice 2 0) ∷ AtEnd Finished
-    ∷ Looked (Some (pixel_notice 2 0)) ∷ []) refl refl
-    (event_then flat_rows alone (one_page first_piece (page_at 0 0)) (Feed 0 (take 48 page_in_pieces))
-    (Step 0 ∷ Step 0 ∷ Look 0 0 ∷ Feed 0 (drop 48 page_in_pieces) ∷ Step 0 ∷ Step 0 ∷ Look 1 0 ∷ []) Taken
-    (Drew (pixel_notice 1 255) ∷ AtEnd NeedBytes ∷ Looked (Some (pixel_notice 1 255)) ∷ Taken ∷ Drew (pixel_notice 2 0) ∷ AtEnd Finished
-    ∷ Looked (Some (pixel_notice 2 0)) ∷ []) refl refl behind_first)
+    event_then flat_rows alone alone (Look 0 0) (Feed 0 (take 48 page_in_pieces) ∷ first_events) (Looked None) (Taken ∷ first_answers) refl refl
+    (event_then flat_rows alone (one_page first_piece (page_at 0 0)) (Feed 0 (take 48 page_in_pieces)) first_events Taken first_answers refl refl
+    behind_first)
 
 -- ---- a page before its dictionary
 
@@ -87,39 +101,50 @@ knows_both_files : Knows flat_rows page_and_dictionary 1 (pixel_notice 1 255 ∷
 unfolding digits is_utf8 chars encode file_limit most_bits most_decisions most_records columns_lifted rows_lifted samples_of preview_samples
 knows_both_files = record { notices_so = refl; end_so = refl }
 
-behind_dictionary : answers flat_rows (one_page page_and_dictionary (page_at 1 2)) (Step 0 ∷ Step 0 ∷ Step 0 ∷ Look 0 0 ∷ [])
-    ≡ Drew (pixel_notice 4 0) ∷ AtEnd Finished ∷ AtEnd Finished ∷ Looked (Some (pixel_notice 4 0)) ∷ []
-behind_dictionary =
-    let notices : List Announced = pixel_notice 1 255 ∷ pixel_notice 3 127 ∷ pixel_notice 4 0 ∷ [] in
-    step_then flat_rows page_and_dictionary 1 2 notices Finished (Step 0 ∷ Step 0 ∷ Look 0 0 ∷ [])
-    (AtEnd Finished ∷ AtEnd Finished ∷ Looked (Some (pixel_notice 4 0)) ∷ []) knows_both_files
-    (step_then flat_rows page_and_dictionary 1 3 notices Finished (Step 0 ∷ Look 0 0 ∷ []) (AtEnd Finished ∷ Looked (Some (pixel_notice 4 0)) ∷ []) knows_both_files
-    (step_then flat_rows page_and_dictionary 1 3 notices Finished (Look 0 0 ∷ []) (Looked (Some (pixel_notice 4 0)) ∷ []) knows_both_files
-    (look_then flat_rows page_and_dictionary 1 3 0 notices Finished [] [] knows_both_files refl)))
+abbrev page_drawn : List Announced
+page_drawn = pixel_notice 1 255 ∷ pixel_notice 3 127 ∷ []
 
-behind_page : answers flat_rows (one_page page_alone (page_at 1 0)) (Step 0 ∷ Step 0 ∷ Step 0 ∷ Look 0 0 ∷ Feed 0 dictionary_file ∷ Step 0 ∷ Step 0 ∷ Step 0 ∷ Look 0 0 ∷ [])
-    ≡ Drew (pixel_notice 1 255) ∷ Drew (pixel_notice 3 127) ∷ AtEnd (NeedFile 0) ∷ Looked (Some (pixel_notice 3 127)) ∷ Taken ∷ Drew (pixel_notice 4 0)
-    ∷ AtEnd Finished ∷ AtEnd Finished ∷ Looked (Some (pixel_notice 4 0)) ∷ []
+abbrev all_drawn : List Announced
+all_drawn = pixel_notice 1 255 ∷ pixel_notice 3 127 ∷ pixel_notice 4 0 ∷ []
+
+-- what comes behind the dictionary
+abbrev steps_behind : List Event
+steps_behind = Step 0 ∷ Step 0 ∷ Step 0 ∷ Look 0 0 ∷ []
+
+abbrev told_behind : List Answer
+told_behind = Drew (pixel_notice 4 0) ∷ AtEnd Finished ∷ AtEnd Finished ∷ Looked (Some (pixel_notice 4 0)) ∷ []
+
+abbrev with_dictionary : List Event
+with_dictionary = Feed 0 dictionary_file ∷ steps_behind
+
+abbrev told_with : List Answer
+told_with = Taken ∷ told_behind
+
+behind_dictionary : answers flat_rows (one_page page_and_dictionary (page_at 1 2)) steps_behind ≡ told_behind
+behind_dictionary =
+    step_then flat_rows page_and_dictionary 1 2 all_drawn Finished (Step 0 ∷ Step 0 ∷ Look 0 0 ∷ [])
+    (AtEnd Finished ∷ AtEnd Finished ∷ Looked (Some (pixel_notice 4 0)) ∷ []) knows_both_files
+    (step_then flat_rows page_and_dictionary 1 3 all_drawn Finished (Step 0 ∷ Look 0 0 ∷ [])
+    (AtEnd Finished ∷ Looked (Some (pixel_notice 4 0)) ∷ []) knows_both_files
+    (step_then flat_rows page_and_dictionary 1 3 all_drawn Finished (Look 0 0 ∷ []) (Looked (Some (pixel_notice 4 0)) ∷ []) knows_both_files
+    (look_then flat_rows page_and_dictionary 1 3 0 all_drawn Finished [] [] knows_both_files refl)))
+
+behind_page : answers flat_rows (one_page page_alone (page_at 1 0)) (Step 0 ∷ Step 0 ∷ Step 0 ∷ Look 0 0 ∷ with_dictionary)
+    ≡ Drew (pixel_notice 1 255) ∷ Drew (pixel_notice 3 127) ∷ AtEnd (NeedFile 0) ∷ Looked (Some (pixel_notice 3 127)) ∷ told_with
 behind_page =
-    let notices : List Announced = pixel_notice 1 255 ∷ pixel_notice 3 127 ∷ [] in
-    let behind : List Event = Step 0 ∷ Step 0 ∷ Step 0 ∷ Look 0 0 ∷ [] in
-    let told : List Answer = Drew (pixel_notice 4 0) ∷ AtEnd Finished ∷ AtEnd Finished ∷ Looked (Some (pixel_notice 4 0)) ∷ [] in
-    step_then flat_rows page_alone 1 0 notices (NeedFile 0) (Step 0 ∷ Step 0 ∷ Look 0 0 ∷ Feed 0 dictionary_file ∷ behind)
-    (Drew (pixel_notice 3 127) ∷ AtEnd (NeedFile 0) ∷ Looked (Some (pixel_notice 3 127)) ∷ Taken ∷ told) knows_page
-    (step_then flat_rows page_alone 1 1 notices (NeedFile 0) (Step 0 ∷ Look 0 0 ∷ Feed 0 dictionary_file ∷ behind)
-    (AtEnd (NeedFile 0) ∷ Looked (Some (pixel_notice 3 127)) ∷ Taken ∷ told) knows_page
-    (step_then flat_rows page_alone 1 2 notices (NeedFile 0) (Look 0 0 ∷ Feed 0 dictionary_file ∷ behind)
-    (Looked (Some (pixel_notice 3 127)) ∷ Taken ∷ told) knows_page
-    (look_then flat_rows page_alone 1 2 0 notices (NeedFile 0) (Feed 0 dictionary_file ∷ behind) (Taken ∷ told) knows_page
-    (event_then flat_rows (one_page page_alone (page_at 1 2)) (one_page page_and_dictionary (page_at 1 2)) (Feed 0 dictionary_file) behind Taken told refl refl
-    behind_dictionary))))
+    step_then flat_rows page_alone 1 0 page_drawn (NeedFile 0) (Step 0 ∷ Step 0 ∷ Look 0 0 ∷ with_dictionary)
+    (Drew (pixel_notice 3 127) ∷ AtEnd (NeedFile 0) ∷ Looked (Some (pixel_notice 3 127)) ∷ told_with) knows_page
+    (step_then flat_rows page_alone 1 1 page_drawn (NeedFile 0) (Step 0 ∷ Look 0 0 ∷ with_dictionary)
+    (AtEnd (NeedFile 0) ∷ Looked (Some (pixel_notice 3 127)) ∷ told_with) knows_page
+    (step_then flat_rows page_alone 1 2 page_drawn (NeedFile 0) (Look 0 0 ∷ with_dictionary) (Looked (Some (pixel_notice 3 127)) ∷ told_with) knows_page
+    (look_then flat_rows page_alone 1 2 0 page_drawn (NeedFile 0) with_dictionary told_with knows_page
+    (event_then flat_rows (one_page page_alone (page_at 1 2)) (one_page page_and_dictionary (page_at 1 2)) (Feed 0 dictionary_file) steps_behind
+    Taken told_behind refl refl behind_dictionary))))
 
 pub returns-clause-late : goal.returns-clause-late
 returns-clause-late c =
-    event_then flat_rows two_files (one_page page_alone (page_at 1 0)) (Feed 1 page_before)
-    (Step 0 ∷ Step 0 ∷ Step 0 ∷ Look 0 0 ∷ Feed 0 dictionary_file ∷ Step 0 ∷ Step 0 ∷ Step 0 ∷ Look 0 0 ∷ []) Taken
-    (Drew (pixel_notice 1 255) ∷ Drew (pixel_notice 3 127) ∷ AtEnd (NeedFile 0) ∷ Looked (Some (pixel_notice 3 127)) ∷ Taken ∷ Drew (pixel_notice 4 0)
-    ∷ AtEnd Finished ∷ AtEnd Finished ∷ Looked (Some (pixel_notice 4 0)) ∷ []) refl refl behind_page
+    event_then flat_rows two_files (one_page page_alone (page_at 1 0)) (Feed 1 page_before) (Step 0 ∷ Step 0 ∷ Step 0 ∷ Look 0 0 ∷ with_dictionary) Taken
+    (Drew (pixel_notice 1 255) ∷ Drew (pixel_notice 3 127) ∷ AtEnd (NeedFile 0) ∷ Looked (Some (pixel_notice 3 127)) ∷ told_with) refl refl behind_page
 
 -- ---- a page that breaks off
 

@@ -94,7 +94,7 @@ same_or_later drawings order (suc before) (suc after) notice rising within e =
         let first = its_drawing drawings before notice e in
         let second = its_drawing drawings after last f in
         let less : first.0.chunks < second.0.chunks =
-            later_above drawings 0 0 before after first.0 second.0 order first.1 second.1 (omega (arith, rising, apart)) in
+        later_above drawings 0 0 before after first.0 second.0 order first.1 second.1 (omega (arith, rising, apart)) in
         inr (subst (λ (n : Announced). n.chunks < last.chunks) (sym first.2) (subst (λ (n : Announced). first.0.chunks < n.chunks) (sym second.2) less))
 
 pub shows_no_less : (drawings : List Drawing) → AscendFrom 0 0 drawings → (earlier later : Answer) → LooksRise (map notice_of drawings) earlier later

@@ -210,6 +210,6 @@ steps_end table state page (suc count) it e le many =
     let more = drawn_more table state.library it count le many in
     let next = stepped table state.library it in
     let rest = steps_end table (state_after table state (Step page)) page count next (next_page table state page it e)
-        (subst (λ f. next.drawn ≤ length (page_notices table state.library f)) (sym more.0) more.2)
-        (subst (λ f. length (page_notices table state.library f) ≤ next.drawn + count) (sym more.0) more.1) in
+    (subst (λ f. next.drawn ≤ length (page_notices table state.library f)) (sym more.0) more.2)
+    (subst (λ f. length (page_notices table state.library f) ≤ next.drawn + count) (sym more.0) more.1) in
     rest ∙ ap (λ f. AtEnd (run table state.library f).end) more.0

@@ -107,18 +107,20 @@ reaches same table on state (event ∷ events) page it e le =
     let goes = page_on table state.library page event it in
     let draws = draws_after same table on state event page it e le in
     let room : first.drawn ≤ length (page_notices table (state_after table state event).library first.file) =
-        subst (λ f. first.drawn ≤ length (page_notices table (state_after table state event).library f)) (sym goes.file) draws.room in
+    subst (λ f. first.drawn ≤ length (page_notices table (state_after table state event).library f)) (sym goes.file) draws.room in
     let rest = reaches same table on (state_after table state event) events page first (found_after table state event page it e) room in
     let more = subst (λ f. Draws table (state_after table state event).library (state_after_all table (state_after table state event) events).library f
-        first.drawn rest.0.drawn (drawn_in page events (answers table (state_after table state event) events))) goes.file rest.1.draws in
-    (rest.0, record {
-      found = rest.1.found;
-      file = rest.1.file ∙ goes.file;
-      rises = omega (arith, goes.drawn, rest.1.rises);
-      draws = draws_then table state.library (state_after table state event).library (state_after_all table (state_after table state event) events).library
-          it.file it.drawn first.drawn rest.0.drawn (told_at notices_told page event (answer table state event))
-          (drawn_in page events (answers table (state_after table state event) events)) draws more;
-    })
+    first.drawn rest.0.drawn (drawn_in page events (answers table (state_after table state event) events))) goes.file rest.1.draws in (
+      rest.0,
+      record {
+        found = rest.1.found;
+        file = rest.1.file ∙ goes.file;
+        rises = omega (arith, goes.drawn, rest.1.rises);
+        draws = draws_then table state.library (state_after table state event).library (state_after_all table (state_after table state event) events).library
+            it.file it.drawn first.drawn rest.0.drawn (told_at notices_told page event (answer table state event))
+            (drawn_in page events (answers table (state_after table state event) events)) draws more;
+      },
+    )
 
 -- the same for a page that is known to stand there
 pub reaches_it : Same → (table : List Row) → NoticesOn table → (state : State) → IsSound table state → (events : List Event) (page : ℕ)

@@ -27,7 +27,7 @@ pub fn worked_ends()
     ensures { state_after_all flat_rows (start (codes "p" ∷ codes "q" ∷ []) (1 ∷ []))
         (Feed 0 (1 ∷ []) ∷ End 0 file_end.Broken ∷ Feed 0 (2 ∷ []) ∷ End 0 file_end.Whole
         ∷ Feed 1 (3 ∷ []) ∷ Feed 1 (4 ∷ []) ∷ End 2 file_end.Whole ∷ []) ≡ record {
-        library = record { name = codes "p"; bytes = 1 ∷ []; mark = Broken } ∷ record { name = codes "q"; bytes = 3 ∷ 4 ∷ []; mark = Open } ∷ [];
-        pages = record { file = 1; drawn = 0 } ∷ [];
-    } }
+          library = record { name = codes "p"; bytes = 1 ∷ []; mark = Broken } ∷ record { name = codes "q"; bytes = 3 ∷ 4 ∷ []; mark = Open } ∷ [];
+          pages = record { file = 1; drawn = 0 } ∷ [];
+        } }
 {}

@@ -11,6 +11,8 @@ returns-clause-steps c table state page it closed e below =
     (goes_well table state.library it (c.closed_libraries.ensures.over table state.library it.file below closed))
 
 pub returns-clause-ends : goal.returns-clause-ends
-returns-clause-ends c table state page count it is sound closed e below many =
-    ((run table state.library it.file).end, c.closed_libraries.ensures.over table state.library it.file below closed,
-    steps_end table state page count it e (sound page it e) many)
+returns-clause-ends c table state page count it is sound closed e below many = (
+  (run table state.library it.file).end,
+  c.closed_libraries.ensures.over table state.library it.file below closed,
+  steps_end table state page count it e (sound page it e) many,
+)

@@ -11,9 +11,11 @@ returns-clause-first c table names files events page file later is e goes =
     let then = reaches c.libraries_go_on.ensures.same table on state events page (unread_page file) (unread files page file e) (omega arith) in
     let now = page_notices table (state_after_all table state events).library file in
     let grown = on (state_after_all table state events).library later file goes in
-    let drew : take then.0.drawn now ≡ drawn_in page events (answers table state events) = then.1.draws.told in
-    (drop then.0.drawn now ++ grown.0, grown.1 ∙ ap (λ l. l ++ grown.0) (sym (take-append-drop then.0.drawn now))
-    ∙ append_assoc (take then.0.drawn now) (drop then.0.drawn now) grown.0 ∙ ap (λ l. l ++ (drop then.0.drawn now ++ grown.0)) drew)
+    let drew : take then.0.drawn now ≡ drawn_in page events (answers table state events) = then.1.draws.told in (
+      drop then.0.drawn now ++ grown.0,
+      grown.1 ∙ ap (λ l. l ++ grown.0) (sym (take-append-drop then.0.drawn now))
+          ∙ append_assoc (take then.0.drawn now) (drop then.0.drawn now) grown.0 ∙ ap (λ l. l ++ (drop then.0.drawn now ++ grown.0)) drew,
+    )
 
 pub returns-clause-next : goal.returns-clause-next
 returns-clause-next c table state events page it next is sound e f =

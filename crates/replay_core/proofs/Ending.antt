@@ -1,6 +1,6 @@
 -- Pages at their ends, and looks at pages.
-use Rattle.std.proofs.Common.{◌≡◌, ◌<◌, ◌≤◌, ◌+◌, ℕ, zero, suc, Bool, true, false, cond, eqb, Option, Some, None, ◌⊎◌, inl, inr, List, [], ◌∷◌, ◌++◌, length, take, map, refl, sym, ap, ◌∙◌, subst, arith}
-use Rattle.std.specs.Prelude.{slice_get, slice_index_or, replicate}
+use Rattle.std.proofs.Common.{◌≡◌, ◌≤◌, ◌+◌, ℕ, zero, suc, Bool, true, false, cond, eqb, Option, Some, None, ◌⊎◌, inl, inr, List, [], ◌∷◌, length, map, refl, sym, ap, ◌∙◌, subst, arith}
+use Rattle.std.specs.Prelude.{slice_get, replicate}
 use Rattle.std.specs.List.{Contains}
 use Rattle.std.proofs.lemmas.Bool.{eqb-true}
 use Rattle.std.proofs.lemmas.List.{length-map}
@@ -9,13 +9,11 @@ use Rattle.std.proofs.lemmas.Option.{slice_get_past, slice_get_within}
 use Rattle.djvu_base.specs.Library.{Library}
 use Rattle.djvu_base.specs.Announced.{Announced}
 use Rattle.zp_table.specs.declared.rows.Row.{Row}
-use Rattle.layer_compose.specs.declared.layers.Layers.{Layers}
-use Rattle.page_decoder.specs.Given.{Front}
 use Rattle.page_decoder.specs.PageRead.{Drawing, Ending, NeedBytes, PageRead, notice_of, last_layers}
 use Rattle.page_decoder.specs.Libraries.{run, LibraryGoesOn}
 use Rattle.page_decoder.specs.Needs.{IsOver}
 use Rattle.replay_core.specs.Machine.{PageState, State, Event, Feed, End, Step, Look, Answer, Taken, Drew, AtEnd, Looked, last_of, page_notices, page_layers, layers_drawn, next_notice, step_answer, page_step, page_look, state_after, state_after_all, answer, answers, ends_told, told_at, ends_in, IsSound, LooksRise, HasEnded, GoesWell, Draws, Ends, drawn_with, stepped}
-use Rattle.replay_core.proofs.Listing.{some_same, changed_here, none_left, last_front}
+use Rattle.replay_core.proofs.Listing.{changed_here, none_left, last_front}
 use Rattle.replay_core.proofs.Moving.{Same, Both, library_after_all}
 use Rattle.replay_core.proofs.Told.{NoticesOn, Reaches, reaches, sound_after_all}
 

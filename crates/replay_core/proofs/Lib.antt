@@ -5,3 +5,4 @@ mod Ending
 mod Drawings
 mod Needing
 mod Stepwise
+mod Counting

@@ -1,16 +1,15 @@
 -- What an event makes of the library and of one page.
-use Rattle.std.proofs.Common.{◌≡◌, ◌<◌, ◌≤◌, ◌+◌, ℕ, zero, suc, Bool, true, false, cond, eqb, Option, Some, None, ◌⊎◌, inl, inr, List, [], ◌∷◌, ◌++◌, length, take, map, refl, sym, ap, ◌∙◌, subst, arith}
+use Rattle.std.proofs.Common.{◌≡◌, ℕ, zero, suc, Bool, true, false, cond, eqb, Option, Some, None, inl, inr, List, [], ◌∷◌, refl, sym, ◌∙◌, subst, arith}
 use Rattle.std.specs.Prelude.{slice_get}
 use Rattle.std.proofs.lemmas.Bool.{eqb-true, eqb-false}
 use Rattle.std.proofs.lemmas.List.{append-nil}
-use Rattle.djvu_base.specs.Library.{Mark, Open, Whole, Broken, mark_of, File, Library}
+use Rattle.djvu_base.specs.Library.{Mark, Open, Whole, Broken, File, Library}
 use Rattle.djvu_base.specs.Announced.{Announced}
 use Rattle.djvu_base.specs.declared.ends.FileEnd.{FileEnd}
 use Rattle.zp_table.specs.declared.rows.Row.{Row}
-use Rattle.page_decoder.specs.Given.{Front}
-use Rattle.page_decoder.specs.Libraries.{run, FileGoesOn, LibraryGoesOn}
-use Rattle.replay_core.specs.Machine.{PageState, State, Event, Feed, End, Step, Look, change_at, fed_by, fed, ended_by, ended, page_notices, next_notice, drawn_with, stepped, state_after, state_after_all, PageGoesOn, IsSound}
-use Rattle.replay_core.proofs.Listing.{some_same, changed_here, changed_apart, changed_nowhere}
+use Rattle.page_decoder.specs.Libraries.{FileGoesOn, LibraryGoesOn}
+use Rattle.replay_core.specs.Machine.{PageState, State, Event, Feed, End, Step, Look, change_at, fed_by, fed, ended_by, ended, next_notice, drawn_with, stepped, state_after, state_after_all, PageGoesOn}
+use Rattle.replay_core.proofs.Listing.{changed_here, changed_apart, changed_nowhere}
 
 -- ---- the library
 

@@ -1,14 +1,13 @@
 -- What steps need.
-use Rattle.std.proofs.Common.{◌≡◌, ◌<◌, ◌≤◌, ℕ, Bool, true, Option, Some, None, is_some, ◌⊎◌, inl, inr, List, length, refl, sym, ap, ◌∙◌, subst, arith}
+use Rattle.std.proofs.Common.{◌≡◌, ◌<◌, ℕ, Bool, true, Option, Some, None, is_some, List, length, refl, sym, ap, ◌∙◌}
 use Rattle.std.specs.Prelude.{slice_get, ◌≢◌}
 use Rattle.djvu_base.specs.Library.{Mark, Open, Whole, Broken, File, Library}
-use Rattle.djvu_base.specs.Announced.{Announced}
 use Rattle.zp_table.specs.declared.rows.Row.{Row}
 use Rattle.include_graph.specs.Outlines.{outline_of}
 use Rattle.page_decoder.specs.PageRead.{Ending, Finished, Refused, NeedBytes, NeedOutline, NeedFile}
 use Rattle.page_decoder.specs.Read.{read}
 use Rattle.page_decoder.specs.Libraries.{mark_in, outline_in_file, outlines_in, run_given, run, run_end}
-use Rattle.replay_core.specs.Machine.{PageState, Answer, AtEnd, next_notice, page_step}
+use Rattle.replay_core.specs.Machine.{PageState, AtEnd, next_notice, page_step}
 use Rattle.replay_core.proofs.Ending.{at_end}
 use Rattle.replay_core.proofs.Drawings.{there}
 

@@ -1,12 +1,12 @@
 -- Runs with one page, event by event.
-use Rattle.std.proofs.Common.{◌≡◌, ◌∙◌, ap, ℕ, Option, Some, List, [], ◌∷◌}
+use Rattle.std.proofs.Common.{◌≡◌, ◌∙◌, ap, ℕ, List, [], ◌∷◌}
 use Rattle.std.specs.Prelude.{slice_get}
 use Rattle.djvu_base.specs.Library.{Library}
 use Rattle.djvu_base.specs.Announced.{Announced}
 use Rattle.zp_table.specs.declared.rows.Row.{Row}
 use Rattle.page_decoder.specs.PageRead.{Ending}
 use Rattle.page_decoder.specs.Libraries.{run}
-use Rattle.replay_core.specs.Machine.{PageState, State, Event, Feed, Step, Look, Answer, Taken, Looked, last_of, page_notices, step_answer, drawn_with, change_at, fed, state_after, answer, answers}
+use Rattle.replay_core.specs.Machine.{PageState, State, Event, Step, Look, Answer, Looked, last_of, page_notices, step_answer, drawn_with, state_after, answer, answers}
 
 abbrev pub page_at : ℕ → ℕ → PageState
 page_at file drawn = record { file = file; drawn = drawn }

@@ -1,5 +1,5 @@
 -- What steps draw of a page, in a library that goes on.
-use Rattle.std.proofs.Common.{◌≡◌, ◌<◌, ◌≤◌, ◌+◌, ℕ, zero, suc, Bool, true, false, cond, eqb, Option, Some, None, List, [], ◌∷◌, ◌++◌, length, take, map, refl, sym, ap, ◌∙◌, subst, append_assoc, arith}
+use Rattle.std.proofs.Common.{◌≡◌, ◌≤◌, ℕ, zero, suc, Bool, true, false, cond, eqb, Option, Some, None, List, [], ◌∷◌, ◌++◌, length, take, map, refl, sym, ap, ◌∙◌, subst, append_assoc, arith}
 use Rattle.std.specs.Prelude.{slice_get}
 use Rattle.std.proofs.lemmas.Bool.{eqb-true}
 use Rattle.std.proofs.lemmas.List.{append-nil, length-append, take-append-le}
@@ -9,12 +9,12 @@ use Rattle.djvu_base.specs.Announced.{Announced}
 use Rattle.zp_table.specs.declared.rows.Row.{Row}
 use Rattle.zp_table.specs.Rows.{IsTable}
 use Rattle.page_decoder.specs.Given.{Given, Front, Within}
-use Rattle.page_decoder.specs.PageRead.{Ending, notices_of}
+use Rattle.page_decoder.specs.PageRead.{notices_of}
 use Rattle.page_decoder.specs.Read.{read}
 use Rattle.page_decoder.specs.Libraries.{run_given, run, LibraryGoesOn}
-use Rattle.replay_core.specs.Machine.{PageState, State, Event, Feed, End, Step, Look, Answer, page_notices, next_notice, drawn_with, stepped, step_answer, page_step, state_after, state_after_all, answer, answers, notices_told, told_at, told_in, drawn_in, unread_page, start, IsSound}
+use Rattle.replay_core.specs.Machine.{PageState, State, Event, Feed, End, Step, Look, page_notices, next_notice, drawn_with, stepped, step_answer, page_step, state_after, state_after_all, answer, answers, notices_told, told_at, drawn_in, unread_page, start, IsSound}
 use Rattle.replay_core.proofs.Listing.{some_same, take_next}
-use Rattle.replay_core.proofs.Moving.{Same, Both, library_after, library_after_all, page_after, page_on, found_after, IsThen, page_then, nowhere_then}
+use Rattle.replay_core.proofs.Moving.{Same, library_after, page_after, page_on, found_after, nowhere_then}
 
 -- the notices of a page go on with the library
 abbrev pub NoticesOn : List Row → Type 0

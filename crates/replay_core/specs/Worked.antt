@@ -1,14 +1,12 @@
 -- Runs of the machine that are worked out. Their table is that of one row, with which each decision is a bit of the input inverted.
 use Rattle.std.specs.Prelude.{ℕ, ◌*◌, List, [], ◌∷◌, ◌++◌, take, drop, codes}
 use Rattle.djvu_base.specs.Announced.{Announced}
-use Rattle.djvu_base.specs.declared.ends.FileEnd.{FileEnd}
 use Rattle.djvu_base.specs.declared.ends.FileEnd.TheVariants as file_end
 use Rattle.iff_chunks.specs.Worked.{page}
-use Rattle.zp_table.specs.Listing.{flat_rows}
 use Rattle.include_graph.specs.Worked.{include_of}
 use Rattle.page_decoder.specs.Worked.{mask_chunk, dot_bytes, dot_file}
 use Rattle.page_decoder.specs.WorkedPages.{grey_chunk, copying_mask, dictionary_file}
-use Rattle.replay_core.specs.Machine.{Event, Feed, End, Step, Look, Answer, State, start, answers}
+use Rattle.replay_core.specs.Machine.{Event, Feed, End, Step, Look, State, start}
 
 -- the notice of a page of one pixel whose three samples are this number
 abbrev pub pixel_notice : ℕ → ℕ → Announced

@@ -1,5 +1,4 @@
-use Rattle.std.proofs.Common.{◌≡◌, ℕ, Some, List, sym, subst}
-use Rattle.zp_table.specs.declared.rows.Row.{Row}
+use Rattle.std.proofs.Common.{sym, subst}
 use Rattle.page_decoder.specs.Libraries.{run}
 use Rattle.replay_core.specs.Machine.{page_step, GoesWell}
 use Rattle.replay_core.proofs.Ending.{goes_well, steps_end}

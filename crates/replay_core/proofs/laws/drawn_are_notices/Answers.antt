@@ -1,4 +1,4 @@
-use Rattle.std.proofs.Common.{◌≡◌, List, ◌++◌, take, drop, sym, ap, ◌∙◌, append_assoc, arith}
+use Rattle.std.proofs.Common.{◌≡◌, ◌++◌, take, drop, sym, ap, ◌∙◌, append_assoc, arith}
 use Rattle.std.proofs.lemmas.List.{take-append-drop}
 use Rattle.replay_core.specs.Machine.{unread_page, state_after_all, answers, start, drawn_in, page_notices}
 use Rattle.replay_core.proofs.Told.{notices_on, reaches, reaches_it, unread}

@@ -5,11 +5,11 @@ use Rattle.std.proofs.Math.Seq.{take-length}
 use Rattle.zp_table.specs.declared.rows.Row.{Row}
 use Rattle.zp_table.specs.Rows.{IsTable}
 use Rattle.page_decoder.specs.PageRead.{Ending}
-use Rattle.page_decoder.specs.Libraries.{run_given, run, shown_by, page_in}
+use Rattle.page_decoder.specs.Libraries.{run_given, run, shown_by}
 use Rattle.page_decoder.specs.Needs.{IsOver}
 use Rattle.replay_core.specs.Machine.{PageState, Event, page_step, state_after_all, answers, start, drawn_in, ends_in, page_notices, layers_drawn, HasEnded, TellsPage}
 use Rattle.replay_core.proofs.Moving.{nowhere_then}
-use Rattle.replay_core.proofs.Told.{NoticesOn, notices_on, Reaches, reaches_it, sound_after_all, none_drawn, sound_at_start}
+use Rattle.replay_core.proofs.Told.{NoticesOn, notices_on, reaches_it, sound_after_all, none_drawn, sound_at_start}
 use Rattle.replay_core.proofs.Ending.{RunsStay, ended_at, stays_ended, answered_in, layers_of_all}
 use Rattle.replay_core.proofs.laws.ends_stay.Goals as goal
 

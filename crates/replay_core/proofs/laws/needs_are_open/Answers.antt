@@ -1,6 +1,6 @@
-use Rattle.std.proofs.Common.{◌≡◌, ℕ, Some, sym, ap, ◌∙◌}
+use Rattle.std.proofs.Common.{◌≡◌, sym, ap, ◌∙◌}
 use Rattle.std.specs.Prelude.{slice_get}
-use Rattle.page_decoder.specs.PageRead.{Ending, NeedBytes, NeedOutline, NeedFile}
+use Rattle.page_decoder.specs.PageRead.{NeedBytes, NeedOutline, NeedFile}
 use Rattle.page_decoder.specs.Read.{read}
 use Rattle.page_decoder.specs.Libraries.{run_given}
 use Rattle.replay_core.specs.Machine.{page_step}

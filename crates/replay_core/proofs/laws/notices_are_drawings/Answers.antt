@@ -1,11 +1,11 @@
-use Rattle.std.proofs.Common.{◌≡◌, ℕ, zero, suc, Option, Some, None, List, refl, sym, ap, ◌∙◌}
+use Rattle.std.proofs.Common.{◌≡◌, ℕ, zero, suc, Option, Some, None, List, sym, ap, ◌∙◌}
 use Rattle.std.specs.Prelude.{slice_get}
 use Rattle.djvu_base.specs.Announced.{Announced}
 use Rattle.zp_table.specs.declared.rows.Row.{Row}
 use Rattle.djvu_base.specs.Library.{Library}
 use Rattle.page_decoder.specs.PageRead.{Ending}
 use Rattle.page_decoder.specs.Libraries.{run_given, run}
-use Rattle.replay_core.specs.Machine.{Answer, Drew, AtEnd, Looked, last_of, page_notices, next_notice, step_answer, page_step, page_look, TellsDrawing}
+use Rattle.replay_core.specs.Machine.{Drew, AtEnd, Looked, last_of, page_notices, next_notice, step_answer, page_step, page_look, TellsDrawing}
 use Rattle.replay_core.proofs.Drawings.{tells_drawing}
 use Rattle.replay_core.proofs.laws.notices_are_drawings.Goals as goal
 

@@ -1,5 +1,5 @@
 use lib.Utf8.{encode}
-use Rattle.std.proofs.Common.{◌≡◌, refl, ℕ, Some, None, List, [], ◌∷◌, ◌++◌}
+use Rattle.std.proofs.Common.{◌≡◌, refl, ℕ, Some, None, List, [], ◌∷◌}
 use Rattle.std.specs.Prelude.{take, drop, codes}
 use Rattle.std.specs.Fmt.{digits}
 use Rattle.std.specs.Str.{chars, is_utf8}
@@ -7,16 +7,14 @@ use Rattle.djvu_base.specs.Library.{Open, file_limit, File, Library}
 use Rattle.djvu_base.specs.Announced.{Announced}
 use Rattle.zp_table.specs.Listing.{flat_rows}
 use Rattle.zp_decoder.specs.Decision.{most_bits}
-use Rattle.iff_chunks.specs.Worked.{page}
-use Rattle.include_graph.specs.Worked.{include_of}
 use Rattle.jb2_numbers.specs.Number.{most_decisions}
 use Rattle.jb2_records.specs.Reading.{most_records}
 use Rattle.iw44_lifting.specs.Lift.{columns_lifted, rows_lifted}
 use Rattle.layer_compose.specs.Drawing.{samples_of, preview_samples}
-use Rattle.page_decoder.specs.PageRead.{Ending, Finished, NeedBytes, NeedFile}
-use Rattle.page_decoder.specs.WorkedPages.{grey_chunk, copying_mask, dictionary_file}
+use Rattle.page_decoder.specs.PageRead.{Finished, NeedBytes, NeedFile}
+use Rattle.page_decoder.specs.WorkedPages.{dictionary_file}
 use Rattle.replay_core.specs.Machine.{Event, Feed, Step, Look, Answer, Taken, Drew, AtEnd, Looked, answers, empty_file}
-use Rattle.replay_core.specs.Worked.{pixel_notice, alone, page_in_pieces, in_two_pieces, two_files, dictionary_last, page_before}
+use Rattle.replay_core.specs.Worked.{pixel_notice, alone, page_in_pieces, two_files, page_before}
 use Rattle.replay_core.proofs.Stepwise.{page_at, one_page, event_then, Knows, step_then, look_then}
 use Rattle.replay_core.proofs.laws.worked.worked_runs.Goals as goal
 

@@ -6,7 +6,7 @@ use Rattle.std.proofs.lemmas.List.Sums.{sum_by-cons}
 use Rattle.djvu_base.specs.Library.{Library}
 use Rattle.zp_table.specs.declared.rows.Row.{Row}
 use Rattle.page_decoder.specs.Libraries.{run, res_of, is_reached, file_work, work_of}
-use Rattle.replay_core.specs.Counts.{PageCount, files_of, spent_on, counted, CountsWithin, CountsAll}
+use Rattle.replay_core.specs.Counts.{PageCount, Counts, files_of, spent_on, counted, CountsWithin, CountsAll}
 
 -- two lists of one length, whose items have these sums
 pages_most : (count : ℕ → ℕ) (pages : List PageCount)
@@ -56,36 +56,36 @@ reached_work : (is_it : Bool) (decisions most : ℕ) → is_it ≡ true → deci
 reached_work true decisions most is le = le
 reached_work false decisions most is le = absurd (let wrong : false ≡ true = is in cc)
 
-one_most : (table : List Row) (library : Library) (pages : List PageCount) (files : List (Option ℕ)) → CountsWithin table library pages files
-    → (file : ℕ) (it : Option ℕ) → slice_get files file ≡ Some it → spent_on it ≤ file_work table library (files_of pages) file
-one_most table library pages files within file None e = omega arith
-one_most table library pages files within file (Some decisions) e =
-    reached_work (list_any (is_reached table library file) (files_of pages)) decisions (res_of table library file).decisions
+one_most : (table : List Row) (library : Library) (counts : Counts) → CountsWithin table library counts
+    → (file : ℕ) (it : Option ℕ) → slice_get counts.files file ≡ Some it → spent_on it ≤ file_work table library (files_of counts.pages) file
+one_most table library counts within file None e = omega arith
+one_most table library counts within file (Some decisions) e =
+    reached_work (list_any (is_reached table library file) (files_of counts.pages)) decisions (res_of table library file).decisions
     (within.reached file decisions e) (within.spent file decisions e)
 
-one_least : (table : List Row) (library : Library) (pages : List PageCount) (files : List (Option ℕ)) → CountsAll table library pages files
-    → (file : ℕ) (it : Option ℕ) → slice_get files file ≡ Some it → file_work table library (files_of pages) file ≤ spent_on it
-one_least table library pages files all file it e = by (list_any (is_reached table library file) (files_of pages)) refl
+one_least : (table : List Row) (library : Library) (counts : Counts) → CountsAll table library counts
+    → (file : ℕ) (it : Option ℕ) → slice_get counts.files file ≡ Some it → file_work table library (files_of counts.pages) file ≤ spent_on it
+one_least table library counts all file it e = by (list_any (is_reached table library file) (files_of counts.pages)) refl
   where
-    by : (is_it : Bool) → list_any (is_reached table library file) (files_of pages) ≡ is_it → cond is_it (res_of table library file).decisions 0 ≤ spent_on it
+    by : (is_it : Bool) → list_any (is_reached table library file) (files_of counts.pages) ≡ is_it → cond is_it (res_of table library file).decisions 0 ≤ spent_on it
     by false is = omega arith
     by true is = subst (λ o. (res_of table library file).decisions ≤ spent_on o) (sym (all.reached file it e is)) (omega arith)
 
-pub counts_most : (table : List Row) (library : Library) (pages : List PageCount) (files : List (Option ℕ)) → CountsWithin table library pages files
-    → counted pages files ≤ work_of table library (files_of pages)
-counts_most table library pages files within =
-    let own = pages_most (λ file. (run table library file).left.told.decisions) pages within.own in
-    let below = files_most (file_work table library (files_of pages)) files 0
-    (λ file it e. subst (λ n. spent_on it ≤ file_work table library (files_of pages) n) (omega arith) (one_most table library pages files within file it e)) in
-    subst (λ n. counted pages files ≤ sum_by (λ file. (run table library file).left.told.decisions) (files_of pages)
-    + sum_by (file_work table library (files_of pages)) (range_with_len 0 n)) within.places (omega (arith, own, below))
+pub counts_most : (table : List Row) (library : Library) (counts : Counts) → CountsWithin table library counts
+    → counted counts ≤ work_of table library (files_of counts.pages)
+counts_most table library counts within =
+    let own = pages_most (λ file. (run table library file).left.told.decisions) counts.pages within.own in
+    let below = files_most (file_work table library (files_of counts.pages)) counts.files 0
+    (λ file it e. subst (λ n. spent_on it ≤ file_work table library (files_of counts.pages) n) (omega arith) (one_most table library counts within file it e)) in
+    subst (λ n. counted counts ≤ sum_by (λ file. (run table library file).left.told.decisions) (files_of counts.pages)
+    + sum_by (file_work table library (files_of counts.pages)) (range_with_len 0 n)) within.places (omega (arith, own, below))
 
-pub counts_least : (table : List Row) (library : Library) (pages : List PageCount) (files : List (Option ℕ)) → length files ≡ length library
-    → CountsAll table library pages files → work_of table library (files_of pages) ≤ counted pages files
-counts_least table library pages files places all =
-    let own = pages_least (λ file. (run table library file).left.told.decisions) pages
+pub counts_least : (table : List Row) (library : Library) (counts : Counts) → length counts.files ≡ length library
+    → CountsAll table library counts → work_of table library (files_of counts.pages) ≤ counted counts
+counts_least table library counts places all =
+    let own = pages_least (λ file. (run table library file).left.told.decisions) counts.pages
     (λ number page e. let same = all.own number page e in omega (arith, same)) in
-    let below = files_least (file_work table library (files_of pages)) files 0
-    (λ file it e. subst (λ n. file_work table library (files_of pages) n ≤ spent_on it) (omega arith) (one_least table library pages files all file it e)) in
-    subst (λ n. sum_by (λ file. (run table library file).left.told.decisions) (files_of pages)
-    + sum_by (file_work table library (files_of pages)) (range_with_len 0 n) ≤ counted pages files) places (omega (arith, own, below))
+    let below = files_least (file_work table library (files_of counts.pages)) counts.files 0
+    (λ file it e. subst (λ n. file_work table library (files_of counts.pages) n ≤ spent_on it) (omega arith) (one_least table library counts all file it e)) in
+    subst (λ n. sum_by (λ file. (run table library file).left.told.decisions) (files_of counts.pages)
+    + sum_by (file_work table library (files_of counts.pages)) (range_with_len 0 n) ≤ counted counts) places (omega (arith, own, below))

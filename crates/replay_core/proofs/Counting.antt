@@ -1,11 +1,13 @@
 -- Sums over pages and files, item by item.
-use Rattle.std.proofs.Common.{◌≡◌, ◌≤◌, ◌+◌, ℕ, zero, suc, Bool, true, false, cond, Option, Some, None, List, [], ◌∷◌, length, refl, sym, subst, arith}
+use Rattle.std.proofs.Common.{◌≡◌, ◌≤◌, ◌+◌, ℕ, zero, suc, Bool, true, false, cond, Option, Some, None, List, [], ◌∷◌, length, refl, sym, ap, ◌∙◌, subst, arith}
 use Rattle.std.specs.Prelude.{slice_get, sum_by}
 use Rattle.std.specs.List.{list_any, range_with_len}
 use Rattle.std.proofs.lemmas.List.Sums.{sum_by-cons}
+use Rattle.std.proofs.lemmas.List.Folds.{Any-from_list_any, list_any-from_Any}
 use Rattle.djvu_base.specs.Library.{Library}
 use Rattle.zp_table.specs.declared.rows.Row.{Row}
-use Rattle.page_decoder.specs.Libraries.{run, res_of, is_reached, file_work, work_of}
+use Rattle.page_decoder.specs.Read.{FileDone}
+use Rattle.page_decoder.specs.Libraries.{run, res_of, is_reached, file_work, work_of, LibraryGoesOn}
 use Rattle.replay_core.specs.Counts.{PageCount, Counts, files_of, spent_on, counted, CountsWithin, CountsAll}
 
 -- two lists of one length, whose items have these sums
@@ -67,7 +69,8 @@ one_least : (table : List Row) (library : Library) (counts : Counts) → CountsA
     → (file : ℕ) (it : Option ℕ) → slice_get counts.files file ≡ Some it → file_work table library (files_of counts.pages) file ≤ spent_on it
 one_least table library counts all file it e = by (list_any (is_reached table library file) (files_of counts.pages)) refl
   where
-    by : (is_it : Bool) → list_any (is_reached table library file) (files_of counts.pages) ≡ is_it → cond is_it (res_of table library file).decisions 0 ≤ spent_on it
+    by : (is_it : Bool) → list_any (is_reached table library file) (files_of counts.pages) ≡ is_it
+        → cond is_it (res_of table library file).decisions 0 ≤ spent_on it
     by false is = omega arith
     by true is = subst (λ o. (res_of table library file).decisions ≤ spent_on o) (sym (all.reached file it e is)) (omega arith)
 
@@ -76,7 +79,8 @@ pub counts_most : (table : List Row) (library : Library) (counts : Counts) → C
 counts_most table library counts within =
     let own = pages_most (λ file. (run table library file).left.told.decisions) counts.pages within.own in
     let below = files_most (file_work table library (files_of counts.pages)) counts.files 0
-    (λ file it e. subst (λ n. spent_on it ≤ file_work table library (files_of counts.pages) n) (omega arith) (one_most table library counts within file it e)) in
+    (λ file it e. subst (λ n. spent_on it ≤ file_work table library (files_of counts.pages) n) (omega arith)
+    (one_most table library counts within file it e)) in
     subst (λ n. counted counts ≤ sum_by (λ file. (run table library file).left.told.decisions) (files_of counts.pages)
     + sum_by (file_work table library (files_of counts.pages)) (range_with_len 0 n)) within.places (omega (arith, own, below))
 
@@ -89,3 +93,29 @@ counts_least table library counts places all =
     (λ file it e. subst (λ n. file_work table library (files_of counts.pages) n ≤ spent_on it) (omega arith) (one_least table library counts all file it e)) in
     subst (λ n. sum_by (λ file. (run table library file).left.told.decisions) (files_of counts.pages)
     + sum_by (file_work table library (files_of counts.pages)) (range_with_len 0 n) ≤ counted counts) places (omega (arith, own, below))
+
+-- ---- a library that goes on
+
+same_length : (library later : Library) → LibraryGoesOn library later → length library ≡ length later
+same_length [] [] on = refl
+same_length [] (file ∷ later) on = absurd on
+same_length (file ∷ library) [] on = absurd on
+same_length (before ∷ library) (after ∷ later) on = ap suc (same_length library later on.1)
+
+abbrev pub ReachedStay : List Row → Library → Library → Type 0
+ReachedStay table library later = (file page : ℕ) → is_reached table library file page ≡ true
+    → (is_reached table later file page ≡ true) × (res_of table library file ≡ res_of table later file)
+
+pub stay_within : (table : List Row) (library later : Library) (counts : Counts) → LibraryGoesOn library later
+    → ((page : ℕ) → (run table library page).left.told.decisions ≤ (run table later page).left.told.decisions) → ReachedStay table library later
+    → CountsWithin table library counts → CountsWithin table later counts
+stay_within table library later counts on more stay within = record {
+  places = within.places ∙ same_length library later on;
+  own = λ number page e. let less = within.own number page e in let rises = more page.file in omega (arith, less, rises);
+  reached = λ file decisions e.
+      let page = Any-from_list_any (is_reached table library file) (files_of counts.pages) (within.reached file decisions e) in
+      list_any-from_Any (is_reached table later file) (files_of counts.pages) (page.0, page.1, page.2, page.3, (stay file page.1 page.4).0);
+  spent = λ file decisions e.
+      let page = Any-from_list_any (is_reached table library file) (files_of counts.pages) (within.reached file decisions e) in
+      subst (λ (done : FileDone). decisions ≤ done.decisions) (stay file page.1 page.4).1 (within.spent file decisions e);
+}

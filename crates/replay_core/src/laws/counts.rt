@@ -2,7 +2,8 @@
 ghost use Rattle.std.specs.Prelude.{◌≡◌, ◌≤◌, List};
 ghost use Rattle.djvu_base.specs.Library.{Library};
 ghost use Rattle.zp_table.specs.declared.rows.Row.{Row};
-ghost use Rattle.page_decoder.specs.Libraries.{run, work_of};
+ghost use Rattle.zp_table.specs.Rows.{IsTable};
+ghost use Rattle.page_decoder.specs.Libraries.{run, work_of, LibraryGoesOn};
 ghost use Rattle.replay_core.specs.Counts.{Counts, files_of, counted, step_decisions, CountsWithin, CountsAll};
 ghost use Rattle.replay_core.specs.Machine.{PageState};
 
@@ -21,4 +22,13 @@ pub fn steps_count_within()
         → step_decisions table library page ≤ (run table library page.file).left.told.decisions }
 {
     page_decoder::page_laws::drawings::ascend();
+}
+
+/// What wasn't decoded beyond what pages ask for isn't so in a library that goes on, either.
+pub fn counts_stay_within()
+    ensures { (table : List Row) (library later : Library) (counts : Counts) → IsTable table → LibraryGoesOn library later
+        → CountsWithin table library counts → CountsWithin table later counts }
+{
+    page_decoder::page_laws::libraries::libraries_go_on();
+    page_decoder::page_laws::libraries::reached_files_stay();
 }

@@ -9,7 +9,7 @@ ghost use Rattle.page_decoder.specs.Given.{Front};
 ghost use Rattle.page_decoder.specs.PageRead.{Ending, NeedBytes, NeedOutline, NeedFile};
 ghost use Rattle.page_decoder.specs.Libraries.{LibraryGoesOn};
 ghost use Rattle.page_decoder.specs.Needs.{IsOver};
-ghost use Rattle.replay_core.specs.Machine.{State, PageState, Event, Step, Look, Drew, AtEnd, Looked, page_notices, answer, state_after_all, answers, start, drawn_in, ends_in, IsSound, AllClosed, PageGoesOn, LooksRise, ShowsNoLess, TellsDrawing, HasEnded, TellsPage, GoesWell};
+ghost use Rattle.replay_core.specs.Machine.{State, PageState, Event, Step, Look, Drew, AtEnd, Looked, last_of, page_notices, answer, state_after_all, answers, start, drawn_in, ends_in, IsSound, AllClosed, PageGoesOn, LooksRise, ShowsNoLess, TellsDrawing, HasEnded, TellsPage, GoesWell};
 
 pub mod counts;
 pub mod worked;
@@ -33,11 +33,14 @@ pub fn states_go_on()
 }
 
 /// The notices that are drawn of a page, in order, are the first ones that the page has in the library of then, and in each to
-/// which that goes on: as many as its state says.
+/// which that goes on: as many as its state says. A look shows the last of them.
 pub fn drawn_are_notices()
     ensures first { (table : List Row) (names : List (List ℕ)) (files : List ℕ) (events : List Event) (page file : ℕ) (later : Library) → IsTable table
         → slice_get files page ≡ Some file → LibraryGoesOn (state_after_all table (start names files) events).library later
         → Front (drawn_in page events (answers table (start names files) events)) (page_notices table later file) }
+    ensures looked { (table : List Row) (names : List (List ℕ)) (files : List ℕ) (events : List Event) (page file viewer : ℕ) → IsTable table
+        → slice_get files page ≡ Some file → let drew = drawn_in page events (answers table (start names files) events) in
+        answer table (state_after_all table (start names files) events) (Look viewer page) ≡ Looked (last_of drew (length drew)) }
     ensures next { (table : List Row) (state : State) (events : List Event) (page : ℕ) (it next : PageState) → IsTable table → IsSound table state
         → slice_get state.pages page ≡ Some it → slice_get (state_after_all table state events).pages page ≡ Some next
         → take next.drawn (page_notices table (state_after_all table state events).library it.file)

@@ -1,5 +1,5 @@
 //! Laws of readings over libraries: each is a clause of a function that does nothing.
-ghost use Rattle.std.specs.Prelude.{◌≡◌, ◌≢◌, ◌≤◌, ◌<◌, ℕ, List, length, Option, Some, None, slice_get};
+ghost use Rattle.std.specs.Prelude.{◌≡◌, ◌≢◌, ◌≤◌, ◌<◌, ℕ, true, List, length, Option, Some, None, slice_get};
 ghost use Rattle.djvu_base.specs.declared.faults.Fault.{Fault};
 ghost use Rattle.djvu_base.specs.Library.{Open, File, Library};
 ghost use Rattle.zp_table.specs.declared.rows.Row.{Row};
@@ -10,7 +10,7 @@ ghost use Rattle.page_decoder.specs.Results.{Result};
 ghost use Rattle.page_decoder.specs.Given.{Role, Page, Included, Within};
 ghost use Rattle.page_decoder.specs.PageRead.{Refused, NeedFile};
 ghost use Rattle.page_decoder.specs.Read.{decode};
-ghost use Rattle.page_decoder.specs.Libraries.{outlines_in, graph_of, given_in, res_of, results_in, run_given, run, Unknown, page_in, work_of, LibraryGoesOn};
+ghost use Rattle.page_decoder.specs.Libraries.{outlines_in, graph_of, given_in, res_of, results_in, run_given, run, Unknown, page_in, is_reached, work_of, LibraryGoesOn};
 ghost use Rattle.page_decoder.specs.Needs.{Below, IsOver, IsMade, Built};
 
 /// Results that were made out of one another, each when a page reached its file, are those of the library: a file that was
@@ -56,6 +56,17 @@ pub fn libraries_go_on()
     include_graph::laws::lists();
     include_graph::laws::verdicts_stay();
     include_graph::laws::outlines_stay();
+}
+
+/// A file that a page reaches is reached in each library that goes on, and its decoding is the same there.
+pub fn reached_files_stay()
+    ensures { (table : List Row) (library later : Library) (file page : ℕ) → IsTable table → LibraryGoesOn library later
+        → is_reached table library file page ≡ true
+        → (is_reached table later file page ≡ true) × (res_of table library file ≡ res_of table later file) }
+{
+    libraries_go_on();
+    crate::page_laws::needs();
+    include_graph::laws::lists();
 }
 
 /// The need of a page is a file whose outline isn't known.

@@ -1,0 +1,4 @@
+pub use Rattle.page_decoder.specs.Libraries
+pub mod Machine
+pub mod Counts
+pub mod Worked

@@ -5,6 +5,18 @@
 #[cfg(test)]
 mod coefficients;
 #[cfg(test)]
+mod draws;
+#[cfg(test)]
+mod headers;
+#[cfg(test)]
+mod images;
+#[cfg(test)]
+mod layers;
+#[cfg(test)]
+mod long;
+#[cfg(test)]
+mod readings;
+#[cfg(test)]
 mod threads;
 #[cfg(test)]
 mod transforms;

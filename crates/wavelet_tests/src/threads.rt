@@ -1,6 +1,8 @@
 //! Values that threads will hold.
 
+use crate::readings::{Rows, begin};
 use iw44_blocks::{Coefficients, Grid};
+use iw44_slices::SliceReader;
 use std::alloc::{AllocError, Global};
 use std::test::Fail;
 
@@ -11,6 +13,8 @@ fn may_go<T: Send + Drop>(_value: T) {}
 fn hand_on(alloc: Global) -> Result<(), AllocError> {
     may_go(Coefficients::new(alloc, 3, 2)?);
     may_go(Grid::new(alloc, 3, 2)?);
+    may_go(SliceReader::new());
+    may_go(begin(alloc, Rows::Flat));
     Ok(())
 }
 

@@ -2,30 +2,18 @@
 ghost use Rattle.std.specs.Prelude.{◌≡◌, ◌<◌, ◌≤◌, IfOk, unsigned_abs};
 ghost use Rattle.iw44_blocks.specs.Lattice.{IsWithin};
 
+use crate::draws::Draws;
 use iw44_blocks::Grid;
 use iw44_lifting::inverse;
 use std::alloc::{AllocError, Global};
 use std::process::Abort;
 use std::test::Fail;
 
-/// A generator of numbers.
-#[derive(Drop)]
-struct Draws {
-    state: u64,
-}
-
-impl Draws {
-    /// The next number, from -32,767 to 32,767.
-    fn next(&mut self) -> i64
-        ensures { unsigned_abs result ≤ 32767 }
-    {
-        self.state = self
-            .state
-            .wrapping_mul(6_364_136_223_846_793_005)
-            .wrapping_add(1_442_695_040_888_963_407);
-        let drawn = (self.state >> 33) % 65_535;
-        drawn as i64 - 32_767
-    }
+/// The next value, from -32,767 to 32,767.
+fn drawn_value(draws: &mut Draws) -> i64
+    ensures { unsigned_abs result ≤ 32767 }
+{
+    draws.below(65_535) as i64 - 32_767
 }
 
 /// Puts a value at a place, if the grid has it.
@@ -44,7 +32,7 @@ fn fill_row(grid: &mut Grid, y: u32, draws: &mut Draws)
     ensures { IsWithin 32767 grid.new }
 {
     for x in 0..grid.width() {
-        put(grid, x, y, draws.next());
+        put(grid, x, y, drawn_value(draws));
     }
 }
 
@@ -57,7 +45,7 @@ fn drawn_grid(alloc: Global, width: u32, height: u32) -> Result<Grid, AllocError
     ensures { IfOk result (λ grid. IsWithin 32767 grid) }
 {
     let mut grid = Grid::new(alloc, width, height)?;
-    let mut draws = Draws { state: 37 };
+    let mut draws = Draws::new(37);
     for y in 0..height {
         fill_row(&mut grid, y, &mut draws);
     }

@@ -18,7 +18,7 @@ use Rattle.page_decoder.specs.Kinds.{ChunkKind}
 use Rattle.page_decoder.specs.Kinds as kind
 use Rattle.page_decoder.specs.PageRead.{Decoded}
 use Rattle.page_decoder.specs.ChunkData.{Unfinished, back_limit, front_limit, allowed_on, sized, named, records_in, records_outcome, mask_came, front_came, layer_outcome, back_before, back_with, back_came, came_by}
-use Rattle.page_decoder.specs.Needs.{IsReady}
+use Rattle.page_decoder.specs.Needs.{HasBefore}
 use Rattle.page_decoder.proofs.Limiting.{LastChunk}
 
 -- the laws of records and of layers
@@ -95,7 +95,7 @@ module _ (table : List Row) (is : IsTable table) (record_laws : RecordsEnd × Ne
       layer_some (back_with found table (data_of bytes true) decoded).answer bytes _
       (subst (λ l. (back_with l table (data_of bytes true) decoded).answer ≢ iw44.Need) (sym same) need) e
 
-  pub complete_some : (of : ChunkKind) (bytes : List ℕ) (offset : ℕ) (decoded : Decoded) → IsReady of table bytes decoded
+  pub complete_some : (of : ChunkKind) (bytes : List ℕ) (offset : ℕ) (decoded : Decoded) → HasBefore of table bytes decoded
       → (came_by of table (data_of bytes true) offset decoded).outcome ≢ Unfinished
   complete_some kind.Info bytes offset decoded ready = info_some (leb 4 (length bytes)) bytes decoded (le-leb 4 (length bytes) ready)
   complete_some kind.Include bytes offset decoded ready = named_some (include_name bytes) offset decoded

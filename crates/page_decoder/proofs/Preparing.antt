@@ -16,7 +16,7 @@ use Rattle.page_decoder.specs.Headers.{Head, first_fault, page_fault, header_fau
 use Rattle.page_decoder.specs.ChunkData.{back_limit, allowed_on}
 use Rattle.page_decoder.specs.Acts.{Act}
 use Rattle.page_decoder.specs.Read.{On, at_header, step_through}
-use Rattle.page_decoder.specs.Needs.{IsReady}
+use Rattle.page_decoder.specs.Needs.{HasBefore}
 use Rattle.page_decoder.proofs.Leaving.{Brings, brings}
 use Rattle.page_decoder.proofs.Limiting.{KindSo, layers_are, begun as kind_begun}
 use Rattle.page_decoder.proofs.Showing.{begun as first_begun}
@@ -151,7 +151,7 @@ not_first : (of : ChunkKind) (table : List Row) (head : Head) (chunks : ℕ) (la
 not_first of table head chunks layers read o other i = i.some (λ none. other (sym o ∙ i.first head refl none))
 
 ready_by : (of : ChunkKind) (table : List Row) (head : Head) (bytes : List ℕ) (chunks : ℕ) (decoded : Decoded) → kind_of head.id ≡ of
-    → length bytes ≡ head.size → Prepared table (Some head) chunks decoded.layers decoded.back → IsReady of table bytes decoded
+    → length bytes ≡ head.size → Prepared table (Some head) chunks decoded.layers decoded.back → HasBefore of table bytes decoded
 ready_by kind.Info table head bytes chunks decoded o l i = let long = i.long head refl o in omega (arith, long, l)
 ready_by kind.Include table head bytes chunks decoded o l i = tt
 ready_by kind.Dictionary table head bytes chunks decoded o l i = tt
@@ -165,7 +165,7 @@ ready_by kind.Passed table head bytes chunks decoded o l i = tt
 pub page_ready : (home : Home) (known : Known) → ((name : List ℕ) (target : ℕ) → number_of name home.names ≡ Some target → target < length home.names)
     → (acts : List Act) (left now : Left) (head : Head) (bytes : List ℕ) → home.role ≡ Page → step_through home known acts at_start ≡ On left
     → at_header home known head (header_fault home.role left head) left ≡ On now → length bytes ≡ head.size
-    → IsReady (kind_of head.id) home.table bytes now.decoded
+    → HasBefore (kind_of head.id) home.table bytes now.decoded
 page_ready home known below acts left now head bytes page through header size =
     let start : IsPrepared home None at_start = λ p. record {
       empty = λ n. refl;

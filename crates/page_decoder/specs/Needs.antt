@@ -87,13 +87,13 @@ Because home known pending (NeedFile file) = IsNext home known pending file
 
 -- what a complete chunk of a kind, with these bytes, wants of those before it: a page's size, a background that was read so far, and an INFO
 -- that isn't short
-abbrev pub IsReady : ChunkKind → List Row → List ℕ → Decoded → Type 0
-IsReady kind.Info table bytes decoded = 4 ≤ length bytes
-IsReady kind.Mask table bytes decoded = (layers : Layers) × (decoded.layers ≡ Some layers)
-IsReady kind.Front table bytes decoded = (layers : Layers) × (decoded.layers ≡ Some layers)
-IsReady kind.Back table bytes decoded =
+abbrev pub HasBefore : ChunkKind → List Row → List ℕ → Decoded → Type 0
+HasBefore kind.Info table bytes decoded = 4 ≤ length bytes
+HasBefore kind.Mask table bytes decoded = (layers : Layers) × (decoded.layers ≡ Some layers)
+HasBefore kind.Front table bytes decoded = (layers : Layers) × (decoded.layers ≡ Some layers)
+HasBefore kind.Back table bytes decoded =
     (layers : Layers) × (decoded.layers ≡ Some layers) × ((back_before layers table decoded).answer ≡ iw44.Done)
-IsReady other table bytes decoded = ⊤
+HasBefore other table bytes decoded = ⊤
 
 -- ---- included files
 

@@ -10,18 +10,18 @@ ghost use Rattle.page_decoder.specs.Headers.{Head, header_fault};
 ghost use Rattle.page_decoder.specs.ChunkData.{Unfinished, came};
 ghost use Rattle.page_decoder.specs.Acts.{Act};
 ghost use Rattle.page_decoder.specs.Read.{On, at_header, step_through};
-ghost use Rattle.page_decoder.specs.Needs.{IsReady};
+ghost use Rattle.page_decoder.specs.Needs.{HasBefore};
 
 /// Behind the chunks of a page, a chunk whose header is right finds what it wants.
 pub fn right_headers_are_ready()
     ensures { (home : Home) (known : Known) (acts : List Act) (left now : Left) (head : Head) (bytes : List ℕ) → home.role ≡ Page
         → step_through home known acts at_start ≡ On left → at_header home known head (header_fault home.role left head) left ≡ On now
-        → length bytes ≡ head.size → IsReady (kind_of head.id) home.table bytes now.decoded }
+        → length bytes ≡ head.size → HasBefore (kind_of head.id) home.table bytes now.decoded }
 {}
 
 /// A complete chunk leaves what it brings, or refuses the file. Nothing more of it is waited for.
 pub fn complete_chunks_come_to_something()
-    ensures { (table : List Row) (head : Head) (bytes : List ℕ) (decoded : Decoded) → IsTable table → IsReady (kind_of head.id) table bytes decoded
+    ensures { (table : List Row) (head : Head) (bytes : List ℕ) (decoded : Decoded) → IsTable table → HasBefore (kind_of head.id) table bytes decoded
         → (came table head (data_of bytes true) decoded).outcome ≢ Unfinished }
 {
     jb2_records::laws::records_end();

@@ -67,3 +67,7 @@ mod Serials
 mod Limiting
 -- law faults_stand_in_files of page_laws
 mod FaultPlaces
+-- the decoder: acts by events, what stays of first acts, entries
+mod ActsByEvents
+mod Onward
+mod Entries

@@ -30,3 +30,5 @@ pub mod Read
 pub mod Libraries
 pub mod Needs
 pub mod WorkedPages
+-- the decoder of a page
+pub mod ActsTold

@@ -32,3 +32,4 @@ pub mod Needs
 pub mod WorkedPages
 -- the decoder of a page
 pub mod ActsTold
+pub mod Decoder

@@ -13,6 +13,7 @@
 #![tactic(auto)]
 
 mod brought;
+mod decoder;
 mod drawings;
 mod ends;
 pub mod laws;
@@ -22,6 +23,7 @@ mod places;
 mod reading;
 mod walk;
 
+pub use decoder::PageStep;
 pub use ends::PageEnd;
 pub use page::Size;
 pub use reading::{Drawn, PageReading, read_page};

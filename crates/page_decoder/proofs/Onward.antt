@@ -45,7 +45,7 @@ module _ (home : Home) (a b : Known) (on : KnowsMore a b) (grows : Grows home.ta
 -- the parts of two steps of which the second one went on
 pub first_on : (s : Step) (next : Left → Step) (now : Left) → and_then s next ≡ On now → (left : Left) × (s ≡ On left) × (next left ≡ On now)
 first_on (On left) next now e = (left, refl, e)
-first_on (Ends read) next now e = absurd (on_not_end now read (sym e))
+first_on (Ends ended) next now e = absurd (on_not_end now ended (sym e))
 
 pub through_on : (home : Home) (a b : Known) → KnowsMore a b → Grows home.table → (acts : List Act) (left now : Left)
     → step_through home a acts left ≡ On now → step_through home b acts left ≡ On now
@@ -59,12 +59,12 @@ through_on home a b on grows (act ∷ acts) left now e =
 pub through_both : (home : Home) (known : Known) (acts others : List Act) (left : Left)
     → step_through home known (acts ++ others) left ≡ and_then (step_through home known acts left) (step_through home known others)
 through_both home known [] others left = refl
-through_both home known (act ∷ acts) others left = by (at_act home known act left)
+through_both home known (act ∷ acts) others left = by (through_both home known acts others) (at_act home known act left)
   where
-    by : (s : Step) → and_then s (step_through home known (acts ++ others))
-        ≡ and_then (and_then s (step_through home known acts)) (step_through home known others)
-    by (On now) = through_both home known acts others now
-    by (Ends read) = refl
+    by : ((now : Left) → step_through home known (acts ++ others) now ≡ and_then (step_through home known acts now) (step_through home known others)) → (s : Step)
+        → and_then s (step_through home known (acts ++ others)) ≡ and_then (and_then s (step_through home known acts)) (step_through home known others)
+    by all (On now) = all now
+    by all (Ends ended) = refl
 
 -- one more act
 pub through_last : (home : Home) (known : Known) (acts : List Act) (act : Act) (left now next : Left) → step_through home known acts left ≡ On now
@@ -87,7 +87,7 @@ reads_on given acts others left e f =
 
 abbrev Few : ℕ → Step → Type 0
 Few chunks (On left) = left.chunks ≤ chunks
-Few chunks (Ends read) = Unit {0}
+Few chunks (Ends ended) = Unit {0}
 
 then_few : (chunks more : ℕ) (s : Step) (next : Left → Step) → ((left : Left) → Few (left.chunks + more) (next left)) → Few chunks s
     → Few (chunks + more) (and_then s next)
@@ -95,16 +95,16 @@ then_few chunks more (On left) next all f = by (next left) (all left)
   where
     by : (s : Step) → Few (left.chunks + more) s → Few (chunks + more) s
     by (On now) h = omega (arith, f, h)
-    by (Ends read) h = tt
-then_few chunks more (Ends read) next all f = tt
+    by (Ends ended) h = tt
+then_few chunks more (Ends ended) next all f = tt
 
 none_more : (s : Step) (chunks : ℕ) → Few chunks s → Few (chunks + 0) s
 none_more (On left) chunks f = omega (arith, f)
-none_more (Ends read) chunks f = tt
+none_more (Ends ended) chunks f = tt
 
 none_less : (s : Step) (chunks : ℕ) → Few (chunks + 0) s → Few chunks s
 none_less (On left) chunks f = omega (arith, f)
-none_less (Ends read) chunks f = tt
+none_less (Ends ended) chunks f = tt
 
 module _ (known : Known) where
   result_few : (next : Option (List Pixels) → Left → Step) (file : ℕ) (it : Option Result) (left : Left)
@@ -168,15 +168,16 @@ module _ (home : Home) (known : Known) where
 
   through_few : (acts : List Act) (left : Left) → Few (left.chunks + length acts) (step_through home known acts left)
   through_few [] left = omega arith
-  through_few (act ∷ acts) left = by (at_act home known act left) (act_few act left)
+  through_few (act ∷ acts) left = by (through_few acts) (at_act home known act left) (act_few act left)
     where
-      by : (s : Step) → Few (left.chunks + 1) s → Few (left.chunks + length (act ∷ acts)) (and_then s (step_through home known acts))
-      by (Ends read) f = tt
-      by (On now) f = on (step_through home known acts now) (through_few acts now)
-        where
-          on : (s : Step) → Few (now.chunks + length acts) s → Few (left.chunks + length (act ∷ acts)) s
-          on (On last) h = omega (arith, f, h)
-          on (Ends read) h = tt
+      on : (now : Left) (s : Step) → now.chunks ≤ left.chunks + 1 → Few (now.chunks + length acts) s → Few (left.chunks + length (act ∷ acts)) s
+      on now (On last) f h = omega (arith, f, h)
+      on now (Ends ended) f h = tt
+
+      by : ((now : Left) → Few (now.chunks + length acts) (step_through home known acts now)) → (s : Step) → Few (left.chunks + 1) s
+          → Few (left.chunks + length (act ∷ acts)) (and_then s (step_through home known acts))
+      by all (Ends ended) f = tt
+      by all (On now) f = on now (step_through home known acts now) f (all now)
 
   -- after acts that went on
   pub few_chunks : (acts : List Act) (left : Left) → step_through home known acts at_start ≡ On left → left.chunks ≤ length acts

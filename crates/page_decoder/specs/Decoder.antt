@@ -73,13 +73,13 @@ RiseTogether before after other_before other_after = (ticks : ℕ) × TicksExact
 
 -- this outline is known of the file, and nothing else changed
 pub record KnowsOutline (file : ℕ) (outline : Outline) (less more : Known) : Type 0 where
-  pub outline : more.outlines file ≡ Some outline
+  pub given : more.outlines file ≡ Some outline
   pub others : (other : ℕ) → other ≢ file → more.outlines other ≡ less.outlines other
   pub results : (other : ℕ) → more.results other ≡ less.results other
 
 -- this is known of what the file gives, and nothing else changed. Where it found no memory, nothing is known
 pub record KnowsResult (file : ℕ) (result : Option Result) (less more : Known) : Type 0 where
-  pub result : more.results file ≡ result
+  pub given : more.results file ≡ result
   pub others : (other : ℕ) → other ≢ file → more.results other ≡ less.results other
   pub outlines : (other : ℕ) → more.outlines other ≡ less.outlines other
 

@@ -29,4 +29,5 @@ pub mod Acts
 pub mod Read
 pub mod Libraries
 pub mod Needs
+pub mod Resolving
 pub mod WorkedPages

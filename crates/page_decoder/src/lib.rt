@@ -16,12 +16,18 @@ mod brought;
 mod drawings;
 mod ends;
 pub mod laws;
+mod other_files;
 mod page;
 pub mod page_laws;
 mod places;
 mod reading;
+mod resolving;
+mod roles;
 mod walk;
 
 pub use ends::PageEnd;
+pub use other_files::OtherFiles;
 pub use page::Size;
 pub use reading::{Drawn, PageReading, read_page};
+pub use resolving::{Include, Includes, Resolution};
+pub use roles::Role;

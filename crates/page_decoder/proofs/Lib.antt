@@ -67,3 +67,5 @@ mod Serials
 mod Limiting
 -- law faults_stand_in_files of page_laws
 mod FaultPlaces
+-- the resolving of includes: list_next, pass_files, go_on of Includes
+mod ResolveSteps

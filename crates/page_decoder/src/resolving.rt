@@ -64,7 +64,7 @@ impl Include {
 /// The files of an include that weren't passed yet.
 #[derive(Debug, Drop)]
 struct Listed {
-    files: Items<u32>,
+    files: Vec<u32>,
     passed: usize,
 }
 
@@ -73,21 +73,24 @@ impl Model for Listed {
 
     ghost Value = { List ℕ };
 
-    ghost view = { λ a. drop a.passed a.files };
+    ghost view = { λ a. drop a.passed a.files.items };
 }
 
 impl Listed {
     fn of(files: Items<u32>) -> Listed
         ensures { result ≡ files }
     {
-        Listed { files, passed: 0 }
+        Listed {
+            files: files.into_vec(),
+            passed: 0,
+        }
     }
 
     /// The first of them.
     fn next(&self) -> Option<u32>
         ensures { result ≡ slice_get self.now 0 }
     {
-        match self.files.slice().get(self.passed) {
+        match self.files.get(self.passed) {
             Some(file) => Some(*file),
             None => None,
         }
@@ -114,12 +117,14 @@ pub struct Includes {
 }
 
 impl Model for Includes {
-    ghost use Rattle.std.specs.Prelude.{drop};
+    ghost use Rattle.std.specs.Prelude.{◌≤◌, drop, length};
     ghost use Rattle.page_decoder.specs.Resolving.{Resolving};
 
     ghost Value = { Resolving };
 
     ghost view = { λ a. record { inherited = a.dictionary; listed = a.at_hand; pending = drop a.begun a.read.items } };
+
+    ghost invariant = { λ a. a.begun ≤ length a.read.items };
 }
 
 impl Includes {

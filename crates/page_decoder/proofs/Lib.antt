@@ -67,6 +67,8 @@ mod Serials
 mod Limiting
 -- law faults_stand_in_files of page_laws
 mod FaultPlaces
+-- the resolving of includes: list_next, pass_files, go_on of Includes
+mod ResolveSteps
 -- the decoder: acts by events, what stays of first acts, entries
 mod ActsByEvents
 mod Onward

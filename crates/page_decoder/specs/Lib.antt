@@ -29,6 +29,7 @@ pub mod Acts
 pub mod Read
 pub mod Libraries
 pub mod Needs
+pub mod Resolving
 pub mod WorkedPages
 -- the decoder of a page
 pub mod ActsTold

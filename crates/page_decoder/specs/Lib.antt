@@ -30,3 +30,7 @@ pub mod Read
 pub mod Libraries
 pub mod Needs
 pub mod WorkedPages
+-- how what the code keeps of a file that is read stands to that
+pub mod LayerState
+pub mod Kept
+pub mod Opened

@@ -13,9 +13,14 @@
 #![tactic(auto)]
 
 mod brought;
+mod closing;
 mod drawings;
 mod ends;
+mod kept;
+mod kinds;
 pub mod laws;
+mod layer_reader;
+mod open_chunks;
 mod page;
 pub mod page_laws;
 mod places;

@@ -11,7 +11,7 @@ use std::alloc::{AllocError, Global};
 const MISPLACED_IDS: [[u8; 4]; 4] = [*b"INFO", *b"Sjbz", *b"BG44", *b"FG44"];
 
 /// Why a FORM of this kind is no included file.
-pub(crate) fn kind_fault(kind: [u8; 4]) -> Option<FaultKind>
+pub fn kind_fault(kind: [u8; 4]) -> Option<FaultKind>
     ensures { result ≡ kind_fault kind }
 {
     if kind.as_slice() == b"DJVI".as_slice() {
@@ -21,8 +21,8 @@ pub(crate) fn kind_fault(kind: [u8; 4]) -> Option<FaultKind>
     }
 }
 
-/// Why an included file, that has a dictionary or not, can't have a chunk with this identifier.
-pub(crate) fn chunk_fault(has_dictionary: bool, id: [u8; 4]) -> Option<FaultKind>
+/// Why an included file, that has a dictionary before it or not, can't have a chunk with this identifier.
+pub fn chunk_fault(has_dictionary: bool, id: [u8; 4]) -> Option<FaultKind>
     ensures { result ≡ chunk_fault has_dictionary id }
 {
     if is_refused(id) {
@@ -43,21 +43,21 @@ fn is_one_of(listed: &[[u8; 4]], id: [u8; 4]) -> bool
 }
 
 /// Whether a chunk is a dictionary.
-pub(crate) fn is_dictionary(id: [u8; 4]) -> bool
+pub fn is_dictionary(id: [u8; 4]) -> bool
     ensures { result ≡ is_dictionary id }
 {
     id.as_slice() == b"Djbz".as_slice()
 }
 
 /// Whether a chunk is an include.
-pub(crate) fn is_include(id: [u8; 4]) -> bool
+pub fn is_include(id: [u8; 4]) -> bool
     ensures { result ≡ is_include id }
 {
     id.as_slice() == b"INCL".as_slice()
 }
 
 /// The name that the data of an `INCL` hold, if they hold one.
-pub(crate) fn include_name(alloc: Global, bytes: &[u8]) -> Result<Option<Name>, AllocError>
+pub fn include_name(alloc: Global, bytes: &[u8]) -> Result<Option<Name>, AllocError>
     ensures { IfOk result (λ name. name ≡ include_name bytes.now) }
 {
     Name::read(alloc, between_newlines(bytes))

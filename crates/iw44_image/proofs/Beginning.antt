@@ -1,13 +1,15 @@
 -- The start of a chunk: what a test of the code says of the bytes.
-use Rattle.std.proofs.Common.{◌≡◌, ℕ, ◌+◌, ◌-◌, ◌*◌, ◌%◌, ◌≤◌, Bool, true, ◌&&◌, nat_le, List, [], ◌∷◌, ◌++◌, length, get_or, take, drop}
-use Rattle.std.proofs.Common.{length-drop, Option, refl, ap, sym, ◌∙◌, subst, arith}
-use Rattle.std.specs.Prelude.{if◌then◌else◌, ◌==◌}
+use Rattle.std.proofs.Common.{◌≡◌, ℕ, zero, suc, ◌+◌, ◌-◌, ◌*◌, ◌%◌, ◌≤◌, Bool, true, false, ◌&&◌, nat_le, List, [], ◌∷◌, ◌++◌, length}
+use Rattle.std.proofs.Common.{get_or, take, drop, length-drop, Option, Some, None, refl, ap, sym, ◌∙◌, subst, arith}
+use Rattle.std.specs.Prelude.{if◌then◌else◌, ◌==◌, IsSome}
 use Rattle.std.proofs.Math.Seq.{drop-append-add, take-length}
 use Rattle.std.proofs.lemmas.Grind.{common_steps}
+use Rattle.djvu_base.specs.declared.faults.FaultKind.TheVariants as fault
 use Rattle.iw44_image.specs.declared.headers.Header.{Header}
 use Rattle.iw44_image.specs.declared.headers.Start.{Start}
-use Rattle.iw44_image.specs.Header.{Opening, after_sizes, read_sizes, read_version, read_rest, open_chunk}
-use Rattle.iw44_image.specs.Starting.{opening_in, IsInside}
+use Rattle.iw44_image.specs.declared.headers.Start.TheVariants as start
+use Rattle.iw44_image.specs.Header.{Opening, Short, Wrong, Opened, missing, after_sizes, read_sizes, read_version, read_rest, open_chunk}
+use Rattle.iw44_image.specs.Starting.{opening_in, IsInside, HasSerial}
 
 pub drop_behind : (before bytes : List ℕ) (n count : ℕ) → length before ≡ count → drop (n + count) (before ++ bytes) ≡ drop n bytes
 drop_behind before bytes n count e =
@@ -70,3 +72,82 @@ inside_read count l rest inner moved some all here goes =
     let left : length rest ≡ length l - count = ap (length {A = ℕ}) all ∙ length-drop count l in
     let size : count + length rest ≡ length l = omega arith in
     subst (λ (n : ℕ). IsInside n moved) size (goes (length rest) here)
+
+pub serial_fits : (number : ℕ) (start : Start) → number ≤ 255 → HasSerial number start
+serial_fits number start.Short fits = tt
+serial_fits number (start.Wrong kind) fits = tt
+serial_fits number (start.Told header slices length) fits = fits
+
+-- a header that is there doesn't depend on whether all data are
+abbrev AreAlike : Opening → Opening → Type 0
+AreAlike a b = (header : Header) (slices : ℕ) (zp : List ℕ) → a ≡ Opened header slices zp → b ≡ Opened header slices zp
+
+missing_never : (ended : Bool) (other : Opening) → AreAlike (missing ended) other
+missing_never true other header slices zp e = absurd (let wrong : Wrong fault.IwHeader ≡ Opened header slices zp = e in cc)
+missing_never false other header slices zp e = absurd (let wrong : Short ≡ Opened header slices zp = e in cc)
+
+test_alike : (test : Bool) (a b other : Opening) → AreAlike a b → AreAlike (if test then a else other) (if test then b else other)
+test_alike true a b other alike = alike
+test_alike false a b other alike = λ header slices zp e. e
+
+sizes_alike : (limit slices major minor width height : ℕ) (bytes : List ℕ) (ended then_ended : Bool) →
+    AreAlike (after_sizes limit slices major minor width height bytes ended) (after_sizes limit slices major minor width height bytes then_ended)
+sizes_alike limit slices major zero width height bytes ended then_ended = λ header count zp e. e
+sizes_alike limit slices major (suc zero) width height bytes ended then_ended = λ header count zp e. e
+sizes_alike limit slices major (suc (suc minor)) width height [] ended then_ended = missing_never ended (missing then_ended)
+sizes_alike limit slices major (suc (suc minor)) width height (last ∷ later) ended then_ended = λ header count zp e. e
+
+read_alike : (limit slices major minor : ℕ) (bytes : List ℕ) (ended then_ended : Bool) → AreAlike (read_sizes limit slices major minor bytes ended)
+    (read_sizes limit slices major minor bytes then_ended)
+read_alike limit slices major minor [] ended then_ended = missing_never ended (missing then_ended)
+read_alike limit slices major minor (a ∷ []) ended then_ended = missing_never ended (missing then_ended)
+read_alike limit slices major minor (a ∷ b ∷ []) ended then_ended = missing_never ended (missing then_ended)
+read_alike limit slices major minor (a ∷ b ∷ c ∷ []) ended then_ended = missing_never ended (missing then_ended)
+read_alike limit slices major minor (a ∷ b ∷ c ∷ d ∷ later) ended then_ended = sizes_alike limit slices major minor (256 * a + b)
+    (256 * c + d) later ended then_ended
+
+version_alike : (limit slices : ℕ) (bytes : List ℕ) (ended then_ended : Bool) → AreAlike (read_version limit slices bytes ended)
+    (read_version limit slices bytes then_ended)
+version_alike limit slices [] ended then_ended = missing_never ended (missing then_ended)
+version_alike limit slices (major ∷ []) ended then_ended = missing_never ended (missing then_ended)
+version_alike limit slices (major ∷ minor ∷ later) ended then_ended =
+    test_alike ((major % 128 == 1) && nat_le minor 2) _ _ _ (read_alike limit slices major minor later ended then_ended)
+
+rest_alike : (limit : ℕ) (known : Option Header) (slices : ℕ) (bytes : List ℕ) (ended then_ended : Bool) → AreAlike
+    (read_rest limit known slices bytes ended) (read_rest limit known slices bytes then_ended)
+rest_alike limit None slices bytes ended then_ended = version_alike limit slices bytes ended then_ended
+rest_alike limit (Some told) slices bytes ended then_ended = λ header count zp e. e
+
+pub opened_alike : (limit number : ℕ) (known : Option Header) (bytes : List ℕ) (ended then_ended : Bool) → AreAlike
+    (open_chunk limit number known bytes ended) (open_chunk limit number known bytes then_ended)
+opened_alike limit number known [] ended then_ended = missing_never ended (missing then_ended)
+opened_alike limit number known (serial ∷ []) ended then_ended = missing_never ended (missing then_ended)
+opened_alike limit number known (serial ∷ slices ∷ later) ended then_ended = test_alike (serial == number) _ _ _
+    (rest_alike limit known slices later ended then_ended)
+
+-- a header that was known stays
+kept_by : (test : Bool) (told : Header) (count : ℕ) (later : List ℕ) (header : Header) (slices : ℕ) (zp : List ℕ) →
+    (if test then Opened told count later else Wrong fault.IwSerial) ≡ Opened header slices zp → header ≡ told
+kept_by true told count later header slices zp e = let same : Opened told count later ≡ Opened header slices zp = e in cc
+kept_by false told count later header slices zp e = absurd (let wrong : Wrong fault.IwSerial ≡ Opened header slices zp = e in cc)
+
+kept_header : (limit number : ℕ) (told : Header) (bytes : List ℕ) (ended : Bool) (header : Header) (slices : ℕ) (zp : List ℕ) → open_chunk limit number
+    (Some told) bytes ended ≡ Opened header slices zp → header ≡ told
+kept_header limit number told [] true header slices zp e = absurd (let wrong : Wrong fault.IwHeader ≡ Opened header slices zp = e in cc)
+kept_header limit number told [] false header slices zp e = absurd (let wrong : Short ≡ Opened header slices zp = e in cc)
+kept_header limit number told (serial ∷ []) true header slices zp e = absurd (let wrong : Wrong fault.IwHeader ≡ Opened header slices zp = e in cc)
+kept_header limit number told (serial ∷ []) false header slices zp e = absurd (let wrong : Short ≡ Opened header slices zp = e in cc)
+kept_header limit number told (serial ∷ count ∷ later) ended header slices zp e = kept_by (serial == number) told count later header slices zp e
+
+pub told_stays : (limit number : ℕ) (known : Option Header) (told : Header) (bytes : List ℕ) (ended : Bool) (header : Header) (slices : ℕ)
+    (zp : List ℕ) → known ≡ Some told →
+    open_chunk limit number known bytes ended ≡ Opened header slices zp → header ≡ told
+told_stays limit number known told bytes ended header slices zp is e =
+    kept_header limit number told bytes ended header slices zp (subst
+    (λ (o : Option Header). open_chunk limit number o bytes ended ≡ Opened header slices zp) is e)
+
+pub known_header : (limit number : ℕ) (known : Option Header) (bytes : List ℕ) (ended : Bool) (header : Header) (slices : ℕ) (zp : List ℕ) → IsSome known →
+    open_chunk limit number known bytes ended ≡ Opened header slices zp → Some header ≡ known
+known_header limit number None bytes ended header slices zp some e = absurd (let wrong : false ≡ true = some in cc)
+known_header limit number (Some told) bytes ended header slices zp some e =
+    ap (λ (h : Header). let o : Option Header = Some h in o) (kept_header limit number told bytes ended header slices zp e)

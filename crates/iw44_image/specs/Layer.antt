@@ -53,9 +53,14 @@ abbrev pub task : Channel → ℕ → Task
 task channel slice = record { channel = channel; slice = slice }
 
 -- a slice of the image does that slice of y, and an earlier one of b and then of r, once chroma has begun
+abbrev pub has_chroma : Header → ℕ → Bool
+has_chroma header slice = not header.grey && nat_le header.delay slice
+
+abbrev pub chroma_tasks : Header → ℕ → List Task
+chroma_tasks header slice = if has_chroma header slice then task B (slice - header.delay) ∷ task R (slice - header.delay) ∷ [] else []
+
 abbrev pub slice_tasks : Header → ℕ → List Task
-slice_tasks header slice =
-    task Y slice ∷ (if not header.grey && nat_le header.delay slice then task B (slice - header.delay) ∷ task R (slice - header.delay) ∷ [] else [])
+slice_tasks header slice = task Y slice ∷ chroma_tasks header slice
 
 -- so many slices from one on
 abbrev pub tasks : Header → ℕ → ℕ → List Task

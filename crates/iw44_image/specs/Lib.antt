@@ -6,5 +6,9 @@ pub mod Starting
 pub mod Layer
 pub mod Growth
 pub mod Samples
+pub mod Offering
+pub mod Readers
+pub mod Image
+pub mod Keeping
 pub mod Rasters
 pub mod Worked

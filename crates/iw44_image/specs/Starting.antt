@@ -28,6 +28,12 @@ IsSized limit start.Short = ⊤
 IsSized limit (start.Wrong kind) = ⊤
 IsSized limit (start.Told header slices length) = HasArea limit header
 
+-- where the header is there, so many chunks came before that a byte has their number
+abbrev pub HasSerial : ℕ → Start → Type 0
+HasSerial number start.Short = ⊤
+HasSerial number (start.Wrong kind) = ⊤
+HasSerial number (start.Told header slices length) = number ≤ 255
+
 -- with the last byte of a header
 abbrev pub with_last : Header → ℕ → Header
 with_last header last = record { width = header.width; height = header.height; grey = header.grey; half = not (nat_le 128 last); delay = last % 128 }

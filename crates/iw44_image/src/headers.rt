@@ -1,7 +1,7 @@
 //! Headers of the chunks of a layer.
 ghost use Rattle.std.specs.Prelude.{◌≡◌, ℕ, ◌+◌, ◌*◌, ◌^◌, ◌<◌, ◌≤◌, List, ◌++◌, length, drop, None};
 ghost use Rattle.iw44_image.specs.Header.{missing, sized, plain_header, after_sizes, read_sizes, read_version, read_rest, open_chunk};
-ghost use Rattle.iw44_image.specs.Starting.{opening_in, IsInside, IsSized, with_last};
+ghost use Rattle.iw44_image.specs.Starting.{opening_in, IsInside, IsSized, HasSerial, with_last};
 
 use djvu_base::FaultKind;
 
@@ -72,6 +72,7 @@ pub(crate) fn open_chunk(
     ensures opening { opening_in bytes.now result ≡ open_chunk limit number known bytes.now ended }
     ensures inside { IsInside (length bytes.now) result }
     ensures sized { known ≡ None → IsSized limit result }
+    ensures serial { HasSerial number result }
 {
     match bytes {
         [serial, slices, later @ ..] => {
@@ -177,6 +178,7 @@ fn missing(ended: bool) -> Start
     ensures opening { (bytes : List ℕ) → opening_in bytes result ≡ missing ended }
     ensures inside { (bytes : ℕ) → IsInside bytes result }
     ensures sized { (limit : ℕ) → IsSized limit result }
+    ensures serial { (number : ℕ) → HasSerial number result }
 {
     if ended {
         Start::Wrong(FaultKind::IwHeader)

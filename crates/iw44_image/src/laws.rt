@@ -1,5 +1,5 @@
 //! Laws of the definitions, and worked values: each is a clause of a function that does nothing.
-ghost use Rattle.std.specs.Prelude.{◌≡◌, ◌≢◌, ℕ, ◌≤◌, ◌≤ℤ◌, Bool, true, false, ℤ, pos, negsuc, ◌-ℤ◌, List, [], ◌∷◌, ◌++◌, ◌+◌, ◌*◌, length, Option, None};
+ghost use Rattle.std.specs.Prelude.{◌≡◌, ◌≢◌, ℕ, ◌≤◌, ◌≤ℤ◌, Bool, true, false, ℤ, pos, negsuc, ◌-ℤ◌, List, [], ◌∷◌, ◌++◌, ◌+◌, ◌*◌, length, Option, Some, None};
 ghost use Rattle.djvu_base.specs.declared.faults.FaultKind.{FaultKind};
 ghost use Rattle.djvu_base.specs.declared.faults.FaultKind.TheVariants as fault;
 ghost use Rattle.zp_table.specs.declared.rows.Row.{Row};
@@ -34,6 +34,11 @@ pub fn more_bytes_only_go_on()
     ensures decisions { (table : List Row) (allowed : Allowed) (bytes more : List ℕ) (ended : Bool) (layer : Layer) → IsTable table → AreRows table layer →
         (read_chunk table allowed (data_of bytes false) layer).layer.decisions ≤
         (read_chunk table allowed (data_of (bytes ++ more) ended) layer).layer.decisions }
+{}
+
+/// A chunk of which all data are there is done or refused.
+pub fn complete_chunks_are_answered()
+    ensures { (table : List Row) (allowed : Allowed) (bytes : List ℕ) (layer : Layer) → (read_chunk table allowed (data_of bytes true) layer).answer ≢ Need }
 {}
 
 /// A layer is read chunk by chunk: where some chunks are done, further ones are read from where these ended, and where they
@@ -81,6 +86,20 @@ pub fn sizes_are_checked_first()
     ensures wrong { (table : List Row) (allowed : Allowed) (given : Data) (layer : Layer) (kind : FaultKind) → opening_of
         (any_size allowed.area) given layer ≡ Wrong kind →
         read_chunk table allowed given layer ≡ read_chunk table (any_size allowed.area) given layer }
+{}
+
+/// The same by the header that a reading without the check has told: where it told none, or one whose size is taken, the check
+/// changes nothing; else the chunk is refused.
+pub fn told_sizes_are_checked()
+    ensures untold { (table : List Row) (allowed : Allowed) (given : Data) (layer : Layer) → layer.header ≡ None →
+        (read_chunk table (any_size allowed.area) given layer).layer.header ≡ None →
+        read_chunk table allowed given layer ≡ read_chunk table (any_size allowed.area) given layer }
+    ensures taken { (table : List Row) (allowed : Allowed) (given : Data) (layer : Layer) (header : Header) → layer.header ≡ None →
+        (read_chunk table (any_size allowed.area) given layer).layer.header ≡ Some header → allowed.fits header.width header.height ≡ true →
+        read_chunk table allowed given layer ≡ read_chunk table (any_size allowed.area) given layer }
+    ensures refused { (table : List Row) (allowed : Allowed) (given : Data) (layer : Layer) (header : Header) → layer.header ≡ None →
+        (read_chunk table (any_size allowed.area) given layer).layer.header ≡ Some header → allowed.fits header.width header.height ≡ false →
+        read_chunk table allowed given layer ≡ ends (Fault fault.LayerSize) layer }
 {}
 
 /// A chunk adds at most 32,768 decisions for each bit of its ZP data and 177 bits more.

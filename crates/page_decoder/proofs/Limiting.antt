@@ -8,6 +8,8 @@ use Rattle.std.proofs.lemmas.List.Folds.{list_all-append}
 use Rattle.djvu_base.specs.declared.faults.FaultKind.{FaultKind}
 use Rattle.djvu_base.specs.declared.faults.FaultKind.TheVariants as fault
 use Rattle.iff_chunks.specs.Chunks.{Form, Chunk, Tail, InHead, InHeader, InData, InPad, FormEnd, Broken, form_word, chunks_of}
+use Rattle.iff_chunks.specs.Events.{events_of}
+use Rattle.iff_chunks.specs.Order.{AtForm, InOrder}
 use Rattle.iff_chunks.specs.Layout.{Laid, AtEnd, TooShort, Beginning, NoId, TooLong, DataArriving, PadMissing, Padded, Unpadded, IsLaidForm}
 use Rattle.zp_table.specs.declared.rows.Row.{Row}
 use Rattle.iw44_image.specs.Layer.{Data, Layer, Allowed, read_layer, read_chunk}
@@ -20,7 +22,7 @@ use Rattle.page_decoder.specs.Kinds as kind
 use Rattle.page_decoder.specs.Given.{Page, Home, Known, Given}
 use Rattle.page_decoder.specs.PageRead.{Ending, Decoded, Left, at_start}
 use Rattle.page_decoder.specs.Headers.{Head, front_in, second, first_fault, later_fault, page_fault, header_fault}
-use Rattle.page_decoder.specs.ChunkData.{Leaves, back_limit, allowed_on, came_by}
+use Rattle.page_decoder.specs.ChunkData.{Leaves, back_limit, allowed_on, came, came_by}
 use Rattle.page_decoder.specs.Acts.{Act, form_acts, complete_acts, tail_acts, acts_of, close_in}
 use Rattle.page_decoder.specs.Read.{drawing_by, read}
 use Rattle.page_decoder.specs.Needs.{are_bytes}
@@ -51,7 +53,7 @@ laid_bytes _ _ _ _ _ (Padded offset left chunk header pad chunks tail after begu
 laid_bytes _ _ _ _ _ (Unpadded offset left chunk header chunks tail after begun sized e on) all =
     let both = bytes_parts chunk.bytes after (bytes_parts header (chunk.bytes ++ after) all).1 in (both.0, laid_bytes _ _ _ _ _ on both.1)
 
-pub form_bytes : (bytes : List ℕ) (form : Form) (whole : List Chunk) (tail : Tail) → IsLaidForm bytes form whole tail → are_bytes bytes ≡ true
+form_bytes : (bytes : List ℕ) (form : Form) (whole : List Chunk) (tail : Tail) → IsLaidForm bytes form whole tail → are_bytes bytes ≡ true
     → AllByRecursion HasBytes whole
 form_bytes bytes form whole tail laid all =
     let named = bytes_parts laid.prefix (form_word ++ (laid.number ++ (form.kind ++ laid.after))) (subst (λ b. are_bytes b ≡ true) laid.same all) in
@@ -59,11 +61,31 @@ form_bytes bytes form whole tail laid all =
     let kinds = bytes_parts laid.number (form.kind ++ laid.after) sized.1 in
     laid_bytes (form.offset + 12) (form.size - 4) whole tail laid.after laid.body (bytes_parts form.kind laid.after kinds.1).1
 
+none_there : (whole : List Chunk) (tail : Tail) → InOrder AtForm (events_of (record { form = None; whole = whole; tail = tail }))
+    → AllByRecursion HasBytes whole
+none_there [] tail order = tt
+none_there (chunk ∷ whole) tail order = absurd order
+
+-- the laws of the container
+abbrev pub FormIsLaid : Type 0
+FormIsLaid = (bytes : List ℕ) (form : Form) → (chunks_of bytes).form ≡ Some form → IsLaidForm bytes form (chunks_of bytes).whole (chunks_of bytes).tail
+
+abbrev pub EventsInOrder : Type 0
+EventsInOrder = (bytes : List ℕ) → InOrder AtForm (events_of (chunks_of bytes))
+
+pub whole_bytes : FormIsLaid → EventsInOrder → (bytes : List ℕ) → are_bytes bytes ≡ true → AllByRecursion HasBytes (chunks_of bytes).whole
+whole_bytes laid order bytes all = by (chunks_of bytes).form refl
+  where
+    by : (form : Option Form) → (chunks_of bytes).form ≡ form → AllByRecursion HasBytes (chunks_of bytes).whole
+    by (Some form) e = form_bytes bytes form (chunks_of bytes).whole (chunks_of bytes).tail (laid bytes form e) all
+    by None e = none_there (chunks_of bytes).whole (chunks_of bytes).tail
+        (subst (λ f. InOrder AtForm (events_of (record { form = f; whole = (chunks_of bytes).whole; tail = (chunks_of bytes).tail }))) e (order bytes))
+
 -- what a complete chunk's data are
-abbrev Fine : Head → Data → Type 0
+abbrev pub Fine : Head → Data → Type 0
 Fine head given = given.ended ≡ true → are_bytes given.bytes ≡ true
 
-bytes_fine : (whole : List Chunk) → AllByRecursion HasBytes whole → AllByRecursion (IsComplete Fine) whole
+pub bytes_fine : (whole : List Chunk) → AllByRecursion HasBytes whole → AllByRecursion (IsComplete Fine) whole
 bytes_fine [] all = tt
 bytes_fine (chunk ∷ whole) all = (λ ended. all.0, bytes_fine whole all.1)
 
@@ -158,7 +180,7 @@ module _ (table : List Row) (last : LastChunk) where
       let bare = i.bare empty in
       let told : count ≤ 0 + 0 + 0 + length before.back =
       subst (λ l. count ≤ some_count l + some_count (mask_in l) + some_count (front_in l) + length before.back) empty i.told in
-      subst (λ d. Counts table d (count + length (drawing_by kind.Info number decisions d.layers))) (sym b) (record {
+      subst (λ d. Counts table d (count + length (drawing_by kind.Info number decisions d.layers))) (sym b.3) (record {
         bare = λ e. absurd (cc);
         told = omega (arith, told);
         few = i.few;
@@ -276,7 +298,7 @@ rules home known last = record {
     kind = (i page).kind;
   };
   unknown = λ at left file u i page. most home at left i page;
-  lacks = λ at left file include next n m i page. most home at left i page;
+  lacks = λ at left file next n i page. most home at left i page;
   graph_fault = λ at left target fault b v i page. most home at left i page;
   file_fault = λ at left file fault target before others below v e i page. most home at left i page;
   own_fault = λ at kind offset left i page. most home at left i page;

@@ -1,5 +1,5 @@
 -- A page that is finished has a drawing, its layers are those of the last one, and faults stand in files of the folder.
-use Rattle.std.proofs.Common.{◌≡◌, ◌≢◌, ◌<◌, ℕ, zero, suc, Option, Some, None, List, [], ◌∷◌, ◌++◌, length, refl, sym, ap, ◌∙◌, subst}
+use Rattle.std.proofs.Common.{◌≡◌, ◌≢◌, ◌<◌, ℕ, zero, suc, ◌+◌, Option, Some, None, List, [], ◌∷◌, ◌++◌, length, refl, sym, ap, ◌∙◌, subst}
 use Rattle.std.proofs.lemmas.List.{append-nil}
 use Rattle.djvu_base.specs.declared.faults.Fault.{Fault}
 use Rattle.djvu_base.specs.declared.faults.FaultKind.{FaultKind}
@@ -13,12 +13,11 @@ use Rattle.page_decoder.specs.Kinds.{ChunkKind, kind_of}
 use Rattle.page_decoder.specs.Kinds as kind
 use Rattle.page_decoder.specs.Results as result
 use Rattle.page_decoder.specs.Given.{Role, Page, Included, Home, Known, Given}
-use Rattle.page_decoder.specs.PageRead.{Drawing, Ending, Finished, Refused, Decoded, Left, at_start}
+use Rattle.page_decoder.specs.PageRead.{Drawing, last_layers, Ending, Finished, Refused, Decoded, Left, at_start}
 use Rattle.page_decoder.specs.Headers.{Head, first_fault, page_fault, header_fault}
-use Rattle.page_decoder.specs.ChunkData.{Leaves, came_by}
+use Rattle.page_decoder.specs.ChunkData.{Leaves, came, came_by}
 use Rattle.page_decoder.specs.Acts.{acts_of, close_in}
 use Rattle.page_decoder.specs.Read.{drawing_by, drawing_of, refused_at, listing, read}
-use Rattle.page_decoder.specs.Needs.{last_layers}
 use Rattle.page_decoder.proofs.Asking.{Order, listed_below}
 use Rattle.page_decoder.proofs.Leaving.{Brings, brings}
 use Rattle.page_decoder.proofs.Ruling.{Rules, from_holds, any_chunk, any_include, any_acts, any_includes}
@@ -44,7 +43,7 @@ Draws other before after = after ≡ before
 
 draws : (of : ChunkKind) (table : List Row) (given : Data) (offset : ℕ) (before after : Decoded) → Brings of table given offset before after
     → Draws of before.layers after.layers
-draws kind.Info table given offset before after b = (_, ap (λ (d : Decoded). d.layers) b)
+draws kind.Info table given offset before after b = (_, ap (λ (d : Decoded). d.layers) b.3)
 draws kind.Include table given offset before after b = ap (λ (d : Decoded). d.layers) b.3
 draws kind.Dictionary table given offset before after b = ap (λ (d : Decoded). d.layers) b.1
 draws kind.Mask table given offset before after b = (_, ap (λ (d : Decoded). d.layers) b.3)
@@ -145,7 +144,7 @@ rules home known = record {
   inherits = λ at found left i. record { some = i.some; first = i.first; last = i.last };
   none_left = λ at left i. record { some = i.some; first = i.first; last = i.last };
   unknown = λ at left file u i. record { drawn = λ e. absurd (cc); layers = i.last };
-  lacks = λ at left file include next n m i. record { drawn = λ e. absurd (cc); layers = i.last };
+  lacks = λ at left file next n i. record { drawn = λ e. absurd (cc); layers = i.last };
   graph_fault = λ at left target fault b v i. record { drawn = λ e. absurd (end_of_refused fault e); layers = i.last };
   file_fault = λ at left file fault target before others below v e i. record { drawn = λ w. absurd (end_of_refused fault w); layers = i.last };
   own_fault = λ at kind offset left i. record { drawn = λ e. absurd (end_of_refused _ e); layers = i.last };
@@ -197,7 +196,7 @@ module _ (home : Home) (known : Known) (own : home.file < length home.names)
     inherits = λ at found left i. tt;
     none_left = λ at left i. tt;
     unknown = λ at left file u i fault e. absurd (cc);
-    lacks = λ at left file include next n m i fault e. absurd (cc);
+    lacks = λ at left file next n i fault e. absurd (cc);
     graph_fault = λ at left target fault b v i. told_below fault (graph_below home.role target fault b v);
     file_fault = λ at left file fault target before others below v e i.
         told_below fault (of_results file fault (listed_below home known order home.role target file before others below v) e);

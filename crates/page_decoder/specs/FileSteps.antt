@@ -1,5 +1,5 @@
 -- What the steps of a file's reader do to what it keeps.
-use Rattle.std.specs.Prelude.{ℕ, suc, ◌≡◌, ◌≢◌, ◌+◌, ◌≤◌, ◌<◌, ◌^◌, ⊤, List, [], ◌∷◌, ◌++◌, length, Option, Some, None, Bool, true, false, ◌==◌, nat_lt, min, if◌then◌else◌}
+use Rattle.std.specs.Prelude.{ℕ, suc, ◌≡◌, ◌≢◌, ◌+◌, ◌-◌, ◌≤◌, ◌<◌, ◌^◌, ⊤, List, [], ◌∷◌, ◌++◌, length, Option, Some, None, Bool, true, false, ◌==◌, nat_lt, min, if◌then◌else◌}
 use Rattle.std.specs.Arc.{arc_value}
 use Rattle.djvu_base.specs.declared.faults.FaultKind.{FaultKind}
 use Rattle.djvu_base.specs.Library.{Mark, Open}
@@ -23,6 +23,7 @@ use Rattle.page_decoder.specs.declared.file_reader.ChunkAtHand.{ChunkAtHand}
 use Rattle.page_decoder.specs.declared.decoder.PageStep.{PageStep}
 use Rattle.page_decoder.specs.declared.decoder.PageStep.TheVariants as step
 use Rattle.page_decoder.specs.declared.closing.ChunkCame.{ChunkCame}
+use Rattle.page_decoder.specs.declared.closing.Closed.{Closed}
 use Rattle.page_decoder.specs.declared.closing.ChunkCame.TheVariants as came
 use Rattle.page_decoder.specs.declared.resolving.Resolution.{Resolution}
 use Rattle.page_decoder.specs.declared.resolving.Resolution.TheVariants as resolution
@@ -35,7 +36,7 @@ use Rattle.page_decoder.specs.ChunkData.{Outcome, Leaves, Unfinished, Fails, Cam
 use Rattle.page_decoder.specs.Acts.{close_in, origin_of}
 use Rattle.page_decoder.specs.Resolving.{Resolving, with_include, Resolves, IsResolved, Stops, Needs}
 use Rattle.page_decoder.specs.Kept.{Keeping, Keeps}
-use Rattle.page_decoder.specs.Opened.{Opens, decisions_of}
+use Rattle.page_decoder.specs.Opened.{Opens, ClosesTo, LayersStay, decisions_of}
 use Rattle.page_decoder.specs.FileReading.{Stands, StandsBefore, close_of, mark_by}
 
 -- it was fed something
@@ -139,6 +140,17 @@ HasLeft head chunks came.Left answer before after = (answer ≡ None) × (after 
 HasLeft head chunks (came.Include name) answer before after = Adds (record { name = name; offset = head.offset }) chunks answer before after
 HasLeft head chunks (came.Refused kind) answer before after = (answer ≡ Some (step.Refused (fault_at kind before.file head.offset))) × (after ≡ before)
 HasLeft head chunks came.OutOfMemory answer before after = (answer ≡ Some step.OutOfMemory) × (after ≡ before)
+
+-- a chunk whose data are all there was closed
+pub record HasClosed (chunk : ChunkAtHand) (answer : Option PageStep) (before after : FileReader) : Type 0 where
+  pub closed : Closed
+  pub closes : (table : List Row) (decoded : Decoded) (bytes : List ℕ) → Opens table chunk.head decoded bytes before.kept chunk.opened
+      → length bytes ≡ chunk.head.size
+      → ClosesTo closed (min (before.chunks + 1) (2 ^ 32 - 1)) table chunk.head decoded (data_came table chunk.head (data_of bytes true) decoded) after.kept
+  pub decisions_are : after.decisions ≡ ticked closed.decisions before.decisions
+  pub has_left : HasLeft chunk.head (min (before.chunks + 1) (2 ^ 32 - 1)) closed.came answer
+      (record before { kept = after.kept; decisions = after.decisions }) after
+  pub layers_stay : LayersStay closed.came before.kept.layers after.kept.layers
 
 -- ---- before a chunk
 

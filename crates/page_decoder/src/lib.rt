@@ -13,10 +13,20 @@
 #![tactic(auto)]
 
 mod brought;
+mod closing;
 mod decoder;
 mod drawings;
 mod ends;
+mod file_chunks;
+mod file_ends;
+mod file_events;
+mod file_reader;
+mod headers;
+mod kept;
+mod kinds;
 pub mod laws;
+mod layer_reader;
+mod open_chunks;
 mod other_files;
 mod page;
 pub mod page_laws;

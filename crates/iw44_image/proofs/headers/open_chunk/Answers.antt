@@ -1,5 +1,5 @@
-use Rattle.std.proofs.Common.{length, ◌∙◌, sym}
-use Rattle.iw44_image.proofs.Beginning.{chunk_read, inside_read, rest_all}
+use Rattle.std.proofs.Common.{length, ◌∙◌, sym, ◌≤◌, arith}
+use Rattle.iw44_image.proofs.Beginning.{chunk_read, inside_read, rest_all, serial_fits}
 use Rattle.iw44_image.proofs.headers.open_chunk.Goals as goal
 
 pub returns-in_default-clause-inside : goal.returns-in_default-clause-inside
@@ -20,3 +20,11 @@ returns-then-from-number-clause-inside c = inside_read 2 c.args.bytes.now _ c.re
 
 pub returns-then-from-number-clause-sized : goal.returns-then-from-number-clause-sized
 returns-then-from-number-clause-sized c = λ first. c.behind.ensures.sized c.args.limit (c.read_rest.ensures.sized first)
+
+pub returns-in_default-clause-serial : goal.returns-in_default-clause-serial
+returns-in_default-clause-serial c = c.missing.ensures.serial c.args.number
+
+pub returns-then-from-number-clause-serial : goal.returns-then-from-number-clause-serial
+returns-then-from-number-clause-serial c =
+    let fits : c.args.number ≤ 255 = omega (arith, c.from.ensures, c.if-from-number.true, c.type_inv.bytes 0) in
+    serial_fits c.args.number c.behind.result fits

@@ -8,8 +8,7 @@ use Rattle.page_decoder.specs.declared.decoder.PageStep.{PageStep}
 use Rattle.page_decoder.specs.declared.decoder.PageStep.TheVariants as step
 use Rattle.page_decoder.specs.Results.{Result}
 use Rattle.page_decoder.specs.Given.{Home, Known, Given}
-use Rattle.page_decoder.specs.PageRead.{Drawing, notice_of, Ending, Finished, Refused, NeedBytes, NeedOutline, NeedFile, Told, PageRead}
-use Rattle.page_decoder.specs.Needs.{last_layers}
+use Rattle.page_decoder.specs.PageRead.{Drawing, last_layers, notice_of, Ending, Finished, Refused, NeedBytes, NeedOutline, NeedFile, Told, PageRead}
 
 -- ---- what is answered
 

@@ -23,11 +23,10 @@ use Rattle.page_decoder.specs.declared.file_reader.ChunkAtHand.{ChunkAtHand}
 use Rattle.page_decoder.specs.declared.decoder.PageStep.{PageStep}
 use Rattle.page_decoder.specs.declared.decoder.PageStep.TheVariants as step
 use Rattle.page_decoder.specs.Given.{Home, Known, Given, Within}
-use Rattle.page_decoder.specs.PageRead.{Decoded, Left, or_else, in_force, at_start}
+use Rattle.page_decoder.specs.PageRead.{last_layers, Decoded, Left, or_else, in_force, at_start}
 use Rattle.page_decoder.specs.Headers.{Head, header_fault}
 use Rattle.page_decoder.specs.Acts.{Act, Close, Waits, Breaks, Over, acts_of, close_in}
 use Rattle.page_decoder.specs.Read.{Step, On, and_then, after, all_resolved, at_header, at_close, finished, step_through, read}
-use Rattle.page_decoder.specs.Needs.{last_layers}
 use Rattle.page_decoder.specs.ActsTold.{OpenChunk, ActsTold, nothing_told, begun_at, all_told, after_events, after_step}
 use Rattle.page_decoder.specs.Resolving.{home_of, known_of, resolving_of, Resolves}
 use Rattle.page_decoder.specs.Kept.{Keeping, Keeps}

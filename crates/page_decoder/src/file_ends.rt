@@ -44,7 +44,7 @@ impl FileReader {
 
     /// What stands behind all bytes that the walker took, where the file ends so.
     pub(crate) fn behind_bytes(&mut self, end: Option<FileEnd>) -> FileClose
-        ensures { (bytes : List ℕ) (told : List Event) → Told bytes told self.old.walker → Counts bytes self.old.arrived → IsOpen (chunks_of bytes).tail
+        ensures behind { (bytes : List ℕ) (told : List Event) → Told bytes told self.old.walker → Counts bytes self.old.arrived → IsOpen (chunks_of bytes).tail
             → IsBehind (mark_by end) bytes result }
         ensures rest { self.new ≡ record self.old { walker = self.new.walker } }
         ensures waits { end ≡ None → (result ≡ FileClose.Waits) × (self.new ≡ self.old) }

@@ -125,7 +125,7 @@ impl FileReader {
 
     /// At the header of a chunk.
     pub(crate) fn at_header(&mut self, head: Head) -> Option<PageStep>
-        ensures { (left : Left) → self.old.chunks ≡ left.chunks → IsLike left.decoded self.old.kept
+        ensures judged { (left : Left) → self.old.chunks ≡ left.chunks → IsLike left.decoded self.old.kept
             → AtHeader (header_fault (role_of self.old.role) left head) head result self.old self.new }
         ensures walker { self.new.walker ≡ self.old.walker }
         ensures stage { result ≡ None → self.new.stage ≡ Stage.Before head }

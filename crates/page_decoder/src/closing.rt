@@ -20,6 +20,7 @@ use crate::layer_reader::{LayerReader, LayerStep};
 use crate::page::{Size, size_fault, size_in};
 use bit_plane::Plane;
 use djvu_base::{FaultKind, Meter, Name, Notice, Raster, Turn};
+use include_graph::include_name;
 use jb2_records::{DictReader, Jb2Step, MaskReader, SharedDictionary};
 use layer_compose::{Layers, reduction};
 use std::alloc::{AllocError, Global};

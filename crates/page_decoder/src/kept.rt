@@ -16,7 +16,7 @@ ghost use Rattle.page_decoder.specs.LayerState.{Rests, Lays};
 ghost use Rattle.page_decoder.specs.Kept.{Keeps, IsBehind, IsReady};
 ghost use Rattle.page_decoder.specs.Opened.{Opens, Begins, ReadsRecords, ClosesTo, CountsOn, LayersStay, IsRunning, decisions_by, decisions_of};
 
-use crate::closing::{ChunkCame, Closed};
+use crate::closing::{ChunkCame, Closed, close_name};
 use crate::kinds::ChunkKind;
 use crate::layer_reader::LayerReader;
 use crate::open_chunks::{ChunkReader, Open};
@@ -31,6 +31,7 @@ use zp_table::Table;
 
 /// The most pixels of a background, and of a foreground.
 const BACK_LIMIT: u32 = 16_777_216;
+
 const FRONT_LIMIT: u32 = 1_048_576;
 
 /// What complete chunks of a file leave to later ones, but for its includes: the page's layers, the reader of its background, and
@@ -127,9 +128,9 @@ impl Kept {
         head: Head,
     ) -> Result<Open, AllocError>
         requires { IsReady (kind_of head.id) head.size self.old.layers }
-        ensures opens { IfOk result (λ open. (decoded : Decoded) → Keeps (arc_value table.now) decoded self.old → decoded.inherited ≡ inherited.now →
-            Opens (arc_value table.now) head decoded [] self.new open) }
-        ensures decisions { IfOk result (λ open. decisions_of open ≡ 0) }
+        ensures opens { IfOk result (λ chunk. (decoded : Decoded) → Keeps (arc_value table.now) decoded self.old → decoded.inherited ≡ inherited.now →
+            Opens (arc_value table.now) head decoded [] self.new chunk) }
+        ensures decisions { IfOk result (λ chunk. decisions_of chunk ≡ 0) }
         ensures layers { self.new.layers ≡ self.old.layers }
     {
         let reader = self.reader_for(alloc, table, inherited, head)?;
@@ -140,15 +141,21 @@ impl Kept {
     /// this chunk the page has so many chunks. Each decision that is new ticks the meter once.
     ///
     /// Where no drawing comes, the page's layers stay.
-    pub fn close<M: Meter>(&mut self, alloc: Global, open: Open, chunks: u32, meter: &mut M) -> Closed
+    pub fn close<M: Meter>(
+        &mut self,
+        alloc: Global,
+        chunk: Open,
+        chunks: u32,
+        meter: &mut M,
+    ) -> Closed
         // For all that the chunk may stand for, what its complete data come to.
         ensures closes { (table : List Row) (head : Head) (decoded : Decoded) (bytes : List ℕ) →
-            Opens table head decoded bytes self.old open → length bytes ≡ head.size →
+            Opens table head decoded bytes self.old chunk → length bytes ≡ head.size →
             ClosesTo result chunks table head decoded (came table head (data_of bytes true) decoded) self.new }
-        ensures counts { CountsOn (decisions_of open) result.decisions (M.count meter.old) (M.count meter.new) }
+        ensures counts { CountsOn (decisions_of chunk) result.decisions (M.count meter.old) (M.count meter.new) }
         ensures layers { LayersStay result.came self.old.layers self.new.layers }
     {
-        match open.into_reader() {
+        match chunk.into_reader() {
             ChunkReader::Passed => Closed::plain(ChunkCame::Left),
             ChunkReader::Info(bytes) => Closed::plain(self.close_info(alloc, &bytes, chunks)),
             ChunkReader::Name(bytes) => Closed::plain(close_name(alloc, &bytes)),
@@ -197,7 +204,12 @@ impl Kept {
         }
     }
 
-    fn dictionary_reader(&self, alloc: Global, table: &Arc<Table>, inherited: &Option<SharedDictionary>) -> Result<DictReader, AllocError>
+    fn dictionary_reader(
+        &self,
+        alloc: Global,
+        table: &Arc<Table>,
+        inherited: &Option<SharedDictionary>,
+    ) -> Result<DictReader, AllocError>
         ensures reads { IfOk result (λ reader. (decoded : Decoded) → Keeps (arc_value table.now) decoded self.now → decoded.inherited ≡ inherited.now →
             ReadsRecords purpose.Dictionary (arc_value table.now) decoded [] reader) }
         ensures open_end { IfOk result (λ reader. reader.ended ≡ false) }
@@ -207,7 +219,12 @@ impl Kept {
         DictReader::new(alloc, Arc::try_clone(table)?, shapes)
     }
 
-    fn mask_reader(&self, alloc: Global, table: &Arc<Table>, inherited: &Option<SharedDictionary>) -> Result<MaskReader, AllocError>
+    fn mask_reader(
+        &self,
+        alloc: Global,
+        table: &Arc<Table>,
+        inherited: &Option<SharedDictionary>,
+    ) -> Result<MaskReader, AllocError>
         requires { IsSome self.now.layers }
         ensures reads { IfOk result (λ reader. (decoded : Decoded) (layers : Layers) → Keeps (arc_value table.now) decoded self.now →
             decoded.inherited ≡ inherited.now → decoded.layers ≡ Some layers →
@@ -244,7 +261,12 @@ impl Kept {
     }
 
     /// A reader of a layer of at most `limit` pixels, of which no chunk came.
-    fn layer_reader(&self, alloc: Global, table: &Arc<Table>, limit: u32) -> Result<LayerReader, AllocError>
+    fn layer_reader(
+        &self,
+        alloc: Global,
+        table: &Arc<Table>,
+        limit: u32,
+    ) -> Result<LayerReader, AllocError>
         requires sized { IsSome self.now.layers }
         requires most { limit ≤ 2 ^ 24 }
         ensures rests { IfOk result (λ reader. Rests [] reader) }
@@ -265,7 +287,10 @@ impl Kept {
     }
 
     /// A share of the dictionary in force: the file's own, or that of its includes.
-    fn in_force(&self, inherited: &Option<SharedDictionary>) -> Result<Option<Arc<Dictionary>>, AllocError>
+    fn in_force(
+        &self,
+        inherited: &Option<SharedDictionary>,
+    ) -> Result<Option<Arc<Dictionary>>, AllocError>
         ensures { IfOk result (λ found. inherited_of found ≡ unwrap_or (or_else self.now.own inherited.now) []) }
     {
         match &self.dictionary {

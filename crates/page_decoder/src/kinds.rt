@@ -4,6 +4,7 @@ ghost use Rattle.page_decoder.specs.Kinds.{kind_of, brings_drawing};
 
 use crate::page::{is_info, is_mask};
 use iff_chunks::is_refused;
+use include_graph::{is_dictionary, is_include};
 
 /// What a chunk is for.
 #[derive(Clone, Copy, Debug, PartialEq, Eq)]
@@ -33,9 +34,9 @@ impl ChunkKind {
     {
         if is_info(id) {
             ChunkKind::Info
-        } else if id.as_slice() == b"INCL".as_slice() {
+        } else if is_include(id) {
             ChunkKind::Include
-        } else if id.as_slice() == b"Djbz".as_slice() {
+        } else if is_dictionary(id) {
             ChunkKind::Dictionary
         } else if is_mask(id) {
             ChunkKind::Mask

@@ -180,7 +180,7 @@ fn push_first(first: &mut Vec<u8>, piece: &[u8]) -> Result<(), AllocError>
 
 /// A page's size is judged once its four bytes are there.
 fn judged(first: &[u8]) -> OpenStep
-    ensures { (bytes : List ℕ) (decoded : Decoded) → first.now ≡ take 10 bytes → Answers result (info_outcome (data_of bytes false) decoded) }
+    ensures answers { (bytes : List ℕ) (decoded : Decoded) → first.now ≡ take 10 bytes → Answers result (info_outcome (data_of bytes false) decoded) }
     ensures memory { result ≢ OpenStep.OutOfMemory }
 {
     if first.len() < 4 {

@@ -59,11 +59,27 @@ part_only _ _ _ _ _ (PadMissing offset left chunk header begun sized e) open_ =
 part_only _ _ _ _ _ (Padded offset left chunk header pad chunks tail after begun sized e on) open_ =
     let room = begun.room in
     let rest = part_only (offset + 9 + chunk.size) (left_after left chunk - 1) chunks tail after on open_ in
-    omega (arith, room, rest, sized, eight_bytes header chunk.id chunk.size begun.is_header, length-append header (chunk.bytes ++ (pad ∷ after)), length-append chunk.bytes (pad ∷ after))
+    omega (
+      arith,
+      room,
+      rest,
+      sized,
+      eight_bytes header chunk.id chunk.size begun.is_header,
+      length-append header (chunk.bytes ++ (pad ∷ after)),
+      length-append chunk.bytes (pad ∷ after),
+    )
 part_only _ _ _ _ _ (Unpadded offset left chunk header chunks tail after begun sized e on) open_ =
     let room = begun.room in
     let rest = part_only (offset + 8 + chunk.size) (left_after left chunk) chunks tail after on open_ in
-    omega (arith, room, rest, sized, eight_bytes header chunk.id chunk.size begun.is_header, length-append header (chunk.bytes ++ after), length-append chunk.bytes after)
+    omega (
+      arith,
+      room,
+      rest,
+      sized,
+      eight_bytes header chunk.id chunk.size begun.is_header,
+      length-append header (chunk.bytes ++ after),
+      length-append chunk.bytes after,
+    )
 
 in_form_only : (bytes : List ℕ) (form : Form) → (chunks_of bytes).form ≡ Some form → IsOpen (chunks_of bytes).tail → length bytes < file_limit
 in_form_only bytes form e open_ =
@@ -71,7 +87,13 @@ in_form_only bytes form e open_ =
     let part = part_only (form.offset + 12) (form.size - 4) (chunks_of bytes).whole (chunks_of bytes).tail l.after l.body open_ in
     let whole : length bytes ≡ length l.prefix + (4 + (length l.number + (length form.kind + length l.after))) =
     ap length l.same
-    ∙ omega (arith, length-append l.prefix (form_word ++ (l.number ++ (form.kind ++ l.after))), length-append form_word (l.number ++ (form.kind ++ l.after)), length-append l.number (form.kind ++ l.after), length-append form.kind l.after) in
+    ∙ omega (
+      arith,
+      length-append l.prefix (form_word ++ (l.number ++ (form.kind ++ l.after))),
+      length-append form_word (l.number ++ (form.kind ++ l.after)),
+      length-append l.number (form.kind ++ l.after),
+      length-append form.kind l.after,
+    ) in
     let within = l.within in
     let room = l.room in
     omega (arith, part, whole, within, room, l.place, l.four, l.is_size.four)
@@ -82,13 +104,16 @@ in_form_only bytes form e open_ =
 abbrev FewInHead : ℕ → Chunks → List ℕ → Type 0
 FewInHead most chunks bytes = chunks.form ≡ None → IsOpen chunks.tail → length bytes < most
 
-few_cond : (t : Bool) (few most : ℕ) (chunks : Chunks) (bytes : List ℕ) → ltb (length bytes) few ≡ t → few ≤ most → FewInHead most chunks bytes → FewInHead most (cond t in_head chunks) bytes
+few_cond : (t : Bool) (few most : ℕ) (chunks : Chunks) (bytes : List ℕ) → ltb (length bytes) few ≡ t → few ≤ most → FewInHead most chunks bytes
+    → FewInHead most (cond t in_head chunks) bytes
 few_cond true few most chunks bytes e less next = λ none open_. let short : length bytes < few = ltb-true _ _ e in omega (arith, short)
 few_cond false few most chunks bytes e less next = next
 
 few_kind : (offset size : ℕ) (bytes : List ℕ) → FewInHead 4 (kind_at offset size bytes) bytes
 few_kind offset size bytes =
-    few_cond (ltb (length bytes) 4) 4 4 (in_form (record { offset = offset; kind = take 4 bytes; size = size }) (rest_at (offset + 12) (size - 4) (drop 4 bytes))) bytes refl (omega arith) (λ none open_. cc)
+    few_cond (ltb (length bytes) 4) 4 4
+    (in_form (record { offset = offset; kind = take 4 bytes; size = size }) (rest_at (offset + 12) (size - 4) (drop 4 bytes))) bytes refl (omega arith)
+    (λ none open_. cc)
 
 few_size : (f : Option FaultKind) (offset size : ℕ) (bytes : List ℕ) → FewInHead 4 (size_at f offset size bytes) bytes
 few_size (Some kind) offset size bytes = λ none open_. absurd open_
@@ -105,7 +130,8 @@ few_start [] bytes e = cc
 few_start (w ∷ wanted) [] e = omega arith
 few_start (w ∷ wanted) (b ∷ bytes) e = by (eqb w b) e (few_start wanted bytes)
   where
-    by : (t : Bool) → cond t (start_of wanted bytes) Differs ≡ Arriving → (start_of wanted bytes ≡ Arriving → length bytes < length wanted) → length (b ∷ bytes) < length (w ∷ wanted)
+    by : (t : Bool) → cond t (start_of wanted bytes) Differs ≡ Arriving → (start_of wanted bytes ≡ Arriving → length bytes < length wanted)
+        → length (b ∷ bytes) < length (w ∷ wanted)
     by true e less = let fewer = less e in omega (arith, fewer)
     by false e less = cc
 
@@ -135,7 +161,8 @@ open_is_early bytes open_ = by (chunks_of bytes).form refl
     by None e = let less = few_magic bytes (start_of magic bytes) refl e open_ in omega (arith, less, large_limit)
 
 -- only bytes that end within the FORM are cut
-cut_open : (whole : List Chunk) (tail : Tail) (offset : ℕ) → end_of whole tail ≡ Broken Truncated offset → IsOpen tail ⊎ ((place : ℕ) × (tail ≡ Broken Truncated place))
+cut_open : (whole : List Chunk) (tail : Tail) (offset : ℕ) → end_of whole tail ≡ Broken Truncated offset
+    → IsOpen tail ⊎ ((place : ℕ) × (tail ≡ Broken Truncated place))
 cut_open whole InHead offset e = inl tt
 cut_open whole (InHeader place bytes) offset e = inl tt
 cut_open whole (InData chunk) offset e = inl tt

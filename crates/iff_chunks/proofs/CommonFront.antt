@@ -13,12 +13,14 @@ common_none (x ∷ w) = refl
 pub common_le_wanted : (w b : List ℕ) → common_front w b ≤ length w
 common_le_wanted [] b = omega arith
 common_le_wanted (x ∷ w) [] = omega arith
-common_le_wanted (x ∷ w) (y ∷ b) = elim (eqb x y) as (λ t. cond t (common_front w b + 1) 0 ≤ suc (length w)) [ true ↦ omega (arith, common_le_wanted w b) | false ↦ omega arith ]
+common_le_wanted (x ∷ w) (y ∷ b) =
+    elim (eqb x y) as (λ t. cond t (common_front w b + 1) 0 ≤ suc (length w)) [ true ↦ omega (arith, common_le_wanted w b) | false ↦ omega arith ]
 
 pub common_le_bytes : (w b : List ℕ) → common_front w b ≤ length b
 common_le_bytes [] b = omega arith
 common_le_bytes (x ∷ w) [] = omega arith
-common_le_bytes (x ∷ w) (y ∷ b) = elim (eqb x y) as (λ t. cond t (common_front w b + 1) 0 ≤ suc (length b)) [ true ↦ omega (arith, common_le_bytes w b) | false ↦ omega arith ]
+common_le_bytes (x ∷ w) (y ∷ b) =
+    elim (eqb x y) as (λ t. cond t (common_front w b + 1) 0 ≤ suc (length b)) [ true ↦ omega (arith, common_le_bytes w b) | false ↦ omega arith ]
 
 -- all wanted bytes are there
 begins : (w b more : List ℕ) → common_front w b ≡ length w → start_of w (take (common_front w b) b ++ more) ≡ Begins more
@@ -46,7 +48,8 @@ arriving_part (x ∷ w) b zero h k = refl
 arriving_part (x ∷ w) [] (suc n) h k = refl
 arriving_part (x ∷ w) (y ∷ b) (suc n) h k = grind (arith, common_steps, arriving_part w b n)
 
-pub whole_match : (wanted : List ℕ) (matched : ℕ) (piece : List ℕ) (used : ℕ) → used ≡ common_front (drop matched wanted) piece → used ≡ length (drop matched wanted) → Matches wanted matched piece (matching.Whole used)
+pub whole_match : (wanted : List ℕ) (matched : ℕ) (piece : List ℕ) (used : ℕ) → used ≡ common_front (drop matched wanted) piece
+    → used ≡ length (drop matched wanted) → Matches wanted matched piece (matching.Whole used)
 whole_match wanted matched piece used e whole =
     let w = drop matched wanted in (
       omega (arith, common_le_bytes w piece),
@@ -54,7 +57,8 @@ whole_match wanted matched piece used e whole =
       λ n h. arriving_part w piece n (omega arith) (omega arith),
     )
 
-pub part_match : (wanted : List ℕ) (matched : ℕ) (piece : List ℕ) (used : ℕ) → used ≡ common_front (drop matched wanted) piece → used ≢ length (drop matched wanted) → used ≡ length piece → matched < length wanted → Matches wanted matched piece (matching.Part (matched + used))
+pub part_match : (wanted : List ℕ) (matched : ℕ) (piece : List ℕ) (used : ℕ) → used ≡ common_front (drop matched wanted) piece
+    → used ≢ length (drop matched wanted) → used ≡ length piece → matched < length wanted → Matches wanted matched piece (matching.Part (matched + used))
 part_match wanted matched piece used e short whole inside =
     let w = drop matched wanted in (
       omega (arith, common_le_wanted w piece, length-drop matched wanted),
@@ -62,10 +66,12 @@ part_match wanted matched piece used e short whole inside =
       λ n h. arriving_part w piece n (omega arith) (omega (arith, common_le_wanted w piece)),
     )
 
-pub other_match : (wanted : List ℕ) (matched : ℕ) (piece : List ℕ) (used : ℕ) → used ≡ common_front (drop matched wanted) piece → used ≢ length (drop matched wanted) → used ≢ length piece → Matches wanted matched piece (matching.Differs (used + 1))
+pub other_match : (wanted : List ℕ) (matched : ℕ) (piece : List ℕ) (used : ℕ) → used ≡ common_front (drop matched wanted) piece
+    → used ≢ length (drop matched wanted) → used ≢ length piece → Matches wanted matched piece (matching.Differs (used + 1))
 other_match wanted matched piece used e short long =
     let w = drop matched wanted in (
       omega (arith, common_le_bytes w piece),
-      λ more. ap (λ n. start_of w (take (n + 1) piece ++ more)) e ∙ differs w piece more (omega (arith, common_le_wanted w piece)) (omega (arith, common_le_bytes w piece)),
+      λ more. ap (λ n. start_of w (take (n + 1) piece ++ more)) e
+          ∙ differs w piece more (omega (arith, common_le_wanted w piece)) (omega (arith, common_le_bytes w piece)),
       λ n h. arriving_part w piece n (omega arith) (omega (arith, common_le_wanted w piece)),
     )

@@ -32,31 +32,40 @@ at_header : (offset left size : ℕ) (header id more : List ℕ) → 8 ≤ left 
     → rest_at offset left (header ++ more) ≡ found_so rest_at (header_at (header_fault id size (left - 8)) id offset size (left - 8) more)
 at_header offset left size header id more room h =
     found_header offset left header more room (eight_bytes header id size h)
-    ∙ ap (λ i. found_so rest_at (header_at (header_fault i (big_number 4 (drop 4 header)) (left - 8)) i offset (big_number 4 (drop 4 header)) (left - 8) more)) (first_four header id size h)
+    ∙ ap (λ i. found_so rest_at (header_at (header_fault i (big_number 4 (drop 4 header)) (left - 8)) i offset (big_number 4 (drop 4 header)) (left - 8) more))
+    (first_four header id size h)
     ∙ ap (λ n. found_so rest_at (header_at (header_fault id n (left - 8)) id offset n (left - 8) more)) (last_four header id size h)
 
-with_fault : (offset left size : ℕ) (header id more : List ℕ) (fault : Option FaultKind) → 8 ≤ left → IsHeader header id size → header_fault id size (left - 8) ≡ fault
+with_fault : (offset left size : ℕ) (header id more : List ℕ) (fault : Option FaultKind) → 8 ≤ left → IsHeader header id size
+    → header_fault id size (left - 8) ≡ fault
     → rest_at offset left (header ++ more) ≡ found_so rest_at (header_at fault id offset size (left - 8) more)
-with_fault offset left size header id more fault room h f = at_header offset left size header id more room h ∙ ap (λ o. found_so rest_at (header_at o id offset size (left - 8) more)) f
+with_fault offset left size header id more fault room h f =
+    at_header offset left size header id more room h ∙ ap (λ o. found_so rest_at (header_at o id offset size (left - 8) more)) f
 
 bad_id : (id : List ℕ) (size left : ℕ) → list_all is_id_byte id ≡ false → header_fault id size left ≡ Some BadId
 bad_id id size left e = cond_false (list_all is_id_byte id) (cond (ltb left size) (Some Overrun) None) (Some BadId) e
 
 overrun : (id : List ℕ) (size left : ℕ) → list_all is_id_byte id ≡ true → left < size → header_fault id size left ≡ Some Overrun
-overrun id size left e over = cond_true (list_all is_id_byte id) (cond (ltb left size) (Some Overrun) None) (Some BadId) e ∙ cond_true (ltb left size) (Some Overrun) None (lt-ltb left size over)
+overrun id size left e over =
+    cond_true (list_all is_id_byte id) (cond (ltb left size) (Some Overrun) None) (Some BadId) e
+    ∙ cond_true (ltb left size) (Some Overrun) None (lt-ltb left size over)
 
 no_fault : (id : List ℕ) (size left : ℕ) → list_all is_id_byte id ≡ true → size ≤ left → header_fault id size left ≡ None
-no_fault id size left e fits = cond_true (list_all is_id_byte id) (cond (ltb left size) (Some Overrun) None) (Some BadId) e ∙ cond_false (ltb left size) (Some Overrun) None (le-ltb left size fits)
+no_fault id size left e fits =
+    cond_true (list_all is_id_byte id) (cond (ltb left size) (Some Overrun) None) (Some BadId) e
+    ∙ cond_false (ltb left size) (Some Overrun) None (le-ltb left size fits)
 
 -- where a chunk begins
 at_chunk : (offset left : ℕ) (chunk : Chunk) (header more : List ℕ) → IsBegun offset left chunk header
     → rest_at offset left (header ++ more) ≡ found_so rest_at (data_at chunk.id offset chunk.size (left_after left chunk) more)
 at_chunk offset left chunk header more begun =
     let room = begun.room in
-    with_fault offset left chunk.size header chunk.id more None (omega (arith, room)) begun.is_header (no_fault chunk.id chunk.size (left - 8) begun.printable (omega (arith, room)))
+    with_fault offset left chunk.size header chunk.id more None (omega (arith, room)) begun.is_header
+    (no_fault chunk.id chunk.size (left - 8) begun.printable (omega (arith, room)))
 
 -- the chunk is what its header and its data say
-this_chunk : (offset left : ℕ) (chunk : Chunk) (header : List ℕ) → IsBegun offset left chunk header → ◌≡◌ {A = Chunk} (record { id = chunk.id; offset = offset; size = chunk.size; bytes = chunk.bytes }) chunk
+this_chunk : (offset left : ℕ) (chunk : Chunk) (header : List ℕ) → IsBegun offset left chunk header
+    → ◌≡◌ {A = Chunk} (record { id = chunk.id; offset = offset; size = chunk.size; bytes = chunk.bytes }) chunk
 this_chunk offset left chunk header begun = ap (λ o. record { id = chunk.id; offset = o; size = chunk.size; bytes = chunk.bytes }) (sym begun.place)
 
 -- where all data of a chunk are there
@@ -74,12 +83,15 @@ padded offset size left more e = cond_true (is_padded size left) (pad_at offset 
 unpadded : (offset size left : ℕ) (more : List ℕ) → is_padded size left ≡ false → behind_data offset size left more ≡ On (offset + 8 + size) left more
 unpadded offset size left more e = cond_false (is_padded size left) (pad_at offset (offset + 9 + size) left more) (On (offset + 8 + size) left more) e
 
-pub laid_rest : (offset left : ℕ) (chunks : List Chunk) (tail : Tail) (bytes : List ℕ) → Laid offset left chunks tail bytes → rest_at offset left bytes ≡ rest_of chunks tail
+pub laid_rest : (offset left : ℕ) (chunks : List Chunk) (tail : Tail) (bytes : List ℕ) → Laid offset left chunks tail bytes
+    → rest_at offset left bytes ≡ rest_of chunks tail
 laid_rest _ _ _ _ _ (AtEnd offset bytes) = refl
 laid_rest _ _ _ _ _ (TooShort offset left bytes some few) = found_short offset left bytes some few
 laid_rest _ _ _ _ _ (Beginning offset left bytes room few) = found_part offset left bytes room few
-laid_rest _ _ _ _ _ (NoId offset left size header id more room h e) = with_fault offset left size header id more (Some BadId) room h (bad_id id size (left - 8) e)
-laid_rest _ _ _ _ _ (TooLong offset left size header id more room h e over) = with_fault offset left size header id more (Some Overrun) room h (overrun id size (left - 8) e over)
+laid_rest _ _ _ _ _ (NoId offset left size header id more room h e) =
+    with_fault offset left size header id more (Some BadId) room h (bad_id id size (left - 8) e)
+laid_rest _ _ _ _ _ (TooLong offset left size header id more room h e over) =
+    with_fault offset left size header id more (Some Overrun) room h (overrun id size (left - 8) e over)
 laid_rest _ _ _ _ _ (DataArriving offset left chunk header begun short) =
     at_chunk offset left chunk header chunk.bytes begun
     ∙ ap (found_so rest_at) (data_some chunk.id offset chunk.size (left_after left chunk) chunk.bytes short)
@@ -118,7 +130,8 @@ led : (prefix rest : List ℕ) → IsPrefix prefix → chunks_of (prefix ++ (for
 led prefix rest (inl e) = ap (λ p. chunks_of (p ++ (form_word ++ rest))) e ∙ ap (λ p. length_at (length p) rest) (sym e)
 led prefix rest (inr e) = ap (λ p. chunks_of (p ++ (form_word ++ rest))) e ∙ ap (λ p. length_at (length p) rest) (sym e)
 
-pub laid_form : (bytes : List ℕ) (form : Form) (chunks : List Chunk) (tail : Tail) → IsLaidForm bytes form chunks tail → chunks_of bytes ≡ record { form = Some form; whole = chunks; tail = tail }
+pub laid_form : (bytes : List ℕ) (form : Form) (chunks : List Chunk) (tail : Tail) → IsLaidForm bytes form chunks tail
+    → chunks_of bytes ≡ record { form = Some form; whole = chunks; tail = tail }
 laid_form bytes form chunks tail l =
     ap chunks_of l.same
     ∙ led l.prefix (l.number ++ (form.kind ++ l.after)) l.may_lead

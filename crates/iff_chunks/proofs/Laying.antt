@@ -22,35 +22,48 @@ LaysUpTo most next = (offset left : ℕ) (bytes : List ℕ) → left ≤ most �
 has_laid : (most : ℕ) (next : ℕ → ℕ → List ℕ → Rest) → LaysUpTo most next → (header : List ℕ) (offset left : ℕ) (chunk : Chunk) (after : List ℕ)
     → IsBegun offset left chunk header → length chunk.bytes ≡ chunk.size → left ≤ suc most
     → (t : Bool) → is_padded chunk.size (left_after left chunk) ≡ t
-    → LaidRest offset left (found_so next (Has chunk (cond t (pad_at offset (offset + 9 + chunk.size) (left_after left chunk) after) (On (offset + 8 + chunk.size) (left_after left chunk) after)))) (header ++ (chunk.bytes ++ after))
+    → LaidRest offset left (found_so next
+    (Has chunk (cond t (pad_at offset (offset + 9 + chunk.size) (left_after left chunk) after) (On (offset + 8 + chunk.size) (left_after left chunk) after))))
+    (header ++ (chunk.bytes ++ after))
 has_laid most next lays header offset left chunk after begun sized few false e =
     let room = begun.room in
     let rest = next (offset + 8 + chunk.size) (left_after left chunk) after in
-    Unpadded offset left chunk header rest.whole rest.tail after begun sized e (lays (offset + 8 + chunk.size) (left_after left chunk) after (omega (arith, room)))
+    Unpadded offset left chunk header rest.whole rest.tail after begun sized e
+    (lays (offset + 8 + chunk.size) (left_after left chunk) after (omega (arith, room)))
 has_laid most next lays header offset left chunk [] begun sized few true e =
-    subst (λ b. Laid offset left (chunk ∷ []) (InPad offset (eqb (left_after left chunk) 1)) (header ++ b)) (sym (append-nil chunk.bytes)) (PadMissing offset left chunk header begun sized e)
+    subst (λ b. Laid offset left (chunk ∷ []) (InPad offset (eqb (left_after left chunk) 1)) (header ++ b)) (sym (append-nil chunk.bytes))
+    (PadMissing offset left chunk header begun sized e)
 has_laid most next lays header offset left chunk (p ∷ after) begun sized few true e =
     let room = begun.room in
     let rest = next (offset + 9 + chunk.size) (left_after left chunk - 1) after in
-    Padded offset left chunk header p rest.whole rest.tail after begun sized e (lays (offset + 9 + chunk.size) (left_after left chunk - 1) after (omega (arith, room)))
+    Padded offset left chunk header p rest.whole rest.tail after begun sized e
+    (lays (offset + 9 + chunk.size) (left_after left chunk - 1) after (omega (arith, room)))
 
 data_laid : (most : ℕ) (next : ℕ → ℕ → List ℕ → Rest) → LaysUpTo most next → (id header : List ℕ) (offset size left : ℕ) (bytes : List ℕ)
     → IsHeader header id size → list_all is_id_byte id ≡ true → size ≤ left - 8 → 8 ≤ left → left ≤ suc most
     → (few : Bool) → ltb (length bytes) size ≡ few
-    → LaidRest offset left (found_so next (cond few (Stops (InData (record { id = id; offset = offset; size = size; bytes = bytes }))) (Has (record { id = id; offset = offset; size = size; bytes = take size bytes }) (behind_data offset size (left - 8 - size) (drop size bytes))))) (header ++ bytes)
+    → LaidRest offset left (found_so next
+    (cond few (Stops (InData (record { id = id; offset = offset; size = size; bytes = bytes })))
+    (Has (record { id = id; offset = offset; size = size; bytes = take size bytes }) (behind_data offset size (left - 8 - size) (drop size bytes)))))
+    (header ++ bytes)
 data_laid most next lays id header offset size left bytes is_header named fits room less true e =
-    DataArriving offset left (record { id = id; offset = offset; size = size; bytes = bytes }) header (record { place = refl; is_header = is_header; printable = named; room = omega arith }) (ltb-true _ _ e)
+    DataArriving offset left (record { id = id; offset = offset; size = size; bytes = bytes }) header
+    (record { place = refl; is_header = is_header; printable = named; room = omega arith }) (ltb-true _ _ e)
 data_laid most next lays id header offset size left bytes is_header named fits room less false e =
     let chunk : Chunk = record { id = id; offset = offset; size = size; bytes = take size bytes } in
-    subst (λ b. LaidRest offset left (found_so next (Has chunk (behind_data offset size (left - 8 - size) (drop size bytes)))) (header ++ b)) (take-append-drop size bytes)
-    (has_laid most next lays header offset left chunk (drop size bytes) (record { place = refl; is_header = is_header; printable = named; room = omega arith }) (length-take-le size bytes (ltb-false _ _ e)) less (is_padded size (left - 8 - size)) refl)
+    subst (λ b. LaidRest offset left (found_so next (Has chunk (behind_data offset size (left - 8 - size) (drop size bytes)))) (header ++ b))
+    (take-append-drop size bytes)
+    (has_laid most next lays header offset left chunk (drop size bytes) (record { place = refl; is_header = is_header; printable = named; room = omega arith })
+    (length-take-le size bytes (ltb-false _ _ e)) less (is_padded size (left - 8 - size)) refl)
 
 header_laid : (most : ℕ) (next : ℕ → ℕ → List ℕ → Rest) → LaysUpTo most next → (id header : List ℕ) (offset size left : ℕ) (bytes : List ℕ)
     → IsHeader header id size → 8 ≤ left → left ≤ suc most
     → (named over : Bool) → list_all is_id_byte id ≡ named → ltb (left - 8) size ≡ over
-    → LaidRest offset left (found_so next (header_at (cond named (cond over (Some Overrun) None) (Some BadId)) id offset size (left - 8) bytes)) (header ++ bytes)
+    → LaidRest offset left (found_so next (header_at (cond named (cond over (Some Overrun) None) (Some BadId)) id offset size (left - 8) bytes))
+    (header ++ bytes)
 header_laid most next lays id header offset size left bytes is_header room less false over n o = NoId offset left size header id bytes room is_header n
-header_laid most next lays id header offset size left bytes is_header room less true true n o = TooLong offset left size header id bytes room is_header n (ltb-true _ _ o)
+header_laid most next lays id header offset size left bytes is_header room less true true n o =
+    TooLong offset left size header id bytes room is_header n (ltb-true _ _ o)
 header_laid most next lays id header offset size left bytes is_header room less true false n o =
     data_laid most next lays id header offset size left bytes is_header n (ltb-false _ _ o) room less (ltb (length bytes) size) refl
 
@@ -61,10 +74,15 @@ split_header bytes =
     ∙ ap (λ l. take 4 bytes ++ (take 4 (drop 4 bytes) ++ l)) (drop-drop 4 4 bytes)
     ∙ sym (append_assoc (take 4 bytes) (take 4 (drop 4 bytes)) (drop 8 bytes))
 
-found_laid : (most : ℕ) (next : ℕ → ℕ → List ℕ → Rest) → LaysUpTo most next → (offset left : ℕ) (bytes : List ℕ) → left ≤ suc most → (ended short few : Bool) → eqb left 0 ≡ ended → ltb left 8 ≡ short → ltb (length bytes) 8 ≡ few
-    → LaidRest offset left (found_so next (cond ended (Stops FormEnd) (cond short (Stops (Broken ShortHeader offset)) (cond few (Stops (InHeader offset bytes)) (whole_header (take 4 bytes) offset (big_number 4 (take 4 (drop 4 bytes))) (left - 8) (drop 8 bytes)))))) bytes
-found_laid most next lays offset left bytes less true short few z s f = subst (λ n. Laid offset n [] FormEnd bytes) (sym (eqb-true left 0 z)) (AtEnd offset bytes)
-found_laid most next lays offset left bytes less false true few z s f = let some : left ≢ 0 = eqb-false left 0 z in TooShort offset left bytes (omega arith) (ltb-true _ _ s)
+found_laid : (most : ℕ) (next : ℕ → ℕ → List ℕ → Rest) → LaysUpTo most next → (offset left : ℕ) (bytes : List ℕ) → left ≤ suc most → (ended short few : Bool)
+    → eqb left 0 ≡ ended → ltb left 8 ≡ short → ltb (length bytes) 8 ≡ few
+    → LaidRest offset left (found_so next
+    (cond ended (Stops FormEnd) (cond short (Stops (Broken ShortHeader offset))
+    (cond few (Stops (InHeader offset bytes)) (whole_header (take 4 bytes) offset (big_number 4 (take 4 (drop 4 bytes))) (left - 8) (drop 8 bytes)))))) bytes
+found_laid most next lays offset left bytes less true short few z s f =
+    subst (λ n. Laid offset n [] FormEnd bytes) (sym (eqb-true left 0 z)) (AtEnd offset bytes)
+found_laid most next lays offset left bytes less false true few z s f =
+    let some : left ≢ 0 = eqb-false left 0 z in TooShort offset left bytes (omega arith) (ltb-true _ _ s)
 found_laid most next lays offset left bytes less false false true z s f = Beginning offset left bytes (ltb-false _ _ s) (ltb-true _ _ f)
 found_laid most next lays offset left bytes less false false false z s f =
     let id = take 4 bytes in
@@ -83,7 +101,9 @@ found_laid most next lays offset left bytes less false false false z s f =
 
 from_laid : (most : ℕ) → LaysUpTo most (chunks_from most)
 from_laid zero = λ offset left bytes less. let none : 0 ≡ left = omega arith in subst (λ n. Laid offset n [] FormEnd bytes) none (AtEnd offset bytes)
-from_laid (suc most) = λ offset left bytes less. found_laid most (chunks_from most) (from_laid most) offset left bytes less (eqb left 0) (ltb left 8) (ltb (length bytes) 8) refl refl refl
+from_laid (suc most) =
+    λ offset left bytes less. found_laid most (chunks_from most) (from_laid most) offset left bytes less (eqb left 0) (ltb left 8) (ltb (length bytes) 8) refl
+    refl refl
 
 -- the head
 
@@ -95,7 +115,9 @@ compared w b s found false e h other same = absurd (other h)
 pub begins_so : (wanted bytes rest : List ℕ) → start_of wanted bytes ≡ Begins rest → bytes ≡ wanted ++ rest
 begins_so [] bytes rest e = cc
 begins_so (w ∷ wanted) [] rest e = cc
-begins_so (w ∷ wanted) (b ∷ bytes) rest e = compared w b (start_of wanted bytes) (Begins rest) (eqb w b) refl e (λ d. cc) (λ same s. ap (λ x. x ∷ bytes) (sym same) ∙ ap (λ l. w ∷ l) (begins_so wanted bytes rest s))
+begins_so (w ∷ wanted) (b ∷ bytes) rest e =
+    compared w b (start_of wanted bytes) (Begins rest) (eqb w b) refl e (λ d. cc)
+    (λ same s. ap (λ x. x ∷ bytes) (sym same) ∙ ap (λ l. w ∷ l) (begins_so wanted bytes rest s))
 
 -- the bytes behind the FORM's word
 pub record IsLaidHead (bytes : List ℕ) (offset : ℕ) (form : Form) (chunks : List Chunk) (tail : Tail) : Type 0 where
@@ -110,14 +132,18 @@ pub record IsLaidHead (bytes : List ℕ) (offset : ℕ) (form : Form) (chunks : 
   pub body : Laid (form.offset + 12) (form.size - 4) chunks tail after
 
 -- the FORM's length has no fault
-length_fits : (offset size : ℕ) → (small large : Bool) → ltb size 4 ≡ small → ltb file_limit (offset + 8 + size) ≡ large → cond small (Some NotForm) (cond large (Some TooLarge) None) ≡ None → (4 ≤ size) × (offset + 8 + size ≤ file_limit)
+length_fits : (offset size : ℕ) → (small large : Bool) → ltb size 4 ≡ small → ltb file_limit (offset + 8 + size) ≡ large
+    → cond small (Some NotForm) (cond large (Some TooLarge) None) ≡ None → (4 ≤ size) × (offset + 8 + size ≤ file_limit)
 length_fits offset size true large a b e = cc
 length_fits offset size false true a b e = cc
 length_fits offset size false false a b e = (ltb-false _ _ a, ltb-false _ _ b)
 
-kind_laid : (offset size : ℕ) (bytes number all : List ℕ) (form : Form) → IsNumber number size → 4 ≤ size → offset + 8 + size ≤ file_limit → all ≡ number ++ bytes
+kind_laid : (offset size : ℕ) (bytes number all : List ℕ) (form : Form) → IsNumber number size → 4 ≤ size → offset + 8 + size ≤ file_limit
+    → all ≡ number ++ bytes
     → (few : Bool) → ltb (length bytes) 4 ≡ few
-    → (chunks : Chunks) → cond few in_head (in_form (record { offset = offset; kind = take 4 bytes; size = size }) (rest_at (offset + 12) (size - 4) (drop 4 bytes))) ≡ chunks → chunks.form ≡ Some form → IsLaidHead all offset form chunks.whole chunks.tail
+    → (chunks : Chunks) → cond few in_head
+    (in_form (record { offset = offset; kind = take 4 bytes; size = size }) (rest_at (offset + 12) (size - 4) (drop 4 bytes))) ≡ chunks
+    → chunks.form ≡ Some form → IsLaidHead all offset form chunks.whole chunks.tail
 kind_laid offset size bytes number all form is_size room within same true f chunks c e = let none : None ≡ Some form = ap (λ x. x.form) c ∙ e in cc
 kind_laid offset size bytes number all form is_size room within same false f chunks c e =
     let here : Form = record { offset = offset; kind = take 4 bytes; size = size } in
@@ -137,22 +163,28 @@ kind_laid offset size bytes number all form is_size room within same false f chu
       body = from_laid (size - 4) (offset + 12) (size - 4) (drop 4 bytes) (omega arith);
     }))
 
-size_laid : (offset size : ℕ) (bytes number all : List ℕ) (form : Form) → IsNumber number size → all ≡ number ++ bytes → (fault : Option FaultKind) → length_fault offset size ≡ fault
-    → (size_at fault offset size bytes).form ≡ Some form → IsLaidHead all offset form (size_at fault offset size bytes).whole (size_at fault offset size bytes).tail
+size_laid : (offset size : ℕ) (bytes number all : List ℕ) (form : Form) → IsNumber number size → all ≡ number ++ bytes → (fault : Option FaultKind)
+    → length_fault offset size ≡ fault
+    → (size_at fault offset size bytes).form ≡ Some form
+    → IsLaidHead all offset form (size_at fault offset size bytes).whole (size_at fault offset size bytes).tail
 size_laid offset size bytes number all form is_size same (Some kind) f e = cc
 size_laid offset size bytes number all form is_size same None f e =
     let fits = length_fits offset size (ltb size 4) (ltb file_limit (offset + 8 + size)) refl refl f in
     kind_laid offset size bytes number all form is_size fits.0 fits.1 same (ltb (length bytes) 4) refl (kind_at offset size bytes) refl e
 
-length_laid : (offset : ℕ) (bytes : List ℕ) (form : Form) (few : Bool) → ltb (length bytes) 4 ≡ few → (chunks : Chunks) → cond few in_head (whole_length offset (big_number 4 (take 4 bytes)) (drop 4 bytes)) ≡ chunks → chunks.form ≡ Some form → IsLaidHead bytes offset form chunks.whole chunks.tail
+length_laid : (offset : ℕ) (bytes : List ℕ) (form : Form) (few : Bool) → ltb (length bytes) 4 ≡ few → (chunks : Chunks)
+    → cond few in_head (whole_length offset (big_number 4 (take 4 bytes)) (drop 4 bytes)) ≡ chunks → chunks.form ≡ Some form
+    → IsLaidHead bytes offset form chunks.whole chunks.tail
 length_laid offset bytes form true f chunks c e = let none : None ≡ Some form = ap (λ x. x.form) c ∙ e in cc
 length_laid offset bytes form false f chunks c e =
     let size = big_number 4 (take 4 bytes) in
     subst (λ (x : Chunks). IsLaidHead bytes offset form x.whole x.tail) c
-    (size_laid offset size (drop 4 bytes) (take 4 bytes) bytes form (record { four = length-take-le 4 bytes (ltb-false _ _ f); value = refl }) (sym (take-append-drop 4 bytes)) (length_fault offset size) refl (ap (λ x. x.form) c ∙ e))
+    (size_laid offset size (drop 4 bytes) (take 4 bytes) bytes form (record { four = length-take-le 4 bytes (ltb-false _ _ f); value = refl })
+    (sym (take-append-drop 4 bytes)) (length_fault offset size) refl (ap (λ x. x.form) c ∙ e))
 
 -- with what stands before the FORM
-with_prefix : (prefix bytes rest : List ℕ) (form : Form) (chunks : List Chunk) (tail : Tail) → IsPrefix prefix → bytes ≡ prefix ++ (form_word ++ rest) → IsLaidHead rest (length prefix) form chunks tail → IsLaidForm bytes form chunks tail
+with_prefix : (prefix bytes rest : List ℕ) (form : Form) (chunks : List Chunk) (tail : Tail) → IsPrefix prefix → bytes ≡ prefix ++ (form_word ++ rest)
+    → IsLaidHead rest (length prefix) form chunks tail → IsLaidForm bytes form chunks tail
 with_prefix prefix bytes rest form chunks tail leads same head = record {
   prefix = prefix;
   place = head.place;
@@ -167,14 +199,17 @@ with_prefix prefix bytes rest form chunks tail leads same head = record {
   body = head.body;
 }
 
-word_laid : (prefix bytes behind : List ℕ) (form : Form) → IsPrefix prefix → bytes ≡ prefix ++ behind → (start : Start) → start_of form_word behind ≡ start → (form_at (length prefix) start).form ≡ Some form → IsLaidForm bytes form (form_at (length prefix) start).whole (form_at (length prefix) start).tail
+word_laid : (prefix bytes behind : List ℕ) (form : Form) → IsPrefix prefix → bytes ≡ prefix ++ behind → (start : Start) → start_of form_word behind ≡ start
+    → (form_at (length prefix) start).form ≡ Some form → IsLaidForm bytes form (form_at (length prefix) start).whole (form_at (length prefix) start).tail
 word_laid prefix bytes behind form leads same (Begins rest) s e =
-    with_prefix prefix bytes rest form (length_at (length prefix) rest).whole (length_at (length prefix) rest).tail leads (same ∙ ap (λ b. prefix ++ b) (begins_so form_word behind rest s))
+    with_prefix prefix bytes rest form (length_at (length prefix) rest).whole (length_at (length prefix) rest).tail leads
+    (same ∙ ap (λ b. prefix ++ b) (begins_so form_word behind rest s))
     (length_laid (length prefix) rest form (ltb (length rest) 4) refl (length_at (length prefix) rest) refl e)
 word_laid prefix bytes behind form leads same Arriving s e = cc
 word_laid prefix bytes behind form leads same Differs s e = cc
 
-magic_laid : (bytes : List ℕ) (form : Form) (start : Start) → start_of magic bytes ≡ start → (after_magic start bytes).form ≡ Some form → IsLaidForm bytes form (after_magic start bytes).whole (after_magic start bytes).tail
+magic_laid : (bytes : List ℕ) (form : Form) (start : Start) → start_of magic bytes ≡ start → (after_magic start bytes).form ≡ Some form
+    → IsLaidForm bytes form (after_magic start bytes).whole (after_magic start bytes).tail
 magic_laid bytes form (Begins rest) s e = word_laid magic bytes rest form (inr refl) (begins_so magic bytes rest s) (start_of form_word rest) refl e
 magic_laid bytes form Arriving s e = cc
 magic_laid bytes form Differs s e = word_laid [] bytes bytes form (inl refl) refl (start_of form_word bytes) refl e

@@ -32,7 +32,8 @@ length_gathered got room few = length-take-le got.count got.bytes (omega arith)
 pub moved : (taken : List ℕ) (become : List ℕ → Chunks) (x : List ℕ) → Becomes taken become → Becomes (taken ++ x) (λ more. become (x ++ more))
 moved taken become x on = λ more. ap chunks_of (append_assoc taken x more) ∙ on (x ++ more)
 
-pub in_form_moved : (taken : List ℕ) (told : List Event) (whole : List Chunk) (last : List Event) (next : List ℕ → Rest) (x : List ℕ) → InForm taken told whole last next → InForm (taken ++ x) told whole last (λ more. next (x ++ more))
+pub in_form_moved : (taken : List ℕ) (told : List Event) (whole : List Chunk) (last : List Event) (next : List ℕ → Rest) (x : List ℕ)
+    → InForm taken told whole last next → InForm (taken ++ x) told whole last (λ more. next (x ++ more))
 in_form_moved taken told whole last next x f = record {
   form = f.form;
   told_so = f.told_so;
@@ -43,14 +44,16 @@ in_form_moved taken told whole last next x f = record {
 pub gathers : (front now x more : List ℕ) → now ≡ front ++ x → front ++ (x ++ more) ≡ now ++ more
 gathers front now x more e = sym (append_assoc front x more) ∙ ap (λ l. l ++ more) (sym e)
 
-pub open_told : (bytes : List ℕ) (told : List Event) (chunks : Chunks) → chunks_of bytes ≡ chunks → events_of chunks ≡ told → IsOpen chunks.tail → AllTold bytes told
+pub open_told : (bytes : List ℕ) (told : List Event) (chunks : Chunks) → chunks_of bytes ≡ chunks → events_of chunks ≡ told → IsOpen chunks.tail
+    → AllTold bytes told
 open_told bytes told chunks e all more = record {
   all = ap events_of e ∙ all;
   more = subst (λ c. IsOpen c.tail) (sym e) more;
 }
 
 -- the bytes end at a place of the FORM of which nothing more is to be told
-pub in_form_quiet : (taken : List ℕ) (told : List Event) (whole : List Chunk) (last : List Event) (next : List ℕ → Rest) (x : List ℕ) (tail : Tail) → InForm taken told whole last next → next x ≡ record { whole = []; tail = tail } → tail_events tail ≡ last → IsOpen tail → AllTold (taken ++ x) told
+pub in_form_quiet : (taken : List ℕ) (told : List Event) (whole : List Chunk) (last : List Event) (next : List ℕ → Rest) (x : List ℕ) (tail : Tail)
+    → InForm taken told whole last next → next x ≡ record { whole = []; tail = tail } → tail_events tail ≡ last → IsOpen tail → AllTold (taken ++ x) told
 in_form_quiet taken told whole last next x tail f e t open_yet = record {
   all = in_form_events taken told whole last next f x ∙ ap (λ r. told_of f.form whole (rest_events r)) e ∙ ap (told_of f.form whole) t ∙ sym f.told_so;
   more = subst IsOpen (sym (ap (λ c. c.tail) (f.on x) ∙ ap (λ (r : Rest). r.tail) e)) open_yet;
@@ -66,7 +69,8 @@ same_told told step.NeedBytes used other h = refl
 same_told told step.FormEnd used other h = refl
 same_told told (step.Broken kind offset) used other h = refl
 
-fits_behind : (answer : WalkStep) (place : Stage) (passed used size : ℕ) → answer ≢ step.Data → passed ≤ size → Fits answer place used (size - passed) → Fits answer place (passed + used) size
+fits_behind : (answer : WalkStep) (place : Stage) (passed used size : ℕ) → answer ≢ step.Data → passed ≤ size → Fits answer place used (size - passed)
+    → Fits answer place (passed + used) size
 fits_behind (step.Form kind length) place passed used size d h f = omega (arith, f)
 fits_behind (step.Header id offset length) place passed used size d h f = omega (arith, f)
 fits_behind step.Data place passed used size d h f = absurd (d refl)
@@ -75,7 +79,8 @@ fits_behind step.NeedBytes place passed used size d h f = omega (arith, f)
 fits_behind step.FormEnd place passed used size d h f = f
 fits_behind (step.Broken kind offset) place passed used size d h f = f
 
-quiet_behind : (answer : WalkStep) (passed used fewer : ℕ) → answer ≢ step.Data → passed ≤ fewer → fewer < quiet_until answer (passed + used) → fewer - passed < quiet_until answer used
+quiet_behind : (answer : WalkStep) (passed used fewer : ℕ) → answer ≢ step.Data → passed ≤ fewer → fewer < quiet_until answer (passed + used)
+    → fewer - passed < quiet_until answer used
 quiet_behind (step.Form kind length) passed used fewer d h f = omega arith
 quiet_behind (step.Header id offset length) passed used fewer d h f = omega arith
 quiet_behind step.Data passed used fewer d h f = absurd (d refl)
@@ -93,11 +98,14 @@ pub record Leads (from to : Stage) (piece : List ℕ) (passed : ℕ) : Type 0 wh
 split_take : (taken piece : List ℕ) (passed n : ℕ) → (taken ++ take passed piece) ++ take n (drop passed piece) ≡ taken ++ take (passed + n) piece
 split_take taken piece passed n = append_assoc taken (take passed piece) (take n (drop passed piece)) ∙ ap (λ l. taken ++ l) (sym (take-add passed n piece))
 
-quiet_both : (from to : Stage) (piece : List ℕ) (passed : ℕ) (fed : Fed) (taken : List ℕ) (told : List Event) (fewer : ℕ) → Leads from to piece passed → Feeds to (drop passed piece) fed → fed.step ≢ step.Data → Stands from taken told → fewer < quiet_until fed.step (passed + fed.used) → (early : Bool) → ltb fewer passed ≡ early → AllTold (taken ++ take fewer piece) told
+quiet_both : (from to : Stage) (piece : List ℕ) (passed : ℕ) (fed : Fed) (taken : List ℕ) (told : List Event) (fewer : ℕ) → Leads from to piece passed
+    → Feeds to (drop passed piece) fed → fed.step ≢ step.Data → Stands from taken told → fewer < quiet_until fed.step (passed + fed.used) → (early : Bool)
+    → ltb fewer passed ≡ early → AllTold (taken ++ take fewer piece) told
 quiet_both from to piece passed fed taken told fewer lead f no_data s few true e = lead.quiet taken told fewer s (ltb-true fewer passed e)
 quiet_both from to piece passed fed taken told fewer lead f no_data s few false e =
     let late : passed ≤ fewer = ltb-false fewer passed e in
-    let there = f.quiet (taken ++ take passed piece) told (fewer - passed) (lead.stands taken told s) (quiet_behind fed.step passed fed.used fewer no_data late few) in
+    let there =
+    f.quiet (taken ++ take passed piece) told (fewer - passed) (lead.stands taken told s) (quiet_behind fed.step passed fed.used fewer no_data late few) in
     let bytes = split_take taken piece passed (fewer - passed) in
     let sum : passed + (fewer - passed) ≡ fewer = omega arith in
     subst (λ b. AllTold b told) (bytes ∙ ap (λ n. taken ++ take n piece) sum) there
@@ -128,11 +136,13 @@ feeds_behind from to piece passed fed lead none f no_data stays =
       told = λ taken told s.
           let there = f.told (taken ++ take passed piece) told (lead.stands taken told s) in
           let same = same_told told fed.step (take fed.used (drop passed piece)) (take (passed + fed.used) piece) no_data in
-          subst (λ t. Stands fed.stage (taken ++ take (passed + fed.used) piece) t) same (subst (λ b. Stands fed.stage b (tell told fed.step (take fed.used (drop passed piece)))) (split_take taken piece passed fed.used) there);
+          subst (λ t. Stands fed.stage (taken ++ take (passed + fed.used) piece) t) same
+          (subst (λ b. Stands fed.stage b (tell told fed.step (take fed.used (drop passed piece)))) (split_take taken piece passed fed.used) there);
     }
 
 -- a piece that is used up without an event leaves the walker where nothing more is to be told
-pub feeds_more : (from to : Stage) (piece : List ℕ) → IsSound to → ((taken : List ℕ) (told : List Event) → Stands from taken told → Stands to (taken ++ piece) told)
+pub feeds_more : (from to : Stage) (piece : List ℕ) → IsSound to
+    → ((taken : List ℕ) (told : List Event) → Stands from taken told → Stands to (taken ++ piece) told)
     → ((taken : List ℕ) (told : List Event) (fewer : ℕ) → Stands from taken told → fewer ≤ length piece → AllTold (taken ++ take fewer piece) told)
     → Stays from (record { used = length piece; stage = to; step = step.NeedBytes })
     → Feeds from piece (record { used = length piece; stage = to; step = step.NeedBytes })

@@ -26,8 +26,10 @@ rest_order [] FormEnd = tt
 rest_order [] (Broken kind offset) = tt
 rest_order (chunk ∷ whole) tail =
     let rest = flat_map chunk_events whole ++ tail_events tail in
-    let events : ((data_events chunk.bytes ++ ChunkEnd ∷ []) ++ flat_map chunk_events whole) ++ tail_events tail ≡ data_events chunk.bytes ++ (ChunkEnd ∷ rest) =
-    append_assoc (data_events chunk.bytes ++ ChunkEnd ∷ []) (flat_map chunk_events whole) (tail_events tail) ∙ append_assoc (data_events chunk.bytes) (ChunkEnd ∷ []) rest in
+    let events : ((data_events chunk.bytes ++ ChunkEnd ∷ []) ++ flat_map chunk_events whole) ++ tail_events tail
+    ≡ data_events chunk.bytes ++ (ChunkEnd ∷ rest) =
+    append_assoc (data_events chunk.bytes ++ ChunkEnd ∷ []) (flat_map chunk_events whole) (tail_events tail)
+    ∙ append_assoc (data_events chunk.bytes) (ChunkEnd ∷ []) rest in
     subst (InOrder AtData) (sym events) (data_order chunk.bytes rest (rest_order whole tail))
 
 abbrev Ordered : Chunks → Type 0
@@ -39,7 +41,8 @@ form_order form rest = rest_order rest.whole rest.tail
 kind_order : (offset size : ℕ) (bytes : List ℕ) → Ordered (kind_at offset size bytes)
 kind_order offset size bytes = by (ltb (length bytes) 4)
   where
-    by : (few : Bool) → Ordered (cond few in_head (in_form (record { offset = offset; kind = take 4 bytes; size = size }) (rest_at (offset + 12) (size - 4) (drop 4 bytes))))
+    by : (few : Bool) → Ordered (cond few in_head
+        (in_form (record { offset = offset; kind = take 4 bytes; size = size }) (rest_at (offset + 12) (size - 4) (drop 4 bytes))))
     by true = tt
     by false = form_order (record { offset = offset; kind = take 4 bytes; size = size }) (rest_at (offset + 12) (size - 4) (drop 4 bytes))
 
@@ -67,25 +70,29 @@ magic_order Differs bytes = word_order 0 (start_of form_word bytes)
 pub events_order : (bytes : List ℕ) → InOrder AtForm (events_of (chunks_of bytes))
 events_order bytes = magic_order (start_of magic bytes) bytes
 
-begun_order : (turn : Turn) (kind : List ℕ) (size : ℕ) (told events : List Event) → ((t : Turn) → InOrder t events → InOrder t told) → InOrder turn (Begun kind size ∷ events) → InOrder turn (Begun kind size ∷ told)
+begun_order : (turn : Turn) (kind : List ℕ) (size : ℕ) (told events : List Event) → ((t : Turn) → InOrder t events → InOrder t told)
+    → InOrder turn (Begun kind size ∷ events) → InOrder turn (Begun kind size ∷ told)
 begun_order AtForm kind size told events on o = on AtHeader o
 begun_order AtHeader kind size told events on o = o
 begun_order AtData kind size told events on o = o
 begun_order AtEnd kind size told events on o = o
 
-header_order : (turn : Turn) (id : List ℕ) (offset size : ℕ) (told events : List Event) → ((t : Turn) → InOrder t events → InOrder t told) → InOrder turn (Header id offset size ∷ events) → InOrder turn (Header id offset size ∷ told)
+header_order : (turn : Turn) (id : List ℕ) (offset size : ℕ) (told events : List Event) → ((t : Turn) → InOrder t events → InOrder t told)
+    → InOrder turn (Header id offset size ∷ events) → InOrder turn (Header id offset size ∷ told)
 header_order AtForm id offset size told events on o = o
 header_order AtHeader id offset size told events on o = on AtData o
 header_order AtData id offset size told events on o = o
 header_order AtEnd id offset size told events on o = o
 
-end_order : (turn : Turn) (told events : List Event) → ((t : Turn) → InOrder t events → InOrder t told) → InOrder turn (ChunkEnd ∷ events) → InOrder turn (ChunkEnd ∷ told)
+end_order : (turn : Turn) (told events : List Event) → ((t : Turn) → InOrder t events → InOrder t told) → InOrder turn (ChunkEnd ∷ events)
+    → InOrder turn (ChunkEnd ∷ told)
 end_order AtForm told events on o = o
 end_order AtHeader told events on o = o
 end_order AtData told events on o = on AtHeader o
 end_order AtEnd told events on o = on AtHeader o
 
-more_data_order : (turn : Turn) (bytes : List ℕ) (told events : List Event) → ((t : Turn) → InOrder t events → InOrder t told) → InOrder turn (Data bytes ∷ events) → InOrder turn (Data bytes ∷ told)
+more_data_order : (turn : Turn) (bytes : List ℕ) (told events : List Event) → ((t : Turn) → InOrder t events → InOrder t told)
+    → InOrder turn (Data bytes ∷ events) → InOrder turn (Data bytes ∷ told)
 more_data_order AtForm bytes told events on o = o
 more_data_order AtHeader bytes told events on o = o
 more_data_order AtData bytes told events on o = on AtEnd o
@@ -107,15 +114,19 @@ front_order turn [] events g o = none turn
     none AtData = tt
     none AtEnd = tt
 front_order turn (Begun kind size ∷ told) [] g o = absurd g
-front_order turn (Begun kind size ∷ told) (e ∷ events) g o = begun_order turn kind size told events (λ t. front_order t told events g.1) (subst (λ x. InOrder turn (x ∷ events)) (sym g.0) o)
+front_order turn (Begun kind size ∷ told) (e ∷ events) g o =
+    begun_order turn kind size told events (λ t. front_order t told events g.1) (subst (λ x. InOrder turn (x ∷ events)) (sym g.0) o)
 front_order turn (Header id offset size ∷ told) [] g o = absurd g
-front_order turn (Header id offset size ∷ told) (e ∷ events) g o = header_order turn id offset size told events (λ t. front_order t told events g.1) (subst (λ x. InOrder turn (x ∷ events)) (sym g.0) o)
+front_order turn (Header id offset size ∷ told) (e ∷ events) g o =
+    header_order turn id offset size told events (λ t. front_order t told events g.1) (subst (λ x. InOrder turn (x ∷ events)) (sym g.0) o)
 front_order turn (ChunkEnd ∷ told) [] g o = absurd g
-front_order turn (ChunkEnd ∷ told) (e ∷ events) g o = end_order turn told events (λ t. front_order t told events g.1) (subst (λ x. InOrder turn (x ∷ events)) (sym g.0) o)
+front_order turn (ChunkEnd ∷ told) (e ∷ events) g o =
+    end_order turn told events (λ t. front_order t told events g.1) (subst (λ x. InOrder turn (x ∷ events)) (sym g.0) o)
 front_order turn (Data bytes ∷ []) [] g o = absurd g
 front_order turn (Data bytes ∷ []) (Data all ∷ events) g o = some_data_order turn bytes all events o
 front_order turn (Data bytes ∷ []) (Begun kind size ∷ events) g o = absurd (cc)
 front_order turn (Data bytes ∷ []) (Header id offset size ∷ events) g o = absurd (cc)
 front_order turn (Data bytes ∷ []) (ChunkEnd ∷ events) g o = absurd (cc)
 front_order turn (Data bytes ∷ next ∷ told) [] g o = absurd g
-front_order turn (Data bytes ∷ next ∷ told) (e ∷ events) g o = more_data_order turn bytes (next ∷ told) events (λ t. front_order t (next ∷ told) events g.1) (subst (λ x. InOrder turn (x ∷ events)) (sym g.0) o)
+front_order turn (Data bytes ∷ next ∷ told) (e ∷ events) g o =
+    more_data_order turn bytes (next ∷ told) events (λ t. front_order t (next ∷ told) events g.1) (subst (λ x. InOrder turn (x ∷ events)) (sym g.0) o)

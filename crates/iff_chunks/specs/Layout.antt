@@ -38,19 +38,26 @@ pub data Laid : ℕ → ℕ → List Chunk → Tail → List ℕ → Type 0 wher
   -- the bytes end in a header, or before it
   Beginning : (offset left : ℕ) (bytes : List ℕ) → 8 ≤ left → length bytes < 8 → Laid offset left [] (InHeader offset bytes) bytes
   -- a byte of the identifier isn't printable
-  NoId : (offset left size : ℕ) (header id more : List ℕ) → 8 ≤ left → IsHeader header id size → list_all is_id_byte id ≡ false → Laid offset left [] (Broken BadId offset) (header ++ more)
+  NoId : (offset left size : ℕ) (header id more : List ℕ) → 8 ≤ left → IsHeader header id size → list_all is_id_byte id ≡ false
+      → Laid offset left [] (Broken BadId offset) (header ++ more)
   -- the data would go past the FORM's end
-  TooLong : (offset left size : ℕ) (header id more : List ℕ) → 8 ≤ left → IsHeader header id size → list_all is_id_byte id ≡ true → left - 8 < size → Laid offset left [] (Broken Overrun offset) (header ++ more)
+  TooLong : (offset left size : ℕ) (header id more : List ℕ) → 8 ≤ left → IsHeader header id size → list_all is_id_byte id ≡ true → left - 8 < size
+      → Laid offset left [] (Broken Overrun offset) (header ++ more)
   -- the bytes end in the data of a chunk, or before them
-  DataArriving : (offset left : ℕ) (chunk : Chunk) (header : List ℕ) → IsBegun offset left chunk header → length chunk.bytes < chunk.size → Laid offset left [] (InData chunk) (header ++ chunk.bytes)
+  DataArriving : (offset left : ℕ) (chunk : Chunk) (header : List ℕ) → IsBegun offset left chunk header → length chunk.bytes < chunk.size
+      → Laid offset left [] (InData chunk) (header ++ chunk.bytes)
   -- the bytes end before the pad byte of a chunk, which is or isn't the last byte of the FORM
-  PadMissing : (offset left : ℕ) (chunk : Chunk) (header : List ℕ) → IsBegun offset left chunk header → length chunk.bytes ≡ chunk.size → is_padded chunk.size (left_after left chunk) ≡ true
+  PadMissing : (offset left : ℕ) (chunk : Chunk) (header : List ℕ) → IsBegun offset left chunk header → length chunk.bytes ≡ chunk.size
+      → is_padded chunk.size (left_after left chunk) ≡ true
       → Laid offset left (chunk ∷ []) (InPad offset (left_after left chunk == 1)) (header ++ chunk.bytes)
   -- a chunk, its pad byte, and what follows it
-  Padded : (offset left : ℕ) (chunk : Chunk) (header : List ℕ) (pad : ℕ) (chunks : List Chunk) (tail : Tail) (after : List ℕ) → IsBegun offset left chunk header → length chunk.bytes ≡ chunk.size → is_padded chunk.size (left_after left chunk) ≡ true
-      → Laid (offset + 9 + chunk.size) (left_after left chunk - 1) chunks tail after → Laid offset left (chunk ∷ chunks) tail (header ++ (chunk.bytes ++ (pad ∷ after)))
+  Padded : (offset left : ℕ) (chunk : Chunk) (header : List ℕ) (pad : ℕ) (chunks : List Chunk) (tail : Tail) (after : List ℕ) → IsBegun offset left chunk header
+      → length chunk.bytes ≡ chunk.size → is_padded chunk.size (left_after left chunk) ≡ true
+      → Laid (offset + 9 + chunk.size) (left_after left chunk - 1) chunks tail after
+      → Laid offset left (chunk ∷ chunks) tail (header ++ (chunk.bytes ++ (pad ∷ after)))
   -- a chunk without a pad byte, and what follows it
-  Unpadded : (offset left : ℕ) (chunk : Chunk) (header : List ℕ) (chunks : List Chunk) (tail : Tail) (after : List ℕ) → IsBegun offset left chunk header → length chunk.bytes ≡ chunk.size → is_padded chunk.size (left_after left chunk) ≡ false
+  Unpadded : (offset left : ℕ) (chunk : Chunk) (header : List ℕ) (chunks : List Chunk) (tail : Tail) (after : List ℕ) → IsBegun offset left chunk header
+      → length chunk.bytes ≡ chunk.size → is_padded chunk.size (left_after left chunk) ≡ false
       → Laid (offset + 8 + chunk.size) (left_after left chunk) chunks tail after → Laid offset left (chunk ∷ chunks) tail (header ++ (chunk.bytes ++ after))
 
 -- what may stand before the FORM

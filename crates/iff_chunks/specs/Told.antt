@@ -61,14 +61,16 @@ pub record InChunk (taken : List ℕ) (told : List Event) (chunk : OpenChunk) (l
   pub bytes : List ℕ
   pub some : 0 < left
   pub count : length bytes + left ≡ chunk.length
-  pub in_form : InForm taken told whole (open_events (chunk_of id chunk bytes)) (λ more. found_so rest_at (data_at id chunk.offset chunk.length chunk.behind (bytes ++ more)))
+  pub in_form : InForm taken told whole (open_events (chunk_of id chunk bytes))
+      (λ more. found_so rest_at (data_at id chunk.offset chunk.length chunk.behind (bytes ++ more)))
 
 -- the data of a chunk arrived
 pub record BehindData (taken : List ℕ) (told : List Event) (chunk : OpenChunk) : Type 0 where
   pub whole : List Chunk
   pub id : List ℕ
   pub bytes : List ℕ
-  pub in_form : InForm taken told whole (open_events (chunk_of id chunk bytes)) (λ more. found_so rest_at (Has (chunk_of id chunk bytes) (behind_data chunk.offset chunk.length chunk.behind more)))
+  pub in_form : InForm taken told whole (open_events (chunk_of id chunk bytes))
+      (λ more. found_so rest_at (Has (chunk_of id chunk bytes) (behind_data chunk.offset chunk.length chunk.behind more)))
 
 -- the end of a chunk was told, and its pad byte is to come
 pub record BeforePad (taken : List ℕ) (told : List Event) (chunk : OpenChunk) : Type 0 where
@@ -234,8 +236,10 @@ pub record Feeds (from : Stage) (piece : List ℕ) (fed : Fed) : Type 0 where
   pub fits : Fits fed.step fed.stage fed.used (length piece)
   pub stays : Stays from fed
   pub spends : Spends fed.step from fed.stage
-  pub quiet : (taken : List ℕ) (told : List Event) (fewer : ℕ) → Stands from taken told → fewer < quiet_until fed.step fed.used → AllTold (taken ++ take fewer piece) told
-  pub told : (taken : List ℕ) (told : List Event) → Stands from taken told → Stands fed.stage (taken ++ take fed.used piece) (tell told fed.step (take fed.used piece))
+  pub quiet : (taken : List ℕ) (told : List Event) (fewer : ℕ) → Stands from taken told → fewer < quiet_until fed.step fed.used
+      → AllTold (taken ++ take fewer piece) told
+  pub told : (taken : List ℕ) (told : List Event) → Stands from taken told
+      → Stands fed.stage (taken ++ take fed.used piece) (tell told fed.step (take fed.used piece))
 
 -- where a walker stands behind a chunk's header
 abbrev pub data_stage : OpenChunk → Stage
@@ -248,7 +252,12 @@ opened_by place size = record { offset = place.offset; length = size; behind = p
 -- how a walker goes on from the whole header of a chunk
 abbrev pub header_fed : Option FaultKind → ChunkPlace → List ℕ → ℕ → Fed
 header_fed (Some kind) place header used = record { used = used; stage = stage.Broken kind place.offset; step = step.Broken kind place.offset }
-header_fed None place header used = record { used = used; stage = data_stage (opened_by place (big_number 4 (drop 4 header))); step = step.Header (take 4 header) place.offset (big_number 4 (drop 4 header)) }
+header_fed None place header used =
+    record {
+      used = used;
+      stage = data_stage (opened_by place (big_number 4 (drop 4 header)));
+      step = step.Header (take 4 header) place.offset (big_number 4 (drop 4 header));
+    }
 
 abbrev pub begun : ChunkPlace → List ℕ → ℕ → Fed
 begun place header used = header_fed (header_fault (take 4 header) (big_number 4 (drop 4 header)) (place.left - 8)) place header used

@@ -12,7 +12,8 @@ pub record IsFed (before : Walking) (piece : List ℕ) (used : ℕ) (answer : Wa
   pub within : used ≤ length piece
   pub told : (taken : List ℕ) (told : List Event) → Told taken told before → Told (taken ++ take used piece) (tell told answer (take used piece)) after
   -- the events are those of the file, whatever follows the used bytes
-  pub events : (taken more : List ℕ) (told : List Event) → Told taken told before → GoesOn (tell told answer (take used piece)) (events_of (chunks_of (taken ++ (take used piece ++ more))))
+  pub events : (taken more : List ℕ) (told : List Event) → Told taken told before
+      → GoesOn (tell told answer (take used piece)) (events_of (chunks_of (taken ++ (take used piece ++ more))))
   -- they come in their order
   pub order : (taken : List ℕ) (told : List Event) → Told taken told before → InOrder AtForm (tell told answer (take used piece))
   -- the FORM's end and a break are answered once every event was told and the used bytes settle it, whatever follows

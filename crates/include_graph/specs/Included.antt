@@ -13,10 +13,6 @@ kind_fault kind = if bytes_eq kind (codes "DJVI") then None else Some fault.NotI
 abbrev pub misplaced_ids : List (List ℕ)
 misplaced_ids = codes "INFO" ∷ codes "Sjbz" ∷ codes "BG44" ∷ codes "FG44" ∷ []
 
--- layers, that aren't decoded yet
-abbrev pub unbuilt_ids : List (List ℕ)
-unbuilt_ids = codes "BG44" ∷ codes "FG44" ∷ []
-
 abbrev pub is_dictionary : List ℕ → Bool
 is_dictionary id = bytes_eq id (codes "Djbz")
 
@@ -27,7 +23,6 @@ is_include id = bytes_eq id (codes "INCL")
 abbrev pub chunk_fault : Bool → List ℕ → Option FaultKind
 chunk_fault has_dictionary id =
     if is_listed refused_ids id then Some fault.Unsupported
-    else if is_listed unbuilt_ids id then Some fault.Unsupported
     else if is_listed misplaced_ids id then Some fault.Misplaced
     else if has_dictionary && is_dictionary id then Some fault.SecondDictionary
     else None

@@ -9,8 +9,8 @@ use crate::outline::{Outline, OutlineItem};
 use djvu_base::Name;
 use std::sync::Arc;
 
-/// The number of a name among others, or `None` where it isn't one of them.
-pub(crate) fn number_of(names: &[Name], name: &Name) -> Option<u32>
+/// The number of a name among ascending names, counted from 0, or `None` where it isn't one of them.
+pub fn number_of(names: &[Name], name: &Name) -> Option<u32>
     requires ascending { IsAscending names.now }
     requires few { length names.now < 2 ^ 32 }
     ensures { result ≡ number_of name.now names.now }

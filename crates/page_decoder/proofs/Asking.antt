@@ -4,6 +4,7 @@ use Rattle.include_graph.specs.declared.verdicts.Verdict.TheVariants as verdict
 use Rattle.include_graph.specs.Verdicts.{Graph, verdict_of}
 use Rattle.include_graph.specs.Graphs.{InOrder}
 use Rattle.page_decoder.specs.Given.{Role, Page, Included, Home, Known}
+use Rattle.page_decoder.specs.PageRead.{Include}
 use Rattle.page_decoder.specs.Read.{listing}
 use Rattle.page_decoder.specs.Needs.{IsNext, IsUnknown}
 
@@ -34,8 +35,8 @@ listed_below home known order Page target file before others below e =
 listed_below home known order Included target file before others below e =
     subst (λ f. f < length home.names) (alone target file before others (same_list (target ∷ []) (before ++ file ∷ others) e)) below
 
-pub next_below : (home : Home) (known : Known) → Order → (file : ℕ) → IsNext home known file → file < length home.names
-next_below home known order file next = listed_below home known order home.role next.target file next.before next.others next.below next.list
+pub next_below : (home : Home) (known : Known) (pending : List Include) → Order → (file : ℕ) → IsNext home known pending file → file < length home.names
+next_below home known pending order file next = listed_below home known order home.role next.target file next.before next.others next.of_include.below next.list
 
 module _ (home : Home) (known : Known)
     (asks : (graph : Graph) (target file : ℕ) → target < length graph.names → verdict_of graph target ≡ verdict.NeedOutline file → graph.outlines file ≡ None)
@@ -46,5 +47,6 @@ module _ (home : Home) (known : Known)
   lacking_by Page target file below e = (asks (graph_known home known) target file below e, asked (graph_known home known) target file below e)
   lacking_by Included target file below e = let wrong : verdict.Files (target ∷ []) ≡ verdict.NeedOutline file = e in absurd (cc)
 
-  pub unknown_lacking : (file : ℕ) → IsUnknown home known file → (known.outlines file ≡ None) × (file < length home.names)
-  unknown_lacking file it = lacking_by home.role it.target file it.below it.list
+  pub unknown_lacking : (pending : List Include) (file : ℕ) → IsUnknown home known pending file
+      → (known.outlines file ≡ None) × (file < length home.names)
+  unknown_lacking pending file it = lacking_by home.role it.target file it.of_include.below it.list

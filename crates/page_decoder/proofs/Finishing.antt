@@ -78,7 +78,8 @@ none_finished place (Fault kind offset) e = cc
 none_finished place NeedBytes e = cc
 
 -- the tail of a page without a whole chunk
-tail_alone : (rows : List Row) (place : ℕ) (tail : Tail) (end : Ending) → ((chunk : Chunk) → tail ≡ InData chunk → end ≢ Finished) → HasDrawing (read_tail rows place tail end 0 None)
+tail_alone : (rows : List Row) (place : ℕ) (tail : Tail) (end : Ending) → ((chunk : Chunk) → tail ≡ InData chunk → end ≢ Finished)
+    → HasDrawing (read_tail rows place tail end 0 None)
 tail_alone rows place InHead end within e = absurd (none_finished place end e)
 tail_alone rows place (InHeader offset bytes) end within e = absurd (none_finished place end e)
 tail_alone rows place (InData chunk) end within e = by (came rows true false None chunk).fault e
@@ -96,7 +97,9 @@ record IsFirstInfo (info short : Bool) : Type 0 where
   pub is_long : short ≡ false
 
 first_info : (info unread mask short : Bool)
-    → cond (true && not info) (Some fault.NoInfo) (cond (not true && info) (Some fault.SecondInfo) (cond unread (Some fault.Unsupported) (cond (mask && false) (Some fault.SecondMask) (cond (info && short) (Some fault.BadInfo) None)))) ≡ None
+    → cond (true && not info) (Some fault.NoInfo)
+    (cond (not true && info) (Some fault.SecondInfo)
+    (cond unread (Some fault.Unsupported) (cond (mask && false) (Some fault.SecondMask) (cond (info && short) (Some fault.BadInfo) None)))) ≡ None
     → IsFirstInfo info short
 first_info false unread mask short e = cc
 first_info true true mask short e = cc
@@ -132,26 +135,34 @@ sized chunk rest None drawn e none =
 enough_of : (bytes : List ℕ) (size : ℕ) (short : Bool) → length bytes ≡ size → nat_lt size 5 ≡ short → short ≡ false → nat_le 4 (length bytes) ≡ true
 enough_of bytes size short full s long = grind (arith)
 
-first_drawn : (rows : List Row) (chunk : Chunk) (rest : Option Layers → Reading) → length chunk.bytes ≡ chunk.size → HasDrawing (after_came (came rows true true None chunk) chunk 1 rest)
+first_drawn : (rows : List Row) (chunk : Chunk) (rest : Option Layers → Reading) → length chunk.bytes ≡ chunk.size
+    → HasDrawing (after_came (came rows true true None chunk) chunk 1 rest)
 first_drawn rows chunk rest full = by (header_fault true false chunk.id chunk.size) refl
   where
-    long : (info short : Bool) → is_info chunk.id ≡ info → nat_lt chunk.size 5 ≡ short → IsFirstInfo info short → HasDrawing (after_came (came_by None rows true None chunk.id chunk.bytes) chunk 1 rest)
+    long : (info short : Bool) → is_info chunk.id ≡ info → nat_lt chunk.size 5 ≡ short → IsFirstInfo info short
+        → HasDrawing (after_came (came_by None rows true None chunk.id chunk.bytes) chunk 1 rest)
     long info short is s first =
         let enough : nat_le 4 (length chunk.bytes) ≡ true = enough_of chunk.bytes chunk.size short full s first.is_long in
         let named : is_info chunk.id ≡ true = is ∙ first.is_info in
         let drawn : is_drawn chunk.id ≡ true = ap (λ t. t || is_mask chunk.id) named in
         subst (λ (c : Came). HasDrawing (after_came c chunk 1 rest))
-        (sym (ap (λ t. cond t (info_came None chunk.bytes) (cond (is_mask chunk.id) (mask_came rows true None chunk.bytes) (nothing_came None))) named ∙ ap (λ t. cond t (size_came None (size_fault (size_in chunk.bytes)) (size_in chunk.bytes)) (nothing_came None)) enough))
+        (sym (ap (λ t. cond t (info_came None chunk.bytes) (cond (is_mask chunk.id) (mask_came rows true None chunk.bytes) (nothing_came None))) named
+        ∙ ap (λ t. cond t (size_came None (size_fault (size_in chunk.bytes)) (size_in chunk.bytes)) (nothing_came None)) enough))
         (sized chunk rest (size_fault (size_in chunk.bytes)) drawn)
 
-    by : (f : Option FaultKind) → header_fault true false chunk.id chunk.size ≡ f → HasDrawing (after_came (came_by f rows true None chunk.id chunk.bytes) chunk 1 rest)
+    by : (f : Option FaultKind) → header_fault true false chunk.id chunk.size ≡ f
+        → HasDrawing (after_came (came_by f rows true None chunk.id chunk.bytes) chunk 1 rest)
     by (Some kind) e = λ finished. cc
-    by None e = long (is_info chunk.id) (nat_lt chunk.size 5) refl refl (first_info (is_info chunk.id) (is_listed refused_ids chunk.id || is_listed unbuilt_ids chunk.id) (is_mask chunk.id) (nat_lt chunk.size 5) e)
+    by None e =
+        long (is_info chunk.id) (nat_lt chunk.size 5) refl refl
+        (first_info (is_info chunk.id) (is_listed refused_ids chunk.id || is_listed unbuilt_ids chunk.id) (is_mask chunk.id) (nat_lt chunk.size 5) e)
 
-page_drawn : (rows : List Row) (place : ℕ) (whole : List Chunk) (tail : Tail) (end : Ending) → FirstIsFull whole → ((chunk : Chunk) → tail ≡ InData chunk → end ≢ Finished)
+page_drawn : (rows : List Row) (place : ℕ) (whole : List Chunk) (tail : Tail) (end : Ending) → FirstIsFull whole
+    → ((chunk : Chunk) → tail ≡ InData chunk → end ≢ Finished)
     → HasDrawing (read_chunks rows 0 None whole (read_tail rows place tail end))
 page_drawn rows place [] tail end full within = tail_alone rows place tail end within
-page_drawn rows place (chunk ∷ chunks) tail end full within = first_drawn rows chunk (λ next. read_chunks rows 1 next chunks (read_tail rows place tail end)) full
+page_drawn rows place (chunk ∷ chunks) tail end full within =
+    first_drawn rows chunk (λ next. read_chunks rows 1 next chunks (read_tail rows place tail end)) full
 
 form_drawn : (rows : List Row) (place : ℕ) (f : Option Form) (whole : List Chunk) (tail : Tail) (end : Ending) → (f ≡ None → end ≢ Finished) → FirstIsFull whole
     → ((chunk : Chunk) → tail ≡ InData chunk → end ≢ Finished) → HasDrawing (read_form f rows place whole tail end)
@@ -174,11 +185,19 @@ pub drawing_there : BytesAreLaid → (rows : List Row) (mark : Mark) (bytes : Li
 drawing_there law rows mark bytes = by (full_of law bytes (chunks_of bytes).form refl)
   where
     tail_in : (t : Tail) (chunk : Chunk) → t ≡ InData chunk → ending_of (closed mark (length bytes) (chunks_of bytes).whole t) ≢ Finished
-    tail_in t chunk e = subst (λ (x : Tail). ending_of (closed mark (length bytes) (chunks_of bytes).whole x) ≢ Finished) (sym e) (data_goes_on mark (length bytes) (chunks_of bytes).whole chunk)
+    tail_in t chunk e =
+        subst (λ (x : Tail). ending_of (closed mark (length bytes) (chunks_of bytes).whole x) ≢ Finished) (sym e)
+        (data_goes_on mark (length bytes) (chunks_of bytes).whole chunk)
 
     by : FirstIsFull (chunks_of bytes).whole ⊎ ((chunks_of bytes).form ≡ None) → HasDrawing (reading rows mark bytes)
-    by (inl full) e = form_drawn rows (chunks_place bytes) (chunks_of bytes).form (chunks_of bytes).whole (chunks_of bytes).tail (ending_of (closed mark (length bytes) (chunks_of bytes).whole (chunks_of bytes).tail)) (headed bytes mark (length bytes)) full (tail_in (chunks_of bytes).tail) e
-    by (inr none) e = absurd (headed bytes mark (length bytes) none (subst (λ (f : Option Form). (read_form f rows (chunks_place bytes) (chunks_of bytes).whole (chunks_of bytes).tail (ending_of (closed mark (length bytes) (chunks_of bytes).whole (chunks_of bytes).tail))).end ≡ Finished) none e))
+    by (inl full) e =
+        form_drawn rows (chunks_place bytes) (chunks_of bytes).form (chunks_of bytes).whole (chunks_of bytes).tail
+        (ending_of (closed mark (length bytes) (chunks_of bytes).whole (chunks_of bytes).tail)) (headed bytes mark (length bytes)) full
+        (tail_in (chunks_of bytes).tail) e
+    by (inr none) e =
+        absurd (headed bytes mark (length bytes) none
+        (subst (λ (f : Option Form). (read_form f rows (chunks_place bytes) (chunks_of bytes).whole (chunks_of bytes).tail
+        (ending_of (closed mark (length bytes) (chunks_of bytes).whole (chunks_of bytes).tail))).end ≡ Finished) none e))
 
 -- where the file's end is known no page needs bytes
 end_known : (whole : List Chunk) (tail : Tail) → ending_of (end_of whole tail) ≢ NeedBytes
@@ -221,7 +240,8 @@ at_end_known zero place (Fault kind offset) known e = cc
 at_end_known zero place NeedBytes known e = known refl
 at_end_known (suc done) place end known e = known e
 
-tail_known : (rows : List Row) (place : ℕ) (tail : Tail) (end : Ending) (done : ℕ) (layers : Option Layers) → end ≢ NeedBytes → (read_tail rows place tail end done layers).end ≢ NeedBytes
+tail_known : (rows : List Row) (place : ℕ) (tail : Tail) (end : Ending) (done : ℕ) (layers : Option Layers) → end ≢ NeedBytes
+    → (read_tail rows place tail end done layers).end ≢ NeedBytes
 tail_known rows place InHead end done layers known = at_end_known done place end known
 tail_known rows place (InHeader offset bytes) end done layers known = at_end_known done place end known
 tail_known rows place (InData chunk) end done layers known = by (came rows (done == 0) false layers chunk).fault
@@ -233,16 +253,19 @@ tail_known rows place (InPad offset is_last) end done layers known = at_end_know
 tail_known rows place FormEnd end done layers known = at_end_known done place end known
 tail_known rows place (Broken kind offset) end done layers known = at_end_known done place end known
 
-chunks_known : (rows : List Row) (done : ℕ) (layers : Option Layers) (chunks : List Chunk) (rest : ℕ → Option Layers → Reading) → ((d : ℕ) (l : Option Layers) → (rest d l).end ≢ NeedBytes) → (read_chunks rows done layers chunks rest).end ≢ NeedBytes
+chunks_known : (rows : List Row) (done : ℕ) (layers : Option Layers) (chunks : List Chunk) (rest : ℕ → Option Layers → Reading)
+    → ((d : ℕ) (l : Option Layers) → (rest d l).end ≢ NeedBytes) → (read_chunks rows done layers chunks rest).end ≢ NeedBytes
 chunks_known rows done layers [] rest known = known done layers
-chunks_known rows done layers (chunk ∷ chunks) rest known = by (came rows (done == 0) true layers chunk).fault (chunks_known rows (suc done) (came rows (done == 0) true layers chunk).layers chunks rest known)
+chunks_known rows done layers (chunk ∷ chunks) rest known =
+    by (came rows (done == 0) true layers chunk).fault (chunks_known rows (suc done) (came rows (done == 0) true layers chunk).layers chunks rest known)
   where
     by : (f : Option FaultKind) → (read_chunks rows (suc done) (came rows (done == 0) true layers chunk).layers chunks rest).end ≢ NeedBytes
         → (after_chunk f chunk (suc done) (came rows (done == 0) true layers chunk) (λ next. read_chunks rows (suc done) next chunks rest)).end ≢ NeedBytes
     by (Some kind) later e = cc
     by None later e = later e
 
-form_known : (f : Option Form) (rows : List Row) (place : ℕ) (whole : List Chunk) (tail : Tail) (end : Ending) → end ≢ NeedBytes → (read_form f rows place whole tail end).end ≢ NeedBytes
+form_known : (f : Option Form) (rows : List Row) (place : ℕ) (whole : List Chunk) (tail : Tail) (end : Ending) → end ≢ NeedBytes
+    → (read_form f rows place whole tail end).end ≢ NeedBytes
 form_known None rows place whole tail end known = known
 form_known (Some form) rows place whole tail end known = by (kind_fault form.kind)
   where
@@ -251,4 +274,6 @@ form_known (Some form) rows place whole tail end known = by (kind_fault form.kin
     by None e = chunks_known rows 0 None whole (read_tail rows place tail end) (λ d l. tail_known rows place tail end d l known) e
 
 pub end_there : (rows : List Row) (mark : Mark) (bytes : List ℕ) → mark ≢ Open → (reading rows mark bytes).end ≢ NeedBytes
-end_there rows mark bytes some = form_known (chunks_of bytes).form rows (chunks_place bytes) (chunks_of bytes).whole (chunks_of bytes).tail _ (ending_known mark (length bytes) (chunks_of bytes).whole (chunks_of bytes).tail some)
+end_there rows mark bytes some =
+    form_known (chunks_of bytes).form rows (chunks_place bytes) (chunks_of bytes).whole (chunks_of bytes).tail _
+    (ending_known mark (length bytes) (chunks_of bytes).whole (chunks_of bytes).tail some)

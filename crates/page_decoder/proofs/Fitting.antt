@@ -41,27 +41,39 @@ closed_at_header (place.Within head) a = absurd a
 closed_at_header (place.Refused kind offset) a = refl
 
 -- events in their order fit
-pub all_fit : (rows : List Row) (turn : Turn) (so_far : Progress) (events : List Event) → Agrees turn so_far.place → (turn ≡ AtData → so_far.bytes ≡ []) → InOrder turn events → AllFit rows so_far events
+pub all_fit : (rows : List Row) (turn : Turn) (so_far : Progress) (events : List Event) → Agrees turn so_far.place → (turn ≡ AtData → so_far.bytes ≡ [])
+    → InOrder turn events → AllFit rows so_far events
 all_fit rows turn so_far [] a fresh o = tt
-all_fit rows AtForm so_far (Begun kind size ∷ events) a fresh o = (tt, all_fit rows AtHeader (after_event rows so_far (Begun kind size)) events (agrees_form so_far.place kind a) (λ e. absurd (cc)) o)
+all_fit rows AtForm so_far (Begun kind size ∷ events) a fresh o =
+    (tt, all_fit rows AtHeader (after_event rows so_far (Begun kind size)) events (agrees_form so_far.place kind a) (λ e. absurd (cc)) o)
 all_fit rows AtForm so_far (Header id offset size ∷ events) a fresh o = absurd o
 all_fit rows AtForm so_far (Data bytes ∷ events) a fresh o = absurd o
 all_fit rows AtForm so_far (ChunkEnd ∷ events) a fresh o = absurd o
 all_fit rows AtHeader so_far (Begun kind size ∷ events) a fresh o = absurd o
 all_fit rows AtHeader so_far (Header id offset size ∷ events) a fresh o = (
   closed_at_header so_far.place a,
-  all_fit rows AtData (after_event rows so_far (Header id offset size)) events (agrees_header so_far.place (eqb so_far.done.chunks 0) (is_some (mask_in so_far.done.layers)) (head_of id offset size) a) (λ e. refl) o,
+  all_fit rows AtData (after_event rows so_far (Header id offset size)) events
+      (agrees_header so_far.place (eqb so_far.done.chunks 0) (is_some (mask_in so_far.done.layers)) (head_of id offset size) a) (λ e. refl) o,
 )
 all_fit rows AtHeader so_far (Data bytes ∷ events) a fresh o = absurd o
 all_fit rows AtHeader so_far (ChunkEnd ∷ events) a fresh o = absurd o
 all_fit rows AtData so_far (Begun kind size ∷ events) a fresh o = absurd o
 all_fit rows AtData so_far (Header id offset size ∷ events) a fresh o = absurd o
-all_fit rows AtData so_far (Data bytes ∷ events) a fresh o = (fresh refl, all_fit rows AtEnd (after_event rows so_far (Data bytes)) events (agrees_data so_far.place a) (λ e. absurd (cc)) o)
-all_fit rows AtData so_far (ChunkEnd ∷ events) a fresh o = (tt, all_fit rows AtHeader (after_event rows so_far ChunkEnd) events (agrees_end rows AtData so_far.place so_far.bytes so_far.done (inl refl) a) (λ e. absurd (cc)) o)
+all_fit rows AtData so_far (Data bytes ∷ events) a fresh o =
+    (fresh refl, all_fit rows AtEnd (after_event rows so_far (Data bytes)) events (agrees_data so_far.place a) (λ e. absurd (cc)) o)
+all_fit rows AtData so_far (ChunkEnd ∷ events) a fresh o = (
+  tt,
+  all_fit rows AtHeader (after_event rows so_far ChunkEnd) events (agrees_end rows AtData so_far.place so_far.bytes so_far.done (inl refl) a)
+      (λ e. absurd (cc)) o,
+)
 all_fit rows AtEnd so_far (Begun kind size ∷ events) a fresh o = absurd o
 all_fit rows AtEnd so_far (Header id offset size ∷ events) a fresh o = absurd o
 all_fit rows AtEnd so_far (Data bytes ∷ events) a fresh o = absurd o
-all_fit rows AtEnd so_far (ChunkEnd ∷ events) a fresh o = (tt, all_fit rows AtHeader (after_event rows so_far ChunkEnd) events (agrees_end rows AtEnd so_far.place so_far.bytes so_far.done (inr refl) a) (λ e. absurd (cc)) o)
+all_fit rows AtEnd so_far (ChunkEnd ∷ events) a fresh o = (
+  tt,
+  all_fit rows AtHeader (after_event rows so_far ChunkEnd) events (agrees_end rows AtEnd so_far.place so_far.bytes so_far.done (inr refl) a)
+      (λ e. absurd (cc)) o,
+)
 
 -- what more bytes do to what data of a chunk come to: a fault stays, with its decisions, and decisions don't get fewer
 pub record CameOn (shorter longer : Came) : Type 0 where
@@ -82,7 +94,8 @@ size_counts : (layers : Option Layers) (f : Option FaultKind) (size : Size) → 
 size_counts layers (Some kind) size = refl
 size_counts layers None size = refl
 
-info_counts : (enough : Bool) (layers : Option Layers) (f : Option FaultKind) (size : Size) → (cond enough (size_came layers f size) (nothing_came layers)).decisions ≡ 0
+info_counts : (enough : Bool) (layers : Option Layers) (f : Option FaultKind) (size : Size)
+    → (cond enough (size_came layers f size) (nothing_came layers)).decisions ≡ 0
 info_counts true layers f size = size_counts layers f size
 info_counts false layers f size = refl
 
@@ -94,17 +107,21 @@ info_on layers bytes more = record {
       omega (arith, none);
 }
   where
-    by : (enough : Bool) → leb 4 (length bytes) ≡ enough → (kind : FaultKind) → (cond enough (size_came layers (size_fault (size_in bytes)) (size_in bytes)) (nothing_came layers)).fault ≡ Some kind
+    by : (enough : Bool) → leb 4 (length bytes) ≡ enough → (kind : FaultKind)
+        → (cond enough (size_came layers (size_fault (size_in bytes)) (size_in bytes)) (nothing_came layers)).fault ≡ Some kind
         → info_came layers (bytes ++ more) ≡ cond enough (size_came layers (size_fault (size_in bytes)) (size_in bytes)) (nothing_came layers)
     by false e kind f = cc
     by true e kind f =
         let enough : 4 ≤ length bytes = leb-true 4 (length bytes) e in
-        ap (λ t. cond t (size_came layers (size_fault (size_in (bytes ++ more))) (size_in (bytes ++ more))) (nothing_came layers)) (le-leb 4 (length (bytes ++ more)) (omega (arith, length-append bytes more)))
+        ap (λ t. cond t (size_came layers (size_fault (size_in (bytes ++ more))) (size_in (bytes ++ more))) (nothing_came layers))
+        (le-leb 4 (length (bytes ++ more)) (omega (arith, length-append bytes more)))
         ∙ ap (λ n. size_came layers (size_fault n) n) (first_numbers bytes more enough)
 
 -- the law of records: more bytes only go on
 abbrev pub RecordsGoOn : Type 0
-RecordsGoOn = (input : jb2.Input) (more : List ℕ) (ended : Bool) → IsTable input.chunk.table → input.chunk.ended ≡ false → growth.GoesOn (jb2.records_of input) (jb2.records_of (growth.with_more input more ended))
+RecordsGoOn =
+    (input : jb2.Input) (more : List ℕ) (ended : Bool) → IsTable input.chunk.table → input.chunk.ended ≡ false
+    → growth.GoesOn (jb2.records_of input) (jb2.records_of (growth.with_more input more ended))
 
 -- what an outcome of records comes to
 abbrev outcome_came : Layers → jb2.Outcome → Came
@@ -116,13 +133,15 @@ outcome_counts answer.NeedBytes layers mask decisions = refl
 outcome_counts (answer.Refused kind) layers mask decisions = refl
 outcome_counts answer.OutOfMemory layers mask decisions = refl
 
-no_fault_of_need : (step : Jb2Step) (layers : Layers) (mask : Pixels) (decisions : ℕ) (kind : FaultKind) → (mask_by step layers mask decisions).fault ≡ Some kind → step ≢ answer.NeedBytes
+no_fault_of_need : (step : Jb2Step) (layers : Layers) (mask : Pixels) (decisions : ℕ) (kind : FaultKind)
+    → (mask_by step layers mask decisions).fault ≡ Some kind → step ≢ answer.NeedBytes
 no_fault_of_need answer.Finished layers mask decisions kind e h = let never : None ≡ Some kind = e in cc
 no_fault_of_need answer.NeedBytes layers mask decisions kind e h = let never : None ≡ Some kind = e in cc
 no_fault_of_need (answer.Refused other) layers mask decisions kind e h = cc
 no_fault_of_need answer.OutOfMemory layers mask decisions kind e h = let never : None ≡ Some kind = e in cc
 
-mask_on : RecordsGoOn → (rows : List Row) (whole : Bool) (layers : Layers) (bytes more : List ℕ) → IsTable rows → CameOn (mask_from (mask_input rows bytes false layers) layers) (mask_from (mask_input rows (bytes ++ more) whole layers) layers)
+mask_on : RecordsGoOn → (rows : List Row) (whole : Bool) (layers : Layers) (bytes more : List ℕ) → IsTable rows
+    → CameOn (mask_from (mask_input rows bytes false layers) layers) (mask_from (mask_input rows (bytes ++ more) whole layers) layers)
 mask_on law rows whole layers bytes more table =
     let shorter = jb2.records_of (mask_input rows bytes false layers) in
     let longer = jb2.records_of (mask_input rows (bytes ++ more) whole layers) in
@@ -130,18 +149,24 @@ mask_on law rows whole layers bytes more table =
     let fewer = outcome_counts shorter.answer layers (mask_of layers.width layers.height (placed_shapes [] shorter.records)) shorter.decisions in
     let all = outcome_counts longer.answer layers (mask_of layers.width layers.height (placed_shapes [] longer.records)) longer.decisions in
     record {
-      refused = λ kind e. ap (outcome_came layers) (on.settled (no_fault_of_need shorter.answer layers (mask_of layers.width layers.height (placed_shapes [] shorter.records)) shorter.decisions kind e));
+      refused =
+          λ kind e. ap (outcome_came layers)
+          (on.settled (no_fault_of_need shorter.answer layers (mask_of layers.width layers.height (placed_shapes [] shorter.records)) shorter.decisions kind
+          e));
       decisions = omega (arith, on.decisions, fewer, all);
     }
 
-masks_on : RecordsGoOn → (rows : List Row) (whole : Bool) (layers : Option Layers) (bytes more : List ℕ) → IsTable rows → CameOn (mask_came rows false layers bytes) (mask_came rows whole layers (bytes ++ more))
+masks_on : RecordsGoOn → (rows : List Row) (whole : Bool) (layers : Option Layers) (bytes more : List ℕ) → IsTable rows
+    → CameOn (mask_came rows false layers bytes) (mask_came rows whole layers (bytes ++ more))
 masks_on law rows whole None bytes more table = same_came (nothing_came None)
 masks_on law rows whole (Some layers) bytes more table = mask_on law rows whole layers bytes more table
 
-pub data_on : RecordsGoOn → (rows : List Row) (whole : Bool) (layers : Option Layers) (id bytes more : List ℕ) → IsTable rows → CameOn (data_came rows false layers id bytes) (data_came rows whole layers id (bytes ++ more))
+pub data_on : RecordsGoOn → (rows : List Row) (whole : Bool) (layers : Option Layers) (id bytes more : List ℕ) → IsTable rows
+    → CameOn (data_came rows false layers id bytes) (data_came rows whole layers id (bytes ++ more))
 data_on law rows whole layers id bytes more table = by (is_info id) (is_mask id)
   where
-    by : (info mask : Bool) → CameOn (cond info (info_came layers bytes) (cond mask (mask_came rows false layers bytes) (nothing_came layers))) (cond info (info_came layers (bytes ++ more)) (cond mask (mask_came rows whole layers (bytes ++ more)) (nothing_came layers)))
+    by : (info mask : Bool) → CameOn (cond info (info_came layers bytes) (cond mask (mask_came rows false layers bytes) (nothing_came layers)))
+        (cond info (info_came layers (bytes ++ more)) (cond mask (mask_came rows whole layers (bytes ++ more)) (nothing_came layers)))
     by true mask = info_on layers bytes more
     by false true = masks_on law rows whole layers bytes more table
     by false false = same_came (nothing_came layers)

@@ -1,7 +1,6 @@
 -- What an included file includes, by its outline and by its reading.
 use Rattle.std.proofs.Common.{◌≡◌, ℕ, Bool, true, false, cond, ◌||◌, Option, Some, None, List, [], ◌∷◌, refl, sym, ap, ◌∙◌, subst}
 use Rattle.std.specs.List.{AllByRecursion, Contains}
-use Rattle.std.proofs.lemmas.List.Elements.{Contains-append_left, Contains-append_right, Contains-push}
 use Rattle.djvu_base.specs.declared.faults.FaultKind.{FaultKind}
 use Rattle.djvu_base.specs.Library.{Mark}
 use Rattle.iff_chunks.specs.Chunks.{Chunk, Tail, InHead, InHeader, InData, InPad, FormEnd, Broken, chunks_of}
@@ -13,6 +12,7 @@ use Rattle.include_graph.specs.Included.{chunk_fault, is_dictionary, is_include,
 use Rattle.include_graph.specs.Outlines.{Items, unless_faulty, items_at_end, items_at_tail, named_then, chunk_then, items_in, form_fault, outlined}
 use Rattle.page_decoder.specs.Given.{Given}
 use Rattle.page_decoder.specs.Needs.{HasNoFault, IsOutlined}
+use Rattle.page_decoder.proofs.Ruling.{first_in, later_in}
 
 abbrev IsClean : Items → Type 0
 IsClean it = (it.is_known ≡ true) × HasNoFault it.items
@@ -20,12 +20,6 @@ IsClean it = (it.is_known ≡ true) × HasNoFault it.items
 unless_is : (found : Option FaultKind) (offset : ℕ) (items : Items) → IsClean (unless_faulty found offset items) → unless_faulty found offset items ≡ items
 unless_is None offset items clean = refl
 unless_is (Some kind) offset items clean = absurd clean.1
-
-first_item : (found : OutlineItem) (items : List OutlineItem) → Contains (found ∷ items) found
-first_item found items = Contains-append_left (found ∷ []) items found (Contains-push [] found)
-
-later_item : (first found : OutlineItem) (items : List OutlineItem) → Contains items found → Contains (first ∷ items) found
-later_item first found items has = Contains-append_right (first ∷ []) items found has
 
 -- an include is one of a list of items
 abbrev pub IsItem : List OutlineItem → Chunk → Type 0
@@ -44,12 +38,12 @@ named_rest : (list : List OutlineItem) (chunk : Chunk) (items : Items) (found : 
 named_rest list chunk items None n clean among = absurd clean.1
 named_rest list chunk items (Some name) n clean among = record {
   clean = clean;
-  among = λ x h. among x (later_item (item.Include name chunk.offset) x items.items h);
+  among = λ x h. among x (later_in (item.Include name chunk.offset) x items.items h);
   is_item = λ is other m.
       let both : Some name ≡ Some other = sym n ∙ m in
       let same : name ≡ other = cc in
       subst (λ w. Contains list (item.Include w chunk.offset)) same
-      (among (item.Include name chunk.offset) (first_item (item.Include name chunk.offset) items.items));
+      (among (item.Include name chunk.offset) (first_in (item.Include name chunk.offset) items.items));
 }
 
 chunk_rest : (list : List OutlineItem) (chunk : Chunk) (items : Items) (include : Bool) → is_include chunk.id ≡ include

@@ -27,7 +27,8 @@ size_leaves : (f : Option FaultKind) (size : Size) (layers : Option Layers) → 
 size_leaves (Some kind) size layers = record { same = λ e. refl; none = λ e. e }
 size_leaves None size layers = record { same = λ e. cc; none = λ e. cc }
 
-info_leaves : (enough : Bool) (bytes : List ℕ) (layers : Option Layers) → Leaves true layers (cond enough (size_came layers (size_fault (size_in bytes)) (size_in bytes)) (nothing_came layers)).layers
+info_leaves : (enough : Bool) (bytes : List ℕ) (layers : Option Layers)
+    → Leaves true layers (cond enough (size_came layers (size_fault (size_in bytes)) (size_in bytes)) (nothing_came layers)).layers
 info_leaves true bytes layers = size_leaves (size_fault (size_in bytes)) (size_in bytes) layers
 info_leaves false bytes layers = record { same = λ e. refl; none = λ e. e }
 
@@ -43,19 +44,23 @@ mask_leaves rows whole (Some layers) bytes =
     let input = mask_input rows bytes whole layers in
     by_answer_leaves (jb2.records_of input).answer layers (mask_drawn layers.width layers.height input) (jb2.records_of input).decisions
 
-data_leaves : (rows : List Row) (whole : Bool) (layers : Option Layers) (id bytes : List ℕ) → Leaves (is_drawn id) layers (data_came rows whole layers id bytes).layers
+data_leaves : (rows : List Row) (whole : Bool) (layers : Option Layers) (id bytes : List ℕ)
+    → Leaves (is_drawn id) layers (data_came rows whole layers id bytes).layers
 data_leaves rows whole layers id bytes = by (is_info id) (is_mask id)
   where
-    by : (info mask : Bool) → Leaves (info || mask) layers (cond info (info_came layers bytes) (cond mask (mask_came rows whole layers bytes) (nothing_came layers))).layers
+    by : (info mask : Bool) → Leaves (info || mask) layers
+        (cond info (info_came layers bytes) (cond mask (mask_came rows whole layers bytes) (nothing_came layers))).layers
     by true mask = info_leaves (leb 4 (length bytes)) bytes layers
     by false true = mask_leaves rows whole layers bytes
     by false false = record { same = λ e. refl; none = λ e. e }
 
-by_drawing : (is_drawing : Bool) (chunks : ℕ) (before after : Option Layers) (notices : List Notice) → Leaves is_drawing before after → before ≡ last_layers notices → after ≡ last_layers (notices ++ notice_by is_drawing chunks after [])
+by_drawing : (is_drawing : Bool) (chunks : ℕ) (before after : Option Layers) (notices : List Notice) → Leaves is_drawing before after
+    → before ≡ last_layers notices → after ≡ last_layers (notices ++ notice_by is_drawing chunks after [])
 by_drawing false chunks before after notices l e = l.same refl ∙ e ∙ ap last_layers (sym (append-nil notices))
 by_drawing true chunks before None notices l e = sym (l.none refl) ∙ e ∙ ap last_layers (sym (append-nil notices))
 by_drawing true chunks before (Some layers) notices l e = sym (last_behind notices (record { chunks = chunks; layers = layers }))
 
 pub last_on : (rows : List Row) (whole : Bool) (layers : Option Layers) (id bytes : List ℕ) (chunks : ℕ) (notices : List Notice) → layers ≡ last_layers notices
     → (data_came rows whole layers id bytes).layers ≡ last_layers (notices ++ notice_by (is_drawn id) chunks (data_came rows whole layers id bytes).layers [])
-last_on rows whole layers id bytes chunks notices e = by_drawing (is_drawn id) chunks layers (data_came rows whole layers id bytes).layers notices (data_leaves rows whole layers id bytes) e
+last_on rows whole layers id bytes chunks notices e =
+    by_drawing (is_drawn id) chunks layers (data_came rows whole layers id bytes).layers notices (data_leaves rows whole layers id bytes) e

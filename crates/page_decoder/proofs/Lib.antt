@@ -45,7 +45,9 @@ mod Ruling
 mod Needing
 -- law needs of page_laws
 mod Asking
--- Showing, Serving
+-- Leaving
+mod Headed
+-- Showing, Serving, Drawable, Limiting
 mod Leaving
 -- law shows of page_laws
 mod Showing
@@ -65,6 +67,12 @@ mod Working
 mod Serials
 -- law limits of page_laws
 mod Limiting
+-- laws of page_laws::drawings; Drawable
+mod Ascending
+-- law drawable of page_laws::drawings
+mod Drawable
+-- laws of page_laws::made
+mod Made
 -- law faults_stand_in_files of page_laws
 mod FaultPlaces
 -- the resolving of includes: list_next, pass_files, go_on of Includes

@@ -8,6 +8,8 @@ use Rattle.std.proofs.lemmas.List.Folds.{list_all-append}
 use Rattle.djvu_base.specs.declared.faults.FaultKind.{FaultKind}
 use Rattle.djvu_base.specs.declared.faults.FaultKind.TheVariants as fault
 use Rattle.iff_chunks.specs.Chunks.{Form, Chunk, Tail, InHead, InHeader, InData, InPad, FormEnd, Broken, form_word, chunks_of}
+use Rattle.iff_chunks.specs.Events.{events_of}
+use Rattle.iff_chunks.specs.Order.{AtForm, InOrder}
 use Rattle.iff_chunks.specs.Layout.{Laid, AtEnd, TooShort, Beginning, NoId, TooLong, DataArriving, PadMissing, Padded, Unpadded, IsLaidForm}
 use Rattle.zp_table.specs.declared.rows.Row.{Row}
 use Rattle.iw44_image.specs.Layer.{Data, Layer, Allowed, read_layer, read_chunk}
@@ -20,7 +22,7 @@ use Rattle.page_decoder.specs.Kinds as kind
 use Rattle.page_decoder.specs.Given.{Page, Home, Known, Given}
 use Rattle.page_decoder.specs.PageRead.{Ending, Decoded, Left, at_start}
 use Rattle.page_decoder.specs.Headers.{Head, front_in, second, first_fault, later_fault, page_fault, header_fault}
-use Rattle.page_decoder.specs.ChunkData.{Leaves, back_limit, allowed_on, came_by}
+use Rattle.page_decoder.specs.ChunkData.{Leaves, back_limit, allowed_on, came, came_by}
 use Rattle.page_decoder.specs.Acts.{Act, form_acts, complete_acts, tail_acts, acts_of, close_in}
 use Rattle.page_decoder.specs.Read.{drawing_by, read}
 use Rattle.page_decoder.specs.Needs.{are_bytes}
@@ -51,7 +53,7 @@ laid_bytes _ _ _ _ _ (Padded offset left chunk header pad chunks tail after begu
 laid_bytes _ _ _ _ _ (Unpadded offset left chunk header chunks tail after begun sized e on) all =
     let both = bytes_parts chunk.bytes after (bytes_parts header (chunk.bytes ++ after) all).1 in (both.0, laid_bytes _ _ _ _ _ on both.1)
 
-pub form_bytes : (bytes : List ℕ) (form : Form) (whole : List Chunk) (tail : Tail) → IsLaidForm bytes form whole tail → are_bytes bytes ≡ true
+form_bytes : (bytes : List ℕ) (form : Form) (whole : List Chunk) (tail : Tail) → IsLaidForm bytes form whole tail → are_bytes bytes ≡ true
     → AllByRecursion HasBytes whole
 form_bytes bytes form whole tail laid all =
     let named = bytes_parts laid.prefix (form_word ++ (laid.number ++ (form.kind ++ laid.after))) (subst (λ b. are_bytes b ≡ true) laid.same all) in
@@ -59,11 +61,31 @@ form_bytes bytes form whole tail laid all =
     let kinds = bytes_parts laid.number (form.kind ++ laid.after) sized.1 in
     laid_bytes (form.offset + 12) (form.size - 4) whole tail laid.after laid.body (bytes_parts form.kind laid.after kinds.1).1
 
+none_there : (whole : List Chunk) (tail : Tail) → InOrder AtForm (events_of (record { form = None; whole = whole; tail = tail }))
+    → AllByRecursion HasBytes whole
+none_there [] tail order = tt
+none_there (chunk ∷ whole) tail order = absurd order
+
+-- the laws of the container
+abbrev pub FormIsLaid : Type 0
+FormIsLaid = (bytes : List ℕ) (form : Form) → (chunks_of bytes).form ≡ Some form → IsLaidForm bytes form (chunks_of bytes).whole (chunks_of bytes).tail
+
+abbrev pub EventsInOrder : Type 0
+EventsInOrder = (bytes : List ℕ) → InOrder AtForm (events_of (chunks_of bytes))
+
+pub whole_bytes : FormIsLaid → EventsInOrder → (bytes : List ℕ) → are_bytes bytes ≡ true → AllByRecursion HasBytes (chunks_of bytes).whole
+whole_bytes laid order bytes all = by (chunks_of bytes).form refl
+  where
+    by : (form : Option Form) → (chunks_of bytes).form ≡ form → AllByRecursion HasBytes (chunks_of bytes).whole
+    by (Some form) e = form_bytes bytes form (chunks_of bytes).whole (chunks_of bytes).tail (laid bytes form e) all
+    by None e = none_there (chunks_of bytes).whole (chunks_of bytes).tail
+        (subst (λ f. InOrder AtForm (events_of (record { form = f; whole = (chunks_of bytes).whole; tail = (chunks_of bytes).tail }))) e (order bytes))
+
 -- what a complete chunk's data are
-abbrev Fine : Head → Data → Type 0
+abbrev pub Fine : Head → Data → Type 0
 Fine head given = given.ended ≡ true → are_bytes given.bytes ≡ true
 
-bytes_fine : (whole : List Chunk) → AllByRecursion HasBytes whole → AllByRecursion (IsComplete Fine) whole
+pub bytes_fine : (whole : List Chunk) → AllByRecursion HasBytes whole → AllByRecursion (IsComplete Fine) whole
 bytes_fine [] all = tt
 bytes_fine (chunk ∷ whole) all = (λ ended. all.0, bytes_fine whole all.1)
 
@@ -150,64 +172,64 @@ module _ (table : List Row) (last : LastChunk) where
       let more : length (back ++ given ∷ []) ≡ length back + 1 = length-append back (given ∷ []) in
       ((done, counted ∙ ap (λ n. n + 1) number ∙ sym more), subst (λ n. n < 256) number below)
 
-  counts_on : (of : ChunkKind) (given : Data) (offset chunks number count : ℕ) (before after : Decoded) → Brings of table given offset before after
+  counts_on : (of : ChunkKind) (given : Data) (offset chunks number decisions count : ℕ) (before after : Decoded) → Brings of table given offset before after
       → KindSo of chunks before.layers → (chunks ≡ 0 → before.layers ≡ None) → (given.ended ≡ true → are_bytes given.bytes ≡ true) → Counts table before count
-      → Counts table after (count + length (drawing_by of number after.layers))
-  counts_on kind.Info given offset chunks number count before after b k none bytes i =
+      → Counts table after (count + length (drawing_by of number decisions after.layers))
+  counts_on kind.Info given offset chunks number decisions count before after b k none bytes i =
       let empty = none k in
       let bare = i.bare empty in
       let told : count ≤ 0 + 0 + 0 + length before.back =
       subst (λ l. count ≤ some_count l + some_count (mask_in l) + some_count (front_in l) + length before.back) empty i.told in
-      subst (λ d. Counts table d (count + length (drawing_by kind.Info number d.layers))) (sym b) (record {
+      subst (λ d. Counts table d (count + length (drawing_by kind.Info number decisions d.layers))) (sym b.3) (record {
         bare = λ e. absurd (cc);
         told = omega (arith, told);
         few = i.few;
         back = λ layers e. subst (λ back. BackSo table layers back) (sym bare) (refl, refl);
       })
-  counts_on kind.Mask given offset chunks number count before after b k none bytes i =
+  counts_on kind.Mask given offset chunks number decisions count before after b k none bytes i =
       let layers = b.0 in
       let first : some_count layers.mask ≡ 0 = ap some_count (ap mask_in (sym b.2) ∙ k) in
       let told : count ≤ 1 + some_count layers.mask + some_count layers.front + length before.back =
       subst (λ l. count ≤ some_count l + some_count (mask_in l) + some_count (front_in l) + length before.back) b.2 i.told in
       let back = i.back layers b.2 in
-      subst (λ d. Counts table d (count + length (drawing_by kind.Mask number d.layers))) (sym b.3) (record {
+      subst (λ d. Counts table d (count + length (drawing_by kind.Mask number decisions d.layers))) (sym b.3) (record {
         bare = λ e. absurd (cc);
         told = omega (arith, told, first);
         few = i.few;
         back = λ now e. subst (λ l. BackSo table l before.back) (layers_are _ now e) back;
       })
-  counts_on kind.Front given offset chunks number count before after b k none bytes i =
+  counts_on kind.Front given offset chunks number decisions count before after b k none bytes i =
       let layers = b.0 in
       let first : some_count layers.front ≡ 0 = ap some_count (ap front_in (sym b.2) ∙ k) in
       let told : count ≤ 1 + some_count layers.mask + some_count layers.front + length before.back =
       subst (λ l. count ≤ some_count l + some_count (mask_in l) + some_count (front_in l) + length before.back) b.2 i.told in
       let back = i.back layers b.2 in
-      subst (λ d. Counts table d (count + length (drawing_by kind.Front number d.layers))) (sym b.3) (record {
+      subst (λ d. Counts table d (count + length (drawing_by kind.Front number decisions d.layers))) (sym b.3) (record {
         bare = λ e. absurd (cc);
         told = omega (arith, told, first);
         few = i.few;
         back = λ now e. subst (λ l. BackSo table l before.back) (layers_are _ now e) back;
       })
-  counts_on kind.Back given offset chunks number count before after b k none bytes i =
+  counts_on kind.Back given offset chunks number decisions count before after b k none bytes i =
       let layers = b.0 in
       let told : count ≤ 1 + some_count layers.mask + some_count layers.front + length before.back =
       subst (λ l. count ≤ some_count l + some_count (mask_in l) + some_count (front_in l) + length before.back) b.2 i.told in
       let next = back_on layers before.back given (i.back layers b.2) (bytes b.5) b.3 in
       let few = next.1 in
       let more : length (before.back ++ given ∷ []) ≡ length before.back + 1 = length-append before.back (given ∷ []) in
-      subst (λ d. Counts table d (count + length (drawing_by kind.Back number d.layers))) (sym b.4) (record {
+      subst (λ d. Counts table d (count + length (drawing_by kind.Back number decisions d.layers))) (sym b.4) (record {
         bare = λ e. absurd (cc);
         told = omega (arith, told, more);
         few = omega (arith, few, more);
         back = λ now e. subst (λ l. BackSo table l (before.back ++ given ∷ [])) (layers_are _ now e) next.0;
       })
-  counts_on kind.Include given offset chunks number count before after b k none bytes i =
+  counts_on kind.Include given offset chunks number decisions count before after b k none bytes i =
       subst (λ d. Counts table d (count + 0)) (sym b.3) (record { bare = i.bare; told = omega (arith, i.told); few = i.few; back = i.back })
-  counts_on kind.Dictionary given offset chunks number count before after b k none bytes i =
+  counts_on kind.Dictionary given offset chunks number decisions count before after b k none bytes i =
       subst (λ d. Counts table d (count + 0)) (sym b.1) (record { bare = i.bare; told = omega (arith, i.told); few = i.few; back = i.back })
-  counts_on kind.Refused given offset chunks number count before after b k none bytes i =
+  counts_on kind.Refused given offset chunks number decisions count before after b k none bytes i =
       subst (λ d. Counts table d (count + 0)) (sym b) (record { bare = i.bare; told = omega (arith, i.told); few = i.few; back = i.back })
-  counts_on kind.Passed given offset chunks number count before after b k none bytes i =
+  counts_on kind.Passed given offset chunks number decisions count before after b k none bytes i =
       subst (λ d. Counts table d (count + 0)) (sym b) (record { bare = i.bare; told = omega (arith, i.told); few = i.few; back = i.back })
 
 -- between chunks, and behind the header of one
@@ -244,10 +266,11 @@ begun home head left e page other s =
 
 chunk_limited : (home : Home) → LastChunk → (head : Head) (given : Data) (decoded : Decoded) (left : Left) (decisions : ℕ) → Fine head given
     → (came_by (kind_of head.id) home.table given head.offset left.decoded).outcome ≡ Leaves decoded → Limited home (Some head) left
-    → Counts home.table decoded (length (left.told.drawings ++ drawing_by (kind_of head.id) (suc left.chunks) decoded.layers))
+    → Counts home.table decoded (length (left.told.drawings ++ drawing_by (kind_of head.id) (suc left.chunks) decisions decoded.layers))
 chunk_limited home last head given decoded left decisions f e i =
-    subst (λ n. Counts home.table decoded n) (sym (length-append left.told.drawings (drawing_by (kind_of head.id) (suc left.chunks) decoded.layers)))
-    (counts_on home.table last (kind_of head.id) given head.offset left.chunks (suc left.chunks) (length left.told.drawings) left.decoded decoded
+    subst (λ n. Counts home.table decoded n)
+    (sym (length-append left.told.drawings (drawing_by (kind_of head.id) (suc left.chunks) decisions decoded.layers)))
+    (counts_on home.table last (kind_of head.id) given head.offset left.chunks (suc left.chunks) decisions (length left.told.drawings) left.decoded decoded
     (brings (kind_of head.id) home.table given head.offset left.decoded decoded e) (i.kind head refl) i.none f i.counts)
 
 rules : (home : Home) (known : Known) → LastChunk → Rules home known Fine any_include (IsLimited home) (AtMost home)
@@ -255,7 +278,7 @@ rules home known last = record {
   begins = λ head left e i page. record { none = (i page).none; counts = (i page).counts; kind = begun home head left e page };
   chunk = λ head given decoded left f e i page. record {
     none = λ n. absurd (cc);
-    counts = chunk_limited home last head given decoded left 0 f e (i page);
+    counts = chunk_limited home last head given decoded left (left.told.decisions + (came home.table head given left.decoded).decisions) f e (i page);
     kind = λ other none. absurd (cc);
   };
   part = λ head n left i page. record { none = (i page).none; counts = (i page).counts; kind = λ other none. absurd (cc) };
@@ -275,7 +298,7 @@ rules home known last = record {
     kind = (i page).kind;
   };
   unknown = λ at left file u i page. most home at left i page;
-  lacks = λ at left file include next n m i page. most home at left i page;
+  lacks = λ at left file next n i page. most home at left i page;
   graph_fault = λ at left target fault b v i page. most home at left i page;
   file_fault = λ at left file fault target before others below v e i page. most home at left i page;
   own_fault = λ at kind offset left i page. most home at left i page;

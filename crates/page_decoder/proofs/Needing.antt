@@ -1,5 +1,5 @@
 -- What holds where a reading ends: its need is one, what it reached is known, and with a known end of the file it waits for no bytes.
-use Rattle.std.proofs.Common.{◌≡◌, ◌≢◌, ◌<◌, ℕ, Bool, true, false, cond, ◌||◌, eqb, Option, Some, ◌⊎◌, inl, inr, List, [], ◌∷◌, length, refl, sym, ap, ◌∙◌, subst}
+use Rattle.std.proofs.Common.{◌≡◌, ◌≢◌, ◌<◌, ℕ, Bool, true, false, cond, ◌||◌, eqb, Option, Some, ◌⊎◌, inl, inr, List, [], ◌∷◌, ◌++◌, length, refl, sym, ap, ◌∙◌, subst}
 use Rattle.std.proofs.lemmas.Bool.{true≢false}
 use Rattle.std.proofs.lemmas.List.Folds.{list_any-append}
 use Rattle.djvu_base.specs.declared.faults.FaultKind.{FaultKind}
@@ -16,7 +16,7 @@ use Rattle.page_decoder.specs.Headers.{Head}
 use Rattle.page_decoder.specs.Acts.{Close, Waits, acts_of, origin_of, close_of, close_in}
 use Rattle.page_decoder.specs.Read.{reaching, read}
 use Rattle.page_decoder.specs.Needs.{Because}
-use Rattle.page_decoder.proofs.Ruling.{Rules, from_holds, among_last, any_chunk, any_include, any_acts, any_includes}
+use Rattle.page_decoder.proofs.Ruling.{Rules, from_holds, among_last, among_behind, any_chunk, any_include, any_acts, any_includes}
 
 abbrev HasResult : Known → ℕ → Type 0
 HasResult known file = (it : Result) × (known.results file ≡ Some it)
@@ -24,10 +24,11 @@ HasResult known file = (it : Result) × (known.results file ≡ Some it)
 abbrev AllKnown : Known → Told → Type 0
 AllKnown known told = (file : ℕ) → is_among file told.reached ≡ true → HasResult known file
 
-pub record Ended (home : Home) (known : Known) (close : Close) (told : Told) (end : Ending) : Type 0 where
-  pub because : Because home known end
-  pub reached : (file : ℕ) → is_among file told.reached ≡ true → HasResult known file ⊎ (end ≡ NeedFile file)
+pub record Ended (home : Home) (known : Known) (close : Close) (left : Left) (end : Ending) : Type 0 where
+  pub because : Because home known left.decoded.pending end
+  pub reached : (file : ℕ) → is_among file left.told.reached ≡ true → HasResult known file ⊎ (end ≡ NeedFile file)
   pub quiet : end ≡ NeedBytes → close ≡ Waits
+  pub needed : (file : ℕ) → end ≡ NeedFile file → is_among file left.told.reached ≡ true
 
 reached_last : (known : Known) (left : Left) (file : ℕ) → AllKnown known left.told → HasResult known file → AllKnown known (reaching file left).told
 reached_last known left file all has other m = by (among_last other file left.told.reached m)
@@ -44,38 +45,45 @@ lacking_last known left file all other m = by (among_last other file left.told.r
     by (inl n) = inl (all other n)
     by (inr e) = inr (ap NeedFile (sym e))
 
+needed_last : (left : Left) (file other : ℕ) → NeedFile file ≡ NeedFile other → is_among other (reaching file left).told.reached ≡ true
+needed_last left file other e =
+    let same : file ≡ other = cc in
+    subst (λ f. is_among f (left.told.reached ++ file ∷ []) ≡ true) same (among_behind file left.told.reached [])
+
 abbrev Kept : Known → Option Head → Left → Type 0
 Kept known at left = AllKnown known left.told
 
-abbrev AtEnd : Home → Known → Close → Left → Ending → Type 0
-AtEnd home known close left end = Ended home known close left.told end
-
-rules : (home : Home) (known : Known) (close : Close) → Rules home known any_chunk any_include (Kept known) (AtEnd home known close)
+rules : (home : Home) (known : Known) (close : Close) → Rules home known any_chunk any_include (Kept known) (Ended home known close)
 rules home known close = record {
   begins = λ head left e i. i;
   chunk = λ head given decoded left f e i. i;
   part = λ head n left i. i;
-  wrong = λ head n kind offset left i. record { because = tt; reached = λ f m. inl (i f m); quiet = λ e. cc };
+  wrong = λ head n kind offset left i. record { because = tt; reached = λ f m. inl (i f m); quiet = λ e. cc; needed = λ f e. absurd (cc) };
   pending = λ at left i. any_includes left.decoded.pending;
   reaches = λ at left file it e i. reached_last known left file i (it, e);
   inherits = λ at found left i. i;
   none_left = λ at left i. i;
-  unknown = λ at left file u i. record { because = u; reached = λ f m. inl (i f m); quiet = λ e. cc };
-  lacks = λ at left file include next n m i. record { because = next; reached = lacking_last known left file i; quiet = λ e. cc };
-  graph_fault = λ at left target fault b v i. record { because = tt; reached = λ f m. inl (i f m); quiet = λ e. cc };
+  unknown = λ at left file u i. record { because = u; reached = λ f m. inl (i f m); quiet = λ e. cc; needed = λ f e. absurd (cc) };
+  lacks = λ at left file next n i. record {
+    because = next;
+    reached = lacking_last known left file i;
+    quiet = λ e. cc;
+    needed = λ other e. needed_last left file other e;
+  };
+  graph_fault = λ at left target fault b v i. record { because = tt; reached = λ f m. inl (i f m); quiet = λ e. cc; needed = λ f e. absurd (cc) };
   file_fault = λ at left file fault target before others below v e i.
-      record { because = tt; reached = λ f m. inl (reached_last known left file i (_, e) f m); quiet = λ w. cc };
-  own_fault = λ at kind offset left i. record { because = tt; reached = λ f m. inl (i f m); quiet = λ e. cc };
-  finishes = λ left some i. record { because = tt; reached = λ f m. inl (i f m); quiet = λ e. cc };
+      record { because = tt; reached = λ f m. inl (reached_last known left file i (_, e) f m); quiet = λ w. cc; needed = λ f w. absurd (cc) };
+  own_fault = λ at kind offset left i. record { because = tt; reached = λ f m. inl (i f m); quiet = λ e. cc; needed = λ f e. absurd (cc) };
+  finishes = λ left some i. record { because = tt; reached = λ f m. inl (i f m); quiet = λ e. cc; needed = λ f e. absurd (cc) };
 }
 
 pub ended : (given : Given) → ((name : List ℕ) (target : ℕ) → number_of name given.home.names ≡ Some target → target < length given.home.names)
-    → Ended given.home given.known (close_in given.mark given.bytes) (read given).left.told (read given).end
+    → Ended given.home given.known (close_in given.mark given.bytes) (read given).left (read given).end
 ended given below =
     let close = close_in given.mark given.bytes in
-    from_holds given.home given.known any_chunk any_include (Kept given.known) (AtEnd given.home given.known close)
+    from_holds given.home given.known any_chunk any_include (Kept given.known) (Ended given.home given.known close)
     (rules given.home given.known close) below close
-    (λ w left i. record { because = tt; reached = λ f m. inl (i f m); quiet = λ e. w }) (acts_of (chunks_of given.bytes)) at_start
+    (λ w left i. record { because = tt; reached = λ f m. inl (i f m); quiet = λ e. w; needed = λ f e. absurd (cc) }) (acts_of (chunks_of given.bytes)) at_start
     (any_acts (acts_of (chunks_of given.bytes))) (λ f m. absurd (true≢false (sym m)))
 
 -- a file whose end is known doesn't wait

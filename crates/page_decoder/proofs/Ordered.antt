@@ -2,13 +2,13 @@
 use Rattle.std.proofs.Common.{◌≡◌, ◌≤◌, ℕ, zero, suc, ◌+◌, true, eqb, Some, ◌⊎◌, inl, inr, List, [], ◌∷◌, ◌++◌, length, sym, ap, ◌∙◌, subst, arith}
 use Rattle.std.specs.List.{Contains}
 use Rattle.std.proofs.lemmas.Bool.{eqb-true, true≢false}
-use Rattle.std.proofs.lemmas.List.Elements.{Contains-append_cases, Contains-push_cases}
+use Rattle.std.proofs.lemmas.List.Elements.{Contains-append_cases}
 use Rattle.include_graph.specs.declared.outline.OutlineItem.{OutlineItem}
 use Rattle.include_graph.specs.declared.outline.OutlineItem.TheVariants as item
 use Rattle.include_graph.specs.Verdicts.{Graph, number_of, is_among}
 use Rattle.include_graph.specs.Graphs.{IncludesAmong, IsServed, InOrder}
 use Rattle.page_decoder.specs.Needs.{HasNoFault, IncludesFile}
-use Rattle.page_decoder.proofs.Ruling.{or_cases, among_last}
+use Rattle.page_decoder.proofs.Ruling.{or_cases, among_last, none_in, one_in}
 
 -- the items of an ordered file have no fault, and include files before it
 
@@ -20,16 +20,9 @@ none_faulty names files (item.Broken kind offset ∷ items) all = absurd all
 first_or_later : (x : OutlineItem) (xs : List OutlineItem) (y : OutlineItem) → Contains (x ∷ xs) y → (x ≡ y) ⊎ Contains xs y
 first_or_later x xs y has = by (Contains-append_cases (x ∷ []) xs y has)
   where
-    first : Contains [] y ⊎ (x ≡ y) → x ≡ y
-    first (inl none) = let below = none.1 in absurd (omega (arith, below))
-    first (inr e) = e
-
     by : Contains (x ∷ []) y ⊎ Contains xs y → (x ≡ y) ⊎ Contains xs y
-    by (inl here) = inl (first (Contains-push_cases [] x y here))
+    by (inl here) = inl (one_in x y here)
     by (inr later) = inr later
-
-none_in : (y : OutlineItem) → Contains [] y → ⊥
-none_in y has = let below = has.1 in omega (arith, below)
 
 item_among : (names : List (List ℕ)) (files : List ℕ) (items : List OutlineItem) (name : List ℕ) (offset file : ℕ) → IncludesAmong names files items
     → Contains items (item.Include name offset) → number_of name names ≡ Some file → is_among file files ≡ true

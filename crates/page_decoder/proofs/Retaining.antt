@@ -1,5 +1,5 @@
 -- What a reading told is never taken back: each step tells no less than what was left before it.
-use Rattle.std.proofs.Common.{◌≤◌, ℕ, zero, suc, Option, Some, None, List, [], ◌∷◌, ◌++◌, map, refl, sym, ap, ◌∙◌, arith, append_assoc}
+use Rattle.std.proofs.Common.{◌≤◌, ℕ, zero, suc, ◌+◌, Option, Some, None, List, [], ◌∷◌, ◌++◌, map, refl, sym, ap, ◌∙◌, arith, append_assoc}
 use Rattle.std.proofs.lemmas.List.{append-nil, map-append}
 use Rattle.djvu_base.specs.declared.faults.FaultKind.{FaultKind}
 use Rattle.bit_plane.specs.Pixels.{Pixels}
@@ -121,7 +121,7 @@ header_below home known head None left = before_below (kind_of head.id) home kno
 pub outcome_below : (home : Home) (head : Head) (decisions : ℕ) (outcome : Outcome) (left : Left)
     → Below (counting decisions left).told (told_by (at_outcome home head decisions outcome left))
 outcome_below home head decisions (Leaves decoded) left = record {
-  drawings = (drawing_by (kind_of head.id) (suc left.chunks) decoded.layers, refl);
+  drawings = (drawing_by (kind_of head.id) (suc left.chunks) (left.told.decisions + decisions) decoded.layers, refl);
   decisions = omega arith;
   reached = front_same left.told.reached;
 }

@@ -1,7 +1,8 @@
 -- One induction over all acts: what holds at the start and is kept by each act holds where the reading ends.
-use Rattle.std.proofs.Common.{◌≡◌, ◌<◌, ℕ, zero, suc, Bool, true, false, ◌||◌, eqb, Option, Some, None, ◌⊎◌, inl, inr, List, [], ◌∷◌, ◌++◌, length, refl, sym, ap, ◌∙◌, subst, append_assoc}
-use Rattle.std.specs.List.{AllByRecursion}
-use Rattle.std.proofs.lemmas.Bool.{eqb-true, true≢false}
+use Rattle.std.proofs.Common.{◌≡◌, ◌<◌, ℕ, zero, suc, Bool, true, false, ◌||◌, eqb, Option, Some, None, ◌⊎◌, inl, inr, List, [], ◌∷◌, ◌++◌, length, refl, sym, ap, ◌∙◌, subst, append_assoc, arith}
+use Rattle.std.specs.List.{AllByRecursion, Contains}
+use Rattle.std.proofs.lemmas.Bool.{eqb-true, eq-eqb, true≢false}
+use Rattle.std.proofs.lemmas.List.Elements.{Contains-append_left, Contains-append_right, Contains-push, Contains-push_cases}
 use Rattle.std.proofs.lemmas.List.Folds.{list_any-append}
 use Rattle.djvu_base.specs.declared.faults.Fault.{Fault}
 use Rattle.djvu_base.specs.declared.faults.FaultKind.{FaultKind}
@@ -22,7 +23,7 @@ use Rattle.page_decoder.specs.Headers.{Head, head_of, form_fault, header_fault}
 use Rattle.page_decoder.specs.ChunkData.{Outcome, Leaves, Unfinished, Fails, came}
 use Rattle.page_decoder.specs.Acts.{Act, Kind, Reads, Close, Waits, Breaks, Over, form_acts, complete_acts, tail_acts, acts_of}
 use Rattle.page_decoder.specs.Read.{Step, On, Ends, and_then, after, reaching, counting, inheriting, nothing_pending, with_chunk, refused_at, at_result, in_files, at_verdict, listing, at_target, at_include, resolved, all_resolved, resolved_before, at_form, at_header, at_outcome, at_data, at_act, finished, at_over, at_close, read_from, step_through}
-use Rattle.page_decoder.specs.Needs.{IsGood, IsNext, IsUnknown}
+use Rattle.page_decoder.specs.Needs.{IsGood, IsTarget, IsNext, IsUnknown}
 
 -- of the file's chunks this is known, by their headers and data
 abbrev pub IsFine : (Head → Data → Type 0) → Act → Type 0
@@ -46,9 +47,9 @@ pub record Rules (home : Home) (known : Known) (fine : Head → Data → Type 0)
   pub reaches : (at : Option Head) (left : Left) (file : ℕ) (it : Result) → known.results file ≡ Some it → I at left → I at (reaching file left)
   pub inherits : (at : Option Head) (found : Option (List Pixels)) (left : Left) → I at left → I at (inheriting found left)
   pub none_left : (at : Option Head) (left : Left) → I at left → I at (nothing_pending left)
-  pub unknown : (at : Option Head) (left : Left) (file : ℕ) → IsUnknown home known file → I at left → P left (NeedOutline file)
-  pub lacks : (at : Option Head) (left : Left) (file : ℕ) (include : Include) (next : IsNext home known file) → named include
-      → number_of include.name home.names ≡ Some next.target → I at left → P (reaching file left) (NeedFile file)
+  pub unknown : (at : Option Head) (left : Left) (file : ℕ) → IsUnknown home known left.decoded.pending file → I at left → P left (NeedOutline file)
+  pub lacks : (at : Option Head) (left : Left) (file : ℕ) (next : IsNext home known left.decoded.pending file) → named next.of_include.include → I at left
+      → P (reaching file left) (NeedFile file)
   pub graph_fault : (at : Option Head) (left : Left) (target : ℕ) (fault : Fault) → target < length home.names
       → listing home.role home known target ≡ verdict.Refused fault → I at left → P left (Refused fault)
   pub file_fault : (at : Option Head) (left : Left) (file : ℕ) (fault : Fault) (target : ℕ) (before others : List ℕ) → target < length home.names
@@ -60,6 +61,17 @@ pub record Rules (home : Home) (known : Known) (fine : Head → Data → Type 0)
 pub or_cases : (a b : Bool) → (a || b) ≡ true → (a ≡ true) ⊎ (b ≡ true)
 or_cases true b e = inl refl
 or_cases false b e = inr e
+
+pub or_right : (a b : Bool) → b ≡ true → (a || b) ≡ true
+or_right true b e = refl
+or_right false b e = e
+
+eqb_same : (n : ℕ) → eqb n n ≡ true
+eqb_same n = eq-eqb n n refl
+
+pub among_behind : (file : ℕ) (before others : List ℕ) → is_among file (before ++ file ∷ others) ≡ true
+among_behind file [] others = ap (λ b. b || is_among file others) (eqb_same file)
+among_behind file (first ∷ before) others = or_right (eqb file first) (is_among file (before ++ file ∷ others)) (among_behind file before others)
 
 pub among_last : (f g : ℕ) (gs : List ℕ) → is_among f (gs ++ g ∷ []) ≡ true → (is_among f gs ≡ true) ⊎ (f ≡ g)
 among_last f g gs m = by (or_cases (is_among f gs) (is_among f (g ∷ [])) (sym (list_any-append (eqb f) gs (g ∷ [])) ∙ m))
@@ -80,6 +92,24 @@ good_last results before file all last other m = by (among_last other file befor
     by : (is_among other before ≡ true) ⊎ (other ≡ file) → IsGood results other
     by (inl e) = all other e
     by (inr e) = subst (λ h. IsGood results h) (sym e) last
+
+-- members of lists
+
+pub none_in : {A : Type 0} (x : A) → Contains [] x → ⊥
+none_in x has = let below = has.1 in omega (arith, below)
+
+pub one_in : {A : Type 0} (x y : A) → Contains (x ∷ []) y → x ≡ y
+one_in x y has = by (Contains-push_cases [] x y has)
+  where
+    by : Contains [] y ⊎ (x ≡ y) → x ≡ y
+    by (inl none) = absurd (none_in y none)
+    by (inr same) = same
+
+pub first_in : {A : Type 0} (x : A) (xs : List A) → Contains (x ∷ xs) x
+first_in x xs = Contains-append_left (x ∷ []) xs x (Contains-push [] x)
+
+pub later_in : {A : Type 0} (x y : A) (xs : List A) → Contains xs y → Contains (x ∷ xs) y
+later_in x y xs has = Contains-append_right (x ∷ []) xs y has
 
 -- includes change no count of chunks
 
@@ -134,53 +164,74 @@ module _ (home : Home) (known : Known) (fine : Head → Data → Type 0) (named 
   after_holds at (On left) next all h = all left h
   after_holds at (Ends read) next all h = h
 
+  -- what is pending stays so, until all of it is resolved
+  abbrev HoldsWith : List Include → Option Head → Step → Type 0
+  HoldsWith pending at (On left) = I at left × (left.decoded.pending ≡ pending)
+  HoldsWith pending at (Ends read) = P read.left read.end
+
+  with_holds : (pending : List Include) (at now : Option Head) (s : Step) (next : Left → Step)
+      → ((left : Left) → I at left → left.decoded.pending ≡ pending → Holds I P now (next left)) → HoldsWith pending at s → Holds I P now (and_then s next)
+  with_holds pending at now (On left) next all h = all left h.0 h.1
+  with_holds pending at now (Ends read) next all h = h
+
+  -- a target of an include, of which this is known
+  abbrev Asked : List Include → ℕ → Type 0
+  Asked pending target = (it : IsTarget home.names pending target) × named it.include
+
+  asked_now : (pending : List Include) (target : ℕ) (left : Left) → left.decoded.pending ≡ pending → Asked pending target → Asked left.decoded.pending target
+  asked_now pending target left p asked = subst (λ l. Asked l target) (sym p) asked
+
   -- the files of a target's list, behind those that aren't refused
-  files_hold : (at : Option Head) (include : Include) (target : ℕ) → named include → number_of include.name home.names ≡ Some target
-      → (before files : List ℕ) (found : Option (List Pixels)) (left : Left)
-      → listing home.role home known target ≡ verdict.Files (before ++ files) → ((other : ℕ) → is_among other before ≡ true → IsGood known.results other)
-      → I at left → Holds I P at (in_files known files found left)
-  files_hold at include target n m before [] found left v good i = rules.inherits at found left i
-  files_hold at include target n m before (file ∷ files) found left v good i =
+  files_hold : (pending : List Include) (at : Option Head) (target : ℕ) → Asked pending target → (before files : List ℕ) (found : Option (List Pixels))
+      (left : Left) → listing home.role home known target ≡ verdict.Files (before ++ files)
+      → ((other : ℕ) → is_among other before ≡ true → IsGood known.results other) → left.decoded.pending ≡ pending → I at left
+      → HoldsWith pending at (in_files known files found left)
+  files_hold pending at target asked before [] found left v good p i = (rules.inherits at found left i, p)
+  files_hold pending at target asked before (file ∷ files) found left v good p i =
       by (known.results file) refl
-      (λ it e fine now. files_hold at include target n m (before ++ file ∷ []) files now (reaching file left)
+      (λ it e fine now. files_hold pending at target asked (before ++ file ∷ []) files now (reaching file left)
       (v ∙ ap verdict.Files (sym (append_assoc before (file ∷ []) files)))
-      (good_last known.results before file good (record { result = it; known = e; good = fine })) (rules.reaches at left file it e i))
+      (good_last known.results before file good (record { result = it; known = e; good = fine })) p (rules.reaches at left file it e i))
     where
       by : (there : Option Result) → known.results file ≡ there
           → ((it : Result) → known.results file ≡ Some it → ((fault : Fault) → it ≡ result.Refused fault → ⊥) → (now : Option (List Pixels))
-          → Holds I P at (in_files known files now (reaching file left)))
-          → Holds I P at (at_result (in_files known files) file there left)
+          → HoldsWith pending at (in_files known files now (reaching file left)))
+          → HoldsWith pending at (at_result (in_files known files) file there left)
       by None e next =
-          rules.lacks at left file include
-          (record { target = target; below = number_below include.name target m; before = before; others = files; list = v; good = good; lacking = e }) n m i
+          let now = asked_now pending target left p asked in
+          rules.lacks at left file
+          (record { target = target; of_include = now.0; before = before; others = files; list = v; good = good; lacking = e }) now.1 i
       by (Some (Dictionary shapes)) e next = next (Dictionary shapes) e (λ fault w. cc) (Some shapes)
       by (Some Nothing) e next = next Nothing e (λ fault w. cc) None
-      by (Some (result.Refused fault)) e next = rules.file_fault at left file fault target before files (number_below include.name target m) v e i
+      by (Some (result.Refused fault)) e next = rules.file_fault at left file fault target before files asked.0.below v e i
 
-  verdict_holds : (at : Option Head) (include : Include) (target : ℕ) → named include → number_of include.name home.names ≡ Some target
-      → (it : Verdict) (left : Left)
-      → listing home.role home known target ≡ it → I at left → Holds I P at (at_verdict known it left)
-  verdict_holds at include target n m (verdict.Files files) left v i =
-      files_hold at include target n m [] files None left v (λ other m. absurd (true≢false (sym m))) i
-  verdict_holds at include target n m (verdict.NeedOutline file) left v i =
-      rules.unknown at left file (record { target = target; below = number_below include.name target m; list = v }) i
-  verdict_holds at include target n m (verdict.Refused fault) left v i = rules.graph_fault at left target fault (number_below include.name target m) v i
+  verdict_holds : (pending : List Include) (at : Option Head) (target : ℕ) → Asked pending target → (it : Verdict) (left : Left)
+      → listing home.role home known target ≡ it → left.decoded.pending ≡ pending → I at left → HoldsWith pending at (at_verdict known it left)
+  verdict_holds pending at target asked (verdict.Files files) left v p i =
+      files_hold pending at target asked [] files None left v (λ other m. absurd (true≢false (sym m))) p i
+  verdict_holds pending at target asked (verdict.NeedOutline file) left v p i =
+      rules.unknown at left file (record { target = target; of_include = (asked_now pending target left p asked).0; list = v }) i
+  verdict_holds pending at target asked (verdict.Refused fault) left v p i = rules.graph_fault at left target fault asked.0.below v i
 
-  target_holds : (at : Option Head) (include : Include) (target : Option ℕ) (left : Left) → named include → number_of include.name home.names ≡ target
-      → I at left
-      → Holds I P at (at_target home known include.offset target left)
-  target_holds at include None left n m i = rules.own_fault at fault.MissingInclude include.offset left i
-  target_holds at include (Some target) left n m i = verdict_holds at include target n m (listing home.role home known target) left refl i
+  target_holds : (pending : List Include) (at : Option Head) (include : Include) (target : Option ℕ) (left : Left) → Contains pending include
+      → named include → number_of include.name home.names ≡ target → left.decoded.pending ≡ pending → I at left
+      → HoldsWith pending at (at_target home known include.offset target left)
+  target_holds pending at include None left has n m p i = rules.own_fault at fault.MissingInclude include.offset left i
+  target_holds pending at include (Some target) left has n m p i =
+      verdict_holds pending at target (record { include = include; is_pending = has; number = m; below = number_below include.name target m }, n)
+      (listing home.role home known target) left refl p i
 
-  resolved_holds : (at : Option Head) (includes : List Include) (left : Left) → AllByRecursion named includes → I at left
+  resolved_holds : (pending : List Include) (at : Option Head) (includes : List Include) (left : Left) → AllByRecursion named includes
+      → ((include : Include) → Contains includes include → Contains pending include) → left.decoded.pending ≡ pending → I at left
       → Holds I P at (resolved home known includes left)
-  resolved_holds at [] left all i = rules.none_left at left i
-  resolved_holds at (include ∷ includes) left all i =
-      then_holds at at (at_include home known include left) (resolved home known includes) (λ now j. resolved_holds at includes now all.1 j)
-      (target_holds at include (number_of include.name home.names) left all.0 refl i)
+  resolved_holds pending at [] left all has p i = rules.none_left at left i
+  resolved_holds pending at (include ∷ includes) left all has p i =
+      with_holds pending at at (at_include home known include left) (resolved home known includes)
+      (λ now j q. resolved_holds pending at includes now all.1 (λ other h. has other (later_in include other includes h)) q j)
+      (target_holds pending at include (number_of include.name home.names) left (has include (first_in include includes)) all.0 refl p i)
 
   all_hold : (at : Option Head) (left : Left) → I at left → Holds I P at (all_resolved home known left)
-  all_hold at left i = resolved_holds at left.decoded.pending left (rules.pending at left i) i
+  all_hold at left i = resolved_holds left.decoded.pending at left.decoded.pending left (rules.pending at left i) (λ include h. h) refl i
 
   form_holds : (found : Option FaultKind) (left : Left) → I None left → Holds I P None (at_form home found left)
   form_holds (Some kind) left i = rules.own_fault None kind 0 left i

@@ -67,7 +67,7 @@ module _ (outline : Outline) where
   chunk_named : (of : ChunkKind) (table : List Row) (given : Data) (offset : ℕ) (before decoded : Decoded)
       → (of ≡ kind.Include → given.ended ≡ true → (name : List ℕ) → include_name given.bytes ≡ Some name → Contains outline.items (item.Include name offset))
       → Brings of table given offset before decoded → AllByRecursion Named before.pending → AllByRecursion Named decoded.pending
-  chunk_named kind.Info table given offset before decoded f b all = subst (λ (d : Decoded). AllByRecursion Named d.pending) (sym b) all
+  chunk_named kind.Info table given offset before decoded f b all = subst (λ (d : Decoded). AllByRecursion Named d.pending) (sym b.3) all
   chunk_named kind.Include table given offset before decoded f b all =
       subst (λ (d : Decoded). AllByRecursion Named d.pending) (sym b.3)
       (all_behind Named before.pending (record { name = b.0; offset = offset }) all (f refl b.1 b.0 b.2))
@@ -90,14 +90,19 @@ module _ (outline : Outline) where
   abbrev NeedsIncluded : Home → Left → Ending → Type 0
   NeedsIncluded home left end = (file : ℕ) → end ≡ NeedFile file → home.role ≡ Included → IncludesFile home.names outline file
 
-  lacks_included : (home : Home) (known : Known) (file other : ℕ) (include : Include) (next : IsNext home known file) → Named include
-      → number_of include.name home.names ≡ Some next.target → NeedFile file ≡ NeedFile other → home.role ≡ Included → IncludesFile home.names outline other
-  lacks_included home known file other include next n m e role =
+  lacks_included : (home : Home) (known : Known) (pending : List Include) (file other : ℕ) (next : IsNext home known pending file)
+      → Named next.of_include.include → NeedFile file ≡ NeedFile other → home.role ≡ Included → IncludesFile home.names outline other
+  lacks_included home known pending file other next n e role =
       let list : verdict.Files (next.target ∷ []) ≡ verdict.Files (next.before ++ file ∷ next.others) =
       subst (λ r. listing r home known next.target ≡ verdict.Files (next.before ++ file ∷ next.others)) role next.list in
       let it : next.target ≡ file = alone next.target file next.before next.others (same_list (next.target ∷ []) (next.before ++ file ∷ next.others) list) in
       let same : file ≡ other = cc in
-      record { name = include.name; offset = include.offset; has = n; number = m ∙ ap Some (it ∙ same) }
+      record {
+        name = next.of_include.include.name;
+        offset = next.of_include.include.offset;
+        has = n;
+        number = next.of_include.number ∙ ap Some (it ∙ same);
+      }
 
   rules : (home : Home) (known : Known) → Rules home known Fine Named AllNamed (NeedsIncluded home)
   rules home known = record {
@@ -111,7 +116,7 @@ module _ (outline : Outline) where
     inherits = λ at found left i. i;
     none_left = λ at left i. tt;
     unknown = λ at left file u i other e. absurd (cc);
-    lacks = λ at left file include next n m i other e role. lacks_included home known file other include next n m e role;
+    lacks = λ at left file next n i other e role. lacks_included home known left.decoded.pending file other next n e role;
     graph_fault = λ at left target fault b v i file e. absurd (cc);
     file_fault = λ at left file fault target before others below v e i other w. absurd (cc);
     own_fault = λ at kind offset left i file e. absurd (cc);
@@ -213,11 +218,11 @@ over_by given outline NeedBytes e role below it served =
     ap (close_of (origin_of (chunks_of given.bytes).form)) (outlined_so given outline it).over in
     let wrong : Waits ≡ Over (origin_of (chunks_of given.bytes).form) = sym waits ∙ over in cc
 over_by given outline (NeedOutline file) e role below it served =
-    let unknown = subst (λ x. Because given.home given.known x) e (ended given below).because in
+    let unknown = subst (λ x. Because given.home given.known (read given).left.decoded.pending x) e (ended given below).because in
     let wrong : verdict.Files (unknown.target ∷ []) ≡ verdict.NeedOutline file =
     subst (λ r. listing r given.home given.known unknown.target ≡ verdict.NeedOutline file) role unknown.list in cc
 over_by given outline (NeedFile file) e role below it served =
-    let next = subst (λ x. Because given.home given.known x) e (ended given below).because in
+    let next = subst (λ x. Because given.home given.known (read given).left.decoded.pending x) e (ended given below).because in
     let some = served file (needs_included outline given below it file e role) in
     let wrong : None ≡ Some some.0 = sym next.lacking ∙ some.1 in cc
 

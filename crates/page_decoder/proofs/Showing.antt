@@ -1,5 +1,5 @@
 -- A page that is finished has a drawing, its layers are those of the last one, and faults stand in files of the folder.
-use Rattle.std.proofs.Common.{◌≡◌, ◌≢◌, ◌<◌, ℕ, zero, suc, Option, Some, None, List, [], ◌∷◌, ◌++◌, length, refl, sym, ap, ◌∙◌, subst}
+use Rattle.std.proofs.Common.{◌≡◌, ◌≢◌, ◌<◌, ℕ, zero, suc, ◌+◌, Option, Some, None, List, [], ◌∷◌, ◌++◌, length, refl, sym, ap, ◌∙◌, subst}
 use Rattle.std.proofs.lemmas.List.{append-nil}
 use Rattle.djvu_base.specs.declared.faults.Fault.{Fault}
 use Rattle.djvu_base.specs.declared.faults.FaultKind.{FaultKind}
@@ -13,12 +13,11 @@ use Rattle.page_decoder.specs.Kinds.{ChunkKind, kind_of}
 use Rattle.page_decoder.specs.Kinds as kind
 use Rattle.page_decoder.specs.Results as result
 use Rattle.page_decoder.specs.Given.{Role, Page, Included, Home, Known, Given}
-use Rattle.page_decoder.specs.PageRead.{Drawing, Ending, Finished, Refused, Decoded, Left, at_start}
+use Rattle.page_decoder.specs.PageRead.{Drawing, last_layers, Ending, Finished, Refused, Decoded, Left, at_start}
 use Rattle.page_decoder.specs.Headers.{Head, first_fault, page_fault, header_fault}
-use Rattle.page_decoder.specs.ChunkData.{Leaves, came_by}
+use Rattle.page_decoder.specs.ChunkData.{Leaves, came, came_by}
 use Rattle.page_decoder.specs.Acts.{acts_of, close_in}
 use Rattle.page_decoder.specs.Read.{drawing_by, drawing_of, refused_at, listing, read}
-use Rattle.page_decoder.specs.Needs.{last_layers}
 use Rattle.page_decoder.proofs.Asking.{Order, listed_below}
 use Rattle.page_decoder.proofs.Leaving.{Brings, brings}
 use Rattle.page_decoder.proofs.Ruling.{Rules, from_holds, any_chunk, any_include, any_acts, any_includes}
@@ -44,7 +43,7 @@ Draws other before after = after ≡ before
 
 draws : (of : ChunkKind) (table : List Row) (given : Data) (offset : ℕ) (before after : Decoded) → Brings of table given offset before after
     → Draws of before.layers after.layers
-draws kind.Info table given offset before after b = (_, ap (λ (d : Decoded). d.layers) b)
+draws kind.Info table given offset before after b = (_, ap (λ (d : Decoded). d.layers) b.3)
 draws kind.Include table given offset before after b = ap (λ (d : Decoded). d.layers) b.3
 draws kind.Dictionary table given offset before after b = ap (λ (d : Decoded). d.layers) b.1
 draws kind.Mask table given offset before after b = (_, ap (λ (d : Decoded). d.layers) b.3)
@@ -58,24 +57,26 @@ last_behind [] drawing = refl
 last_behind (first ∷ []) drawing = refl
 last_behind (first ∷ next ∷ drawings) drawing = last_behind (next ∷ drawings) drawing
 
-drawn_last : (chunks : ℕ) (drawings : List Drawing) (after : Option Layers) → (layers : Layers) × (after ≡ Some layers)
-    → after ≡ last_layers (drawings ++ drawing_of chunks after)
-drawn_last chunks drawings after l =
-    l.1 ∙ sym (last_behind drawings (record { chunks = chunks; layers = l.0 })) ∙ ap (λ a. last_layers (drawings ++ drawing_of chunks a)) (sym l.1)
+drawn_last : (chunks decisions : ℕ) (drawings : List Drawing) (after : Option Layers) → (layers : Layers) × (after ≡ Some layers)
+    → after ≡ last_layers (drawings ++ drawing_of chunks decisions after)
+drawn_last chunks decisions drawings after l =
+    l.1 ∙ sym (last_behind drawings (record { chunks = chunks; decisions = decisions; layers = l.0 }))
+    ∙ ap (λ a. last_layers (drawings ++ drawing_of chunks decisions a)) (sym l.1)
 
 kept_last : (drawings : List Drawing) (before after : Option Layers) → after ≡ before → before ≡ last_layers drawings → after ≡ last_layers (drawings ++ [])
 kept_last drawings before after e l = e ∙ l ∙ ap last_layers (sym (append-nil drawings))
 
-last_on : (of : ChunkKind) (chunks : ℕ) (drawings : List Drawing) (before after : Option Layers) → Draws of before after → before ≡ last_layers drawings
-    → after ≡ last_layers (drawings ++ drawing_by of chunks after)
-last_on kind.Info chunks drawings before after d l = drawn_last chunks drawings after d
-last_on kind.Include chunks drawings before after d l = kept_last drawings before after d l
-last_on kind.Dictionary chunks drawings before after d l = kept_last drawings before after d l
-last_on kind.Mask chunks drawings before after d l = drawn_last chunks drawings after d
-last_on kind.Front chunks drawings before after d l = drawn_last chunks drawings after d
-last_on kind.Back chunks drawings before after d l = drawn_last chunks drawings after d
-last_on kind.Refused chunks drawings before after d l = kept_last drawings before after d l
-last_on kind.Passed chunks drawings before after d l = kept_last drawings before after d l
+last_on : (of : ChunkKind) (chunks decisions : ℕ) (drawings : List Drawing) (before after : Option Layers) → Draws of before after
+    → before ≡ last_layers drawings
+    → after ≡ last_layers (drawings ++ drawing_by of chunks decisions after)
+last_on kind.Info chunks decisions drawings before after d l = drawn_last chunks decisions drawings after d
+last_on kind.Include chunks decisions drawings before after d l = kept_last drawings before after d l
+last_on kind.Dictionary chunks decisions drawings before after d l = kept_last drawings before after d l
+last_on kind.Mask chunks decisions drawings before after d l = drawn_last chunks decisions drawings after d
+last_on kind.Front chunks decisions drawings before after d l = drawn_last chunks decisions drawings after d
+last_on kind.Back chunks decisions drawings before after d l = drawn_last chunks decisions drawings after d
+last_on kind.Refused chunks decisions drawings before after d l = kept_last drawings before after d l
+last_on kind.Passed chunks decisions drawings before after d l = kept_last drawings before after d l
 
 some_left : (xs ys : List Drawing) → xs ≢ [] → xs ++ ys ≢ []
 some_left [] ys some e = some refl
@@ -94,21 +95,24 @@ pub record Shown (home : Home) (left : Left) (end : Ending) : Type 0 where
   pub drawn : end ≡ Finished → home.role ≡ Page → left.told.drawings ≢ []
   pub layers : left.decoded.layers ≡ last_layers left.told.drawings
 
-first_drawing : (of : ChunkKind) (table : List Row) (given : Data) (offset chunks : ℕ) (before after : Decoded) (drawings : List Drawing) → of ≡ kind.Info
-    → Brings of table given offset before after → drawings ++ drawing_by of chunks after.layers ≢ []
-first_drawing of table given offset chunks before after drawings k b none =
+first_drawing : (of : ChunkKind) (table : List Row) (given : Data) (offset chunks decisions : ℕ) (before after : Decoded) (drawings : List Drawing)
+    → of ≡ kind.Info → Brings of table given offset before after → drawings ++ drawing_by of chunks decisions after.layers ≢ []
+first_drawing of table given offset chunks decisions before after drawings k b none =
     let is : Draws kind.Info before.layers after.layers = subst (λ x. Draws x before.layers after.layers) k (draws of table given offset before after b) in
-    let drawn : drawings ++ drawing_by kind.Info chunks after.layers ≡ [] = subst (λ x. drawings ++ drawing_by x chunks after.layers ≡ []) k none in
-    some_right drawings (record { chunks = chunks; layers = is.0 }) (subst (λ a. drawings ++ drawing_of chunks a ≡ []) is.1 drawn)
+    let drawn : drawings ++ drawing_by kind.Info chunks decisions after.layers ≡ [] =
+    subst (λ x. drawings ++ drawing_by x chunks decisions after.layers ≡ []) k none in
+    some_right drawings (record { chunks = chunks; decisions = decisions; layers = is.0 })
+    (subst (λ a. drawings ++ drawing_of chunks decisions a ≡ []) is.1 drawn)
 
-some_on : (home : Home) (head : Head) (given : Data) (decoded : Decoded) (left : Left) (chunks : ℕ) → left.chunks ≡ chunks → Shows home (Some head) left
+some_on : (home : Home) (head : Head) (given : Data) (decoded : Decoded) (left : Left) (decisions chunks : ℕ) → left.chunks ≡ chunks
+    → Shows home (Some head) left
     → (came_by (kind_of head.id) home.table given head.offset left.decoded).outcome ≡ Leaves decoded → home.role ≡ Page
-    → left.told.drawings ++ drawing_by (kind_of head.id) (suc left.chunks) decoded.layers ≢ []
-some_on home head given decoded left zero n i e page =
-    first_drawing (kind_of head.id) home.table given head.offset (suc left.chunks) left.decoded decoded left.told.drawings (i.first head refl page n)
+    → left.told.drawings ++ drawing_by (kind_of head.id) (suc left.chunks) decisions decoded.layers ≢ []
+some_on home head given decoded left decisions zero n i e page =
+    first_drawing (kind_of head.id) home.table given head.offset (suc left.chunks) decisions left.decoded decoded left.told.drawings (i.first head refl page n)
     (brings (kind_of head.id) home.table given head.offset left.decoded decoded e)
-some_on home head given decoded left (suc chunks) n i e page =
-    some_left left.told.drawings (drawing_by (kind_of head.id) (suc left.chunks) decoded.layers)
+some_on home head given decoded left decisions (suc chunks) n i e page =
+    some_left left.told.drawings (drawing_by (kind_of head.id) (suc left.chunks) decisions decoded.layers)
     (i.some page (λ none. let wrong : suc chunks ≡ 0 = sym n ∙ none in cc))
 
 begun : (home : Home) (head : Head) (left : Left) → header_fault home.role left head ≡ None → (other : Head) → Some head ≡ Some other → home.role ≡ Page
@@ -125,9 +129,11 @@ rules : (home : Home) (known : Known) → Rules home known any_chunk any_include
 rules home known = record {
   begins = λ head left e i. record { some = i.some; first = begun home head left e; last = i.last };
   chunk = λ head given decoded left f e i. record {
-    some = λ page n. some_on home head given decoded left left.chunks refl i e page;
+    some = λ page n.
+        some_on home head given decoded left (left.told.decisions + (came home.table head given left.decoded).decisions) left.chunks refl i e page;
     first = λ other none. absurd (cc);
-    last = last_on (kind_of head.id) (suc left.chunks) left.told.drawings left.decoded.layers decoded.layers
+    last = last_on (kind_of head.id) (suc left.chunks) (left.told.decisions + (came home.table head given left.decoded).decisions)
+        left.told.drawings left.decoded.layers decoded.layers
         (draws (kind_of head.id) home.table given head.offset left.decoded decoded
         (brings (kind_of head.id) home.table given head.offset left.decoded decoded e)) i.last;
   };
@@ -138,7 +144,7 @@ rules home known = record {
   inherits = λ at found left i. record { some = i.some; first = i.first; last = i.last };
   none_left = λ at left i. record { some = i.some; first = i.first; last = i.last };
   unknown = λ at left file u i. record { drawn = λ e. absurd (cc); layers = i.last };
-  lacks = λ at left file include next n m i. record { drawn = λ e. absurd (cc); layers = i.last };
+  lacks = λ at left file next n i. record { drawn = λ e. absurd (cc); layers = i.last };
   graph_fault = λ at left target fault b v i. record { drawn = λ e. absurd (end_of_refused fault e); layers = i.last };
   file_fault = λ at left file fault target before others below v e i. record { drawn = λ w. absurd (end_of_refused fault w); layers = i.last };
   own_fault = λ at kind offset left i. record { drawn = λ e. absurd (end_of_refused _ e); layers = i.last };
@@ -190,7 +196,7 @@ module _ (home : Home) (known : Known) (own : home.file < length home.names)
     inherits = λ at found left i. tt;
     none_left = λ at left i. tt;
     unknown = λ at left file u i fault e. absurd (cc);
-    lacks = λ at left file include next n m i fault e. absurd (cc);
+    lacks = λ at left file next n i fault e. absurd (cc);
     graph_fault = λ at left target fault b v i. told_below fault (graph_below home.role target fault b v);
     file_fault = λ at left file fault target before others below v e i.
         told_below fault (of_results file fault (listed_below home known order home.role target file before others below v) e);

@@ -29,7 +29,9 @@ begins_stays [] bytes more rest e = let same : bytes ≡ rest = cc in ap (λ b. 
 begins_stays (w ∷ wanted) [] more rest e = cc
 begins_stays (w ∷ wanted) (b ∷ bytes) more rest e = by (eqb w b) e (begins_stays wanted bytes more rest)
   where
-    by : (t : Bool) → cond t (start_of wanted bytes) Differs ≡ Begins rest → (start_of wanted bytes ≡ Begins rest → start_of wanted (bytes ++ more) ≡ Begins (rest ++ more)) → cond t (start_of wanted (bytes ++ more)) Differs ≡ Begins (rest ++ more)
+    by : (t : Bool) → cond t (start_of wanted bytes) Differs ≡ Begins rest
+        → (start_of wanted bytes ≡ Begins rest → start_of wanted (bytes ++ more) ≡ Begins (rest ++ more))
+        → cond t (start_of wanted (bytes ++ more)) Differs ≡ Begins (rest ++ more)
     by true e on = on e
     by false e on = cc
 
@@ -38,7 +40,8 @@ differs_stays [] bytes more e = cc
 differs_stays (w ∷ wanted) [] more e = cc
 differs_stays (w ∷ wanted) (b ∷ bytes) more e = by (eqb w b) e (differs_stays wanted bytes more)
   where
-    by : (t : Bool) → cond t (start_of wanted bytes) Differs ≡ Differs → (start_of wanted bytes ≡ Differs → start_of wanted (bytes ++ more) ≡ Differs) → cond t (start_of wanted (bytes ++ more)) Differs ≡ Differs
+    by : (t : Bool) → cond t (start_of wanted bytes) Differs ≡ Differs → (start_of wanted bytes ≡ Differs → start_of wanted (bytes ++ more) ≡ Differs)
+        → cond t (start_of wanted (bytes ++ more)) Differs ≡ Differs
     by true e on = on e
     by false e on = refl
 
@@ -56,11 +59,13 @@ closed_form_end Open arrived whole tail e = refl
 closed_form_end Whole arrived whole tail e = ap (λ t. ending_of (end_of whole t)) e ∙ sym (ap ending_of e)
 closed_form_end Broken arrived whole tail e = ap (λ t. ending_of (broken_off arrived (end_of whole t))) e ∙ sym (ap ending_of e)
 
-closed_broken : (mark : Mark) (arrived : ℕ) (whole : List Chunk) (tail : Tail) (kind : FaultKind) (offset : ℕ) → tail ≡ grammar.Broken kind offset → is_cut kind ≡ false → ending_of (closed mark arrived whole tail) ≡ ending_of tail
+closed_broken : (mark : Mark) (arrived : ℕ) (whole : List Chunk) (tail : Tail) (kind : FaultKind) (offset : ℕ) → tail ≡ grammar.Broken kind offset
+    → is_cut kind ≡ false → ending_of (closed mark arrived whole tail) ≡ ending_of tail
 closed_broken Open arrived whole tail kind offset e cut = refl
 closed_broken Whole arrived whole tail kind offset e cut = ap (λ t. ending_of (end_of whole t)) e ∙ sym (ap ending_of e)
 closed_broken Broken arrived whole tail kind offset e cut =
-    ap (λ t. ending_of (broken_off arrived (end_of whole t))) e ∙ ap (λ b. ending_of (cond b (grammar.Broken fault.Read arrived) (grammar.Broken kind offset))) cut ∙ sym (ap ending_of e)
+    ap (λ t. ending_of (broken_off arrived (end_of whole t))) e
+    ∙ ap (λ b. ending_of (cond b (grammar.Broken fault.Read arrived) (grammar.Broken kind offset))) cut ∙ sym (ap ending_of e)
 
 -- only a file that is cut short is cut
 not_cut : (kind : FaultKind) → kind ≢ fault.Truncated → is_cut kind ≡ false
@@ -99,30 +104,41 @@ not_cut fault.Truncated never = absurd (never refl)
 not_cut fault.Read never = refl
 
 -- a chunk whose data so far refuse the page
-cut_ended : RecordsGoOn → (rows : List Row) → IsTable rows → (origin : ℕ) (head : Head) (bytes : List ℕ) (done : Done) (kind : FaultKind) (events : List Event) (end : Ending) → (data_came rows false done.layers head.id bytes).fault ≡ Some kind
-    → concluded rows origin (after_events rows (progress (place.Within head) bytes done) (ChunkEnd ∷ events)) end ≡ behind done (stopped kind head.offset (data_came rows false done.layers head.id bytes).decisions)
+cut_ended : RecordsGoOn → (rows : List Row) → IsTable rows
+    → (origin : ℕ) (head : Head) (bytes : List ℕ) (done : Done) (kind : FaultKind) (events : List Event) (end : Ending)
+    → (data_came rows false done.layers head.id bytes).fault ≡ Some kind
+    → concluded rows origin (after_events rows (progress (place.Within head) bytes done) (ChunkEnd ∷ events)) end
+    ≡ behind done (stopped kind head.offset (data_came rows false done.layers head.id bytes).decisions)
 cut_ended law rows table origin head bytes done kind events end f =
     let came = data_came rows false done.layers head.id bytes in
     let all = data_came rows true done.layers head.id bytes in
-    let on : CameOn came all = subst (λ b. CameOn came (data_came rows true done.layers head.id b)) (append-nil bytes) (data_on law rows true done.layers head.id bytes [] table) in
+    let on : CameOn came all =
+    subst (λ b. CameOn came (data_came rows true done.layers head.id b)) (append-nil bytes) (data_on law rows true done.layers head.id bytes [] table) in
     let same : all ≡ came = on.refused kind f in
     ap (λ (c : Came). concluded rows origin (after_events rows (ended_by c.fault head c bytes done) events) end) same
     ∙ ap (λ g. concluded rows origin (after_events rows (ended_by g head came bytes done) events) end) f
     ∙ refused_chunk rows origin kind head.offset bytes done came.decisions events end
 
-cut_now : (rows : List Row) (origin : ℕ) (head : Head) (bytes : List ℕ) (done : Done) (kind : FaultKind) (end : Ending) → (data_came rows false done.layers head.id bytes).fault ≡ Some kind
-    → concluded rows origin (progress (place.Within head) bytes done) end ≡ behind done (stopped kind head.offset (data_came rows false done.layers head.id bytes).decisions)
-cut_now rows origin head bytes done kind end f = let came = data_came rows false done.layers head.id bytes in ap (λ g. behind done (cut_by g head.offset end came.decisions)) f
+cut_now : (rows : List Row) (origin : ℕ) (head : Head) (bytes : List ℕ) (done : Done) (kind : FaultKind) (end : Ending)
+    → (data_came rows false done.layers head.id bytes).fault ≡ Some kind
+    → concluded rows origin (progress (place.Within head) bytes done) end
+    ≡ behind done (stopped kind head.offset (data_came rows false done.layers head.id bytes).decisions)
+cut_now rows origin head bytes done kind end f =
+    let came = data_came rows false done.layers head.id bytes in ap (λ g. behind done (cut_by g head.offset end came.decisions)) f
 
-cut_on : RecordsGoOn → (rows : List Row) → IsTable rows → (origin : ℕ) (head : Head) (bytes : List ℕ) (done : Done) (kind : FaultKind) (events : List Event) (end : Ending) → (data_came rows false done.layers head.id bytes).fault ≡ Some kind
+cut_on : RecordsGoOn → (rows : List Row) → IsTable rows
+    → (origin : ℕ) (head : Head) (bytes : List ℕ) (done : Done) (kind : FaultKind) (events : List Event) (end : Ending)
+    → (data_came rows false done.layers head.id bytes).fault ≡ Some kind
     → AllFit rows (progress (place.Within head) bytes done) events
-    → concluded rows origin (after_events rows (progress (place.Within head) bytes done) events) end ≡ behind done (stopped kind head.offset (data_came rows false done.layers head.id bytes).decisions)
+    → concluded rows origin (after_events rows (progress (place.Within head) bytes done) events) end
+    ≡ behind done (stopped kind head.offset (data_came rows false done.layers head.id bytes).decisions)
 cut_on law rows table origin head bytes done kind [] end f fit = cut_now rows origin head bytes done kind end f
 cut_on law rows table origin head bytes done kind (Begun k n ∷ events) end f fit = cut_on law rows table origin head bytes done kind events end f fit.1
 cut_on law rows table origin head bytes done kind (Header id o n ∷ events) end f fit = absurd (omega (arith, fit.0))
 cut_on law rows table origin head bytes done kind (Data all ∷ events) end f fit =
     let on : CameOn (data_came rows false done.layers head.id bytes) (data_came rows false done.layers head.id all) =
-    subst (λ b. CameOn (data_came rows false done.layers head.id b) (data_came rows false done.layers head.id all)) (sym fit.0) (data_on law rows false done.layers head.id [] all table) in
+    subst (λ b. CameOn (data_came rows false done.layers head.id b) (data_came rows false done.layers head.id all)) (sym fit.0)
+    (data_on law rows false done.layers head.id [] all table) in
     let same = on.refused kind f in
     cut_on law rows table origin head all done kind events end (ap (λ (c : Came). c.fault) same ∙ f) fit.1
     ∙ ap (λ (c : Came). behind done (stopped kind head.offset c.decisions)) same
@@ -135,43 +151,68 @@ IsCutBy rows place.Between bytes done kind = ⊥
 IsCutBy rows (place.Within head) bytes done kind = (data_came rows false done.layers head.id bytes).fault ≡ Some kind
 IsCutBy rows (place.Refused other offset) bytes done kind = ⊥
 
-cut_from : RecordsGoOn → (rows : List Row) → IsTable rows → (origin other : ℕ) (at : Place) (bytes : List ℕ) (done : Done) (kind : FaultKind) (events : List Event) (end last : Ending) → IsCutBy rows at bytes done kind
-    → AllFit rows (progress at bytes done) events → concluded rows origin (after_events rows (progress at bytes done) events) end ≡ concluded rows other (progress at bytes done) last
+cut_from : RecordsGoOn → (rows : List Row) → IsTable rows
+    → (origin other : ℕ) (at : Place) (bytes : List ℕ) (done : Done) (kind : FaultKind) (events : List Event) (end last : Ending)
+    → IsCutBy rows at bytes done kind
+    → AllFit rows (progress at bytes done) events
+    → concluded rows origin (after_events rows (progress at bytes done) events) end ≡ concluded rows other (progress at bytes done) last
 cut_from law rows table origin other place.Before bytes done kind events end last f fit = absurd f
 cut_from law rows table origin other place.Between bytes done kind events end last f fit = absurd f
-cut_from law rows table origin other (place.Within head) bytes done kind events end last f fit = cut_on law rows table origin head bytes done kind events end f fit ∙ sym (cut_now rows other head bytes done kind last f)
+cut_from law rows table origin other (place.Within head) bytes done kind events end last f fit =
+    cut_on law rows table origin head bytes done kind events end f fit ∙ sym (cut_now rows other head bytes done kind last f)
 cut_from law rows table origin other (place.Refused k o) bytes done kind events end last f fit = absurd f
 
 -- with more data too
-cut_more : RecordsGoOn → (rows : List Row) → IsTable rows → (origin other : ℕ) (at : Place) (bytes all more : List ℕ) (done : Done) (kind : FaultKind) (events : List Event) (end last : Ending) → all ≡ bytes ++ more → IsCutBy rows at bytes done kind
-    → AllFit rows (progress at all done) events → concluded rows origin (after_events rows (progress at all done) events) end ≡ concluded rows other (progress at bytes done) last
+cut_more : RecordsGoOn → (rows : List Row) → IsTable rows
+    → (origin other : ℕ) (at : Place) (bytes all more : List ℕ) (done : Done) (kind : FaultKind) (events : List Event) (end last : Ending) → all ≡ bytes ++ more
+    → IsCutBy rows at bytes done kind
+    → AllFit rows (progress at all done) events
+    → concluded rows origin (after_events rows (progress at all done) events) end ≡ concluded rows other (progress at bytes done) last
 cut_more law rows table origin other place.Before bytes all more done kind events end last e f fit = absurd f
 cut_more law rows table origin other place.Between bytes all more done kind events end last e f fit = absurd f
 cut_more law rows table origin other (place.Within head) bytes all more done kind events end last e f fit =
     let on : CameOn (data_came rows false done.layers head.id bytes) (data_came rows false done.layers head.id all) =
-    subst (λ b. CameOn (data_came rows false done.layers head.id bytes) (data_came rows false done.layers head.id b)) (sym e) (data_on law rows false done.layers head.id bytes more table) in
+    subst (λ b. CameOn (data_came rows false done.layers head.id bytes) (data_came rows false done.layers head.id b)) (sym e)
+    (data_on law rows false done.layers head.id bytes more table) in
     let same = on.refused kind f in
     cut_on law rows table origin head all done kind events end (ap (λ (c : Came). c.fault) same ∙ f) fit
     ∙ ap (λ (c : Came). behind done (stopped kind head.offset c.decisions)) same
     ∙ sym (cut_now rows other head bytes done kind last f)
 cut_more law rows table origin other (place.Refused k o) bytes all more done kind events end last e f fit = absurd f
 
-cut_grows : RecordsGoOn → (rows : List Row) → IsTable rows → (origin other : ℕ) (so_far : Progress) (told events : List Event) (kind : FaultKind) (end last : Ending) → GoesOn told events → AllFit rows so_far events
+cut_grows : RecordsGoOn → (rows : List Row) → IsTable rows
+    → (origin other : ℕ) (so_far : Progress) (told events : List Event) (kind : FaultKind) (end last : Ending) → GoesOn told events → AllFit rows so_far events
     → IsCutBy rows (after_events rows so_far told).place (after_events rows so_far told).bytes (after_events rows so_far told).done kind
     → concluded rows origin (after_events rows so_far events) end ≡ concluded rows other (after_events rows so_far told) last
-cut_grows law rows table origin other so_far [] events kind end last g fit f = cut_from law rows table origin other so_far.place so_far.bytes so_far.done kind events end last f fit
+cut_grows law rows table origin other so_far [] events kind end last g fit f =
+    cut_from law rows table origin other so_far.place so_far.bytes so_far.done kind events end last f fit
 cut_grows law rows table origin other so_far (Begun k n ∷ told) [] kind end last g fit f = absurd g
-cut_grows law rows table origin other so_far (Begun k n ∷ told) (e ∷ events) kind end last g fit f = ap (λ x. concluded rows origin (after_events rows (after_event rows so_far x) events) end) (sym g.0) ∙ cut_grows law rows table origin other (after_event rows so_far (Begun k n)) told events kind end last g.1 (same_first rows so_far (Begun k n) e events g.0 fit) f
+cut_grows law rows table origin other so_far (Begun k n ∷ told) (e ∷ events) kind end last g fit f =
+    ap (λ x. concluded rows origin (after_events rows (after_event rows so_far x) events) end) (sym g.0)
+    ∙ cut_grows law rows table origin other (after_event rows so_far (Begun k n)) told events kind end last g.1
+    (same_first rows so_far (Begun k n) e events g.0 fit) f
 cut_grows law rows table origin other so_far (Header id o n ∷ told) [] kind end last g fit f = absurd g
-cut_grows law rows table origin other so_far (Header id o n ∷ told) (e ∷ events) kind end last g fit f = ap (λ x. concluded rows origin (after_events rows (after_event rows so_far x) events) end) (sym g.0) ∙ cut_grows law rows table origin other (after_event rows so_far (Header id o n)) told events kind end last g.1 (same_first rows so_far (Header id o n) e events g.0 fit) f
+cut_grows law rows table origin other so_far (Header id o n ∷ told) (e ∷ events) kind end last g fit f =
+    ap (λ x. concluded rows origin (after_events rows (after_event rows so_far x) events) end) (sym g.0)
+    ∙ cut_grows law rows table origin other (after_event rows so_far (Header id o n)) told events kind end last g.1
+    (same_first rows so_far (Header id o n) e events g.0 fit) f
 cut_grows law rows table origin other so_far (ChunkEnd ∷ told) [] kind end last g fit f = absurd g
-cut_grows law rows table origin other so_far (ChunkEnd ∷ told) (e ∷ events) kind end last g fit f = ap (λ x. concluded rows origin (after_events rows (after_event rows so_far x) events) end) (sym g.0) ∙ cut_grows law rows table origin other (after_event rows so_far ChunkEnd) told events kind end last g.1 (same_first rows so_far ChunkEnd e events g.0 fit) f
+cut_grows law rows table origin other so_far (ChunkEnd ∷ told) (e ∷ events) kind end last g fit f =
+    ap (λ x. concluded rows origin (after_events rows (after_event rows so_far x) events) end) (sym g.0)
+    ∙ cut_grows law rows table origin other (after_event rows so_far ChunkEnd) told events kind end last g.1 (same_first rows so_far ChunkEnd e events g.0 fit)
+    f
 cut_grows law rows table origin other so_far (Data bytes ∷ next ∷ told) [] kind end last g fit f = absurd g
-cut_grows law rows table origin other so_far (Data bytes ∷ next ∷ told) (e ∷ events) kind end last g fit f = ap (λ x. concluded rows origin (after_events rows (after_event rows so_far x) events) end) (sym g.0) ∙ cut_grows law rows table origin other (after_event rows so_far (Data bytes)) (next ∷ told) events kind end last g.1 (same_first rows so_far (Data bytes) e events g.0 fit) f
+cut_grows law rows table origin other so_far (Data bytes ∷ next ∷ told) (e ∷ events) kind end last g fit f =
+    ap (λ x. concluded rows origin (after_events rows (after_event rows so_far x) events) end) (sym g.0)
+    ∙ cut_grows law rows table origin other (after_event rows so_far (Data bytes)) (next ∷ told) events kind end last g.1
+    (same_first rows so_far (Data bytes) e events g.0 fit) f
 cut_grows law rows table origin other so_far (Data bytes ∷ []) [] kind end last g fit f = absurd g
-cut_grows law rows table origin other so_far (Data bytes ∷ []) (Data all ∷ events) kind end last g fit f = cut_more law rows table origin other so_far.place bytes all g.0 so_far.done kind events end last g.1 f fit.1
-cut_grows law rows table origin other so_far (Data bytes ∷ []) (Begun k n ∷ events) kind end last g fit f = let same : Data bytes ≡ Begun k n = g.0 in absurd (cc)
-cut_grows law rows table origin other so_far (Data bytes ∷ []) (Header id o n ∷ events) kind end last g fit f = let same : Data bytes ≡ Header id o n = g.0 in absurd (cc)
+cut_grows law rows table origin other so_far (Data bytes ∷ []) (Data all ∷ events) kind end last g fit f =
+    cut_more law rows table origin other so_far.place bytes all g.0 so_far.done kind events end last g.1 f fit.1
+cut_grows law rows table origin other so_far (Data bytes ∷ []) (Begun k n ∷ events) kind end last g fit f =
+    let same : Data bytes ≡ Begun k n = g.0 in absurd (cc)
+cut_grows law rows table origin other so_far (Data bytes ∷ []) (Header id o n ∷ events) kind end last g fit f =
+    let same : Data bytes ≡ Header id o n = g.0 in absurd (cc)
 cut_grows law rows table origin other so_far (Data bytes ∷ []) (ChunkEnd ∷ events) kind end last g fit f = let same : Data bytes ≡ ChunkEnd = g.0 in absurd (cc)
 
 -- where bytes are needed and none says what is wrong, the page isn't over
@@ -184,7 +225,8 @@ data IsOver (rows : List Row) (at : Place) (bytes : List ℕ) (done : Done) : Ty
   ByRefusal : is_refused at ≡ true → IsOver rows at bytes done
   ByCut : (kind : FaultKind) → IsCutBy rows at bytes done kind → IsOver rows at bytes done
 
-over_by : (rows : List Row) (origin : ℕ) (at : Place) (bytes : List ℕ) (done : Done) → (concluded rows origin (progress at bytes done) NeedBytes).end ≢ NeedBytes → IsOver rows at bytes done
+over_by : (rows : List Row) (origin : ℕ) (at : Place) (bytes : List ℕ) (done : Done)
+    → (concluded rows origin (progress at bytes done) NeedBytes).end ≢ NeedBytes → IsOver rows at bytes done
 over_by rows origin place.Before bytes done settled = absurd (settled refl)
 over_by rows origin place.Between bytes done settled = absurd (settled (at_end_needs done.chunks origin))
 over_by rows origin (place.Within head) bytes done settled = by (data_came rows false done.layers head.id bytes).fault refl
@@ -196,11 +238,14 @@ over_by rows origin (place.Refused kind offset) bytes done settled = ByRefusal r
 
 -- the reading of bytes that ended or broke is the reading of all that go on from them
 settled_grows : (rows : List Row) (mark : Mark) (bytes more : List ℕ) → chunks_of (bytes ++ more) ≡ chunks_of bytes → (chunks_of bytes).tail ≢ InHead
-    → ending_of (closed mark (length (bytes ++ more)) (chunks_of bytes).whole (chunks_of bytes).tail) ≡ ending_of (chunks_of bytes).tail → reading rows mark (bytes ++ more) ≡ reading rows Open bytes
+    → ending_of (closed mark (length (bytes ++ more)) (chunks_of bytes).whole (chunks_of bytes).tail) ≡ ending_of (chunks_of bytes).tail
+    → reading rows mark (bytes ++ more) ≡ reading rows Open bytes
 settled_grows rows mark bytes more same head end =
     let chunks = chunks_of bytes in
-    ap (λ (c : Chunks). read_form c.form rows (chunks_place (bytes ++ more)) c.whole c.tail (ending_of (closed mark (length (bytes ++ more)) c.whole c.tail))) same
-    ∙ ap (λ n. read_form chunks.form rows n chunks.whole chunks.tail (ending_of (closed mark (length (bytes ++ more)) chunks.whole chunks.tail))) (place_stays bytes more head)
+    ap (λ (c : Chunks). read_form c.form rows (chunks_place (bytes ++ more)) c.whole c.tail (ending_of (closed mark (length (bytes ++ more)) c.whole c.tail)))
+    same
+    ∙ ap (λ n. read_form chunks.form rows n chunks.whole chunks.tail (ending_of (closed mark (length (bytes ++ more)) chunks.whole chunks.tail)))
+    (place_stays bytes more head)
     ∙ ap (λ e. read_form chunks.form rows (chunks_place bytes) chunks.whole chunks.tail e) end
 
 -- what is known of bytes and of those that go on from them
@@ -227,39 +272,52 @@ notices_of rows mark bytes =
     ∙ append-nil so_far.done.notices
 
 -- no drawing is taken back
-pub notices_grow : (rows : List Row) (mark : Mark) (bytes more : List ℕ) → Grown bytes more → (later : List Notice) × ((reading rows mark (bytes ++ more)).notices ≡ (reading rows Open bytes).notices ++ later)
+pub notices_grow : (rows : List Row) (mark : Mark) (bytes more : List ℕ) → Grown bytes more
+    → (later : List Notice) × ((reading rows mark (bytes ++ more)).notices ≡ (reading rows Open bytes).notices ++ later)
 notices_grow rows mark bytes more g =
     let longer = notices_longer rows at_start (events_of (chunks_of bytes)) (events_of (chunks_of (bytes ++ more))) g.events in
     (longer.0, notices_of rows mark (bytes ++ more) ∙ longer.1 ∙ ap (λ n. n ++ longer.0) (sym (notices_of rows Open bytes)))
 
 decisions_of : (rows : List Row) (mark : Mark) (bytes : List ℕ) → (reading rows mark bytes).decisions ≡ total rows (so_far_of rows bytes)
 decisions_of rows mark bytes =
-    ap (λ (r : Reading). r.decisions) (reading_by_events rows mark bytes) ∙ reading_total rows (chunks_place bytes) (so_far_of rows bytes) (ending_of (file_end mark bytes))
+    ap (λ (r : Reading). r.decisions) (reading_by_events rows mark bytes)
+    ∙ reading_total rows (chunks_place bytes) (so_far_of rows bytes) (ending_of (file_end mark bytes))
 
 -- no decision either
-pub decisions_grow : RecordsGoOn → (rows : List Row) → IsTable rows → (mark : Mark) (bytes more : List ℕ) → Grown bytes more → (reading rows Open bytes).decisions ≤ (reading rows mark (bytes ++ more)).decisions
+pub decisions_grow : RecordsGoOn → (rows : List Row) → IsTable rows → (mark : Mark) (bytes more : List ℕ) → Grown bytes more
+    → (reading rows Open bytes).decisions ≤ (reading rows mark (bytes ++ more)).decisions
 decisions_grow law rows table mark bytes more g =
-    let grown = total_grows law rows table at_start (events_of (chunks_of bytes)) (events_of (chunks_of (bytes ++ more))) g.events (fits_all rows bytes more g) in
+    let grown =
+    total_grows law rows table at_start (events_of (chunks_of bytes)) (events_of (chunks_of (bytes ++ more))) g.events (fits_all rows bytes more g) in
     let now = decisions_of rows Open bytes in
     let later = decisions_of rows mark (bytes ++ more) in
     omega (arith, grown, now, later)
 
 -- an end that isn't want of bytes stays
-over_grows : RecordsGoOn → (rows : List Row) → IsTable rows → (bytes more : List ℕ) (end last : Ending) → Grown bytes more → IsOver rows (so_far_of rows bytes).place (so_far_of rows bytes).bytes (so_far_of rows bytes).done
+over_grows : RecordsGoOn → (rows : List Row) → IsTable rows → (bytes more : List ℕ) (end last : Ending) → Grown bytes more
+    → IsOver rows (so_far_of rows bytes).place (so_far_of rows bytes).bytes (so_far_of rows bytes).done
     → concluded rows (chunks_place (bytes ++ more)) (so_far_of rows (bytes ++ more)) end ≡ concluded rows (chunks_place bytes) (so_far_of rows bytes) last
-over_grows law rows table bytes more end last g (ByRefusal r) = refused_by rows (chunks_place (bytes ++ more)) (chunks_place bytes) at_start (events_of (chunks_of bytes)) (events_of (chunks_of (bytes ++ more))) end last g.events r
-over_grows law rows table bytes more end last g (ByCut kind f) = cut_grows law rows table (chunks_place (bytes ++ more)) (chunks_place bytes) at_start (events_of (chunks_of bytes)) (events_of (chunks_of (bytes ++ more))) kind end last g.events (fits_all rows bytes more g) f
+over_grows law rows table bytes more end last g (ByRefusal r) =
+    refused_by rows (chunks_place (bytes ++ more)) (chunks_place bytes) at_start (events_of (chunks_of bytes)) (events_of (chunks_of (bytes ++ more))) end last
+    g.events r
+over_grows law rows table bytes more end last g (ByCut kind f) =
+    cut_grows law rows table (chunks_place (bytes ++ more)) (chunks_place bytes) at_start (events_of (chunks_of bytes)) (events_of (chunks_of (bytes ++ more)))
+    kind end last g.events (fits_all rows bytes more g) f
 
-open_grows : RecordsGoOn → (rows : List Row) → IsTable rows → (mark : Mark) (bytes more : List ℕ) → Grown bytes more → (reading rows Open bytes).end ≢ NeedBytes → ending_of (chunks_of bytes).tail ≡ NeedBytes → reading rows mark (bytes ++ more) ≡ reading rows Open bytes
+open_grows : RecordsGoOn → (rows : List Row) → IsTable rows → (mark : Mark) (bytes more : List ℕ) → Grown bytes more → (reading rows Open bytes).end ≢ NeedBytes
+    → ending_of (chunks_of bytes).tail ≡ NeedBytes → reading rows mark (bytes ++ more) ≡ reading rows Open bytes
 open_grows law rows table mark bytes more g settled needs =
     let so_far = so_far_of rows bytes in
-    let now : reading rows Open bytes ≡ concluded rows (chunks_place bytes) so_far NeedBytes = reading_by_events rows Open bytes ∙ ap (concluded rows (chunks_place bytes) so_far) needs in
+    let now : reading rows Open bytes ≡ concluded rows (chunks_place bytes) so_far NeedBytes =
+    reading_by_events rows Open bytes ∙ ap (concluded rows (chunks_place bytes) so_far) needs in
     let over = over_by rows (chunks_place bytes) so_far.place so_far.bytes so_far.done (λ h. settled (ap (λ (r : Reading). r.end) now ∙ h)) in
     reading_by_events rows mark (bytes ++ more)
-    ∙ over_grows law rows table bytes more (ending_of (closed mark (length (bytes ++ more)) (chunks_of (bytes ++ more)).whole (chunks_of (bytes ++ more)).tail)) NeedBytes g over
+    ∙ over_grows law rows table bytes more (ending_of (closed mark (length (bytes ++ more)) (chunks_of (bytes ++ more)).whole (chunks_of (bytes ++ more)).tail))
+    NeedBytes g over
     ∙ sym now
 
-pub end_stays : RecordsGoOn → (rows : List Row) → IsTable rows → (mark : Mark) (bytes more : List ℕ) → Grown bytes more → (reading rows Open bytes).end ≢ NeedBytes → reading rows mark (bytes ++ more) ≡ reading rows Open bytes
+pub end_stays : RecordsGoOn → (rows : List Row) → IsTable rows → (mark : Mark) (bytes more : List ℕ) → Grown bytes more
+    → (reading rows Open bytes).end ≢ NeedBytes → reading rows mark (bytes ++ more) ≡ reading rows Open bytes
 end_stays law rows table mark bytes more g settled = by (chunks_of bytes).tail refl
   where
     by : (tail : Tail) → (chunks_of bytes).tail ≡ tail → reading rows mark (bytes ++ more) ≡ reading rows Open bytes
@@ -267,7 +325,10 @@ end_stays law rows table mark bytes more g settled = by (chunks_of bytes).tail r
     by (InHeader offset got) e = open_grows law rows table mark bytes more g settled (ap ending_of e)
     by (InData chunk) e = open_grows law rows table mark bytes more g settled (ap ending_of e)
     by (InPad offset is_last) e = open_grows law rows table mark bytes more g settled (ap ending_of e)
-    by FormEnd e = settled_grows rows mark bytes more (g.ended e) (λ h. let both = sym e ∙ h in cc) (closed_form_end mark (length (bytes ++ more)) (chunks_of bytes).whole (chunks_of bytes).tail e)
+    by FormEnd e =
+        settled_grows rows mark bytes more (g.ended e) (λ h. let both = sym e ∙ h in cc)
+        (closed_form_end mark (length (bytes ++ more)) (chunks_of bytes).whole (chunks_of bytes).tail e)
     by (grammar.Broken kind offset) e =
         settled_grows rows mark bytes more (g.broken kind offset e) (λ h. let both = sym e ∙ h in cc)
-        (closed_broken mark (length (bytes ++ more)) (chunks_of bytes).whole (chunks_of bytes).tail kind offset e (not_cut kind (λ h. g.uncut offset (e ∙ ap (λ k. grammar.Broken k offset) h))))
+        (closed_broken mark (length (bytes ++ more)) (chunks_of bytes).whole (chunks_of bytes).tail kind offset e
+        (not_cut kind (λ h. g.uncut offset (e ∙ ap (λ k. grammar.Broken k offset) h))))

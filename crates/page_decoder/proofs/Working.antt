@@ -2,12 +2,13 @@
 use Rattle.std.proofs.Common.{◌≡◌, ◌≢◌, ◌<◌, ◌≤◌, ℕ, zero, suc, Bool, true, false, cond, ◌||◌, eqb, Option, Some, None, is_some, ◌⊎◌, inl, inr, List, [], ◌∷◌, ◌++◌, length, refl, sym, ap, ◌∙◌, subst, arith}
 use Rattle.std.specs.Prelude.{slice_get, sum_by}
 use Rattle.std.specs.List.{list_any}
-use Rattle.std.proofs.lemmas.Bool.{true≢false, eq-eqb}
+use Rattle.std.proofs.lemmas.Bool.{true≢false}
 use Rattle.std.proofs.lemmas.List.Sums.{sum_by-cons}
 use Rattle.std.proofs.lemmas.Option.{slice_get_within}
 use Rattle.djvu_base.specs.Library.{Mark, Open, Whole, File, Library}
 use Rattle.djvu_base.specs.Library as library
 use Rattle.zp_table.specs.declared.rows.Row.{Row}
+use Rattle.layer_compose.specs.declared.layers.Layers.{Layers}
 use Rattle.include_graph.specs.declared.outline.Outline.{Outline}
 use Rattle.include_graph.specs.declared.verdicts.Verdict.{Verdict}
 use Rattle.include_graph.specs.declared.verdicts.Verdict.TheVariants as verdict
@@ -15,28 +16,17 @@ use Rattle.include_graph.specs.Outlines.{outline_of}
 use Rattle.include_graph.specs.Verdicts.{Graph, is_among, at_outline, visit, verdict_by, verdict_of}
 use Rattle.include_graph.specs.Graphs.{KnownOn, VerdictOn, same_verdict, was_unknown}
 use Rattle.page_decoder.specs.Results.{Result}
-use Rattle.page_decoder.specs.Given.{Page, Within}
-use Rattle.page_decoder.specs.PageRead.{NeedFile}
+use Rattle.page_decoder.specs.Given.{Page, Given, Within}
+use Rattle.page_decoder.specs.PageRead.{Drawing, last_layers, Ending, Finished, Refused, NeedBytes, NeedOutline, NeedFile, Include}
 use Rattle.page_decoder.specs.Read.{FileDone, read}
-use Rattle.page_decoder.specs.Libraries.{names_in, outline_in_file, outlines_in, graph_of, res_of, result_where, results_in, run_given, LibraryGoesOn}
-use Rattle.page_decoder.specs.Needs.{IsNext, Because}
-use Rattle.page_decoder.proofs.Ruling.{or_cases}
+use Rattle.page_decoder.specs.Libraries.{names_in, outline_in_file, outlines_in, graph_of, res_of, result_where, results_in, run_given, run_end, Unknown, drawn, shown_by, page_in, LibraryGoesOn}
+use Rattle.page_decoder.specs.Needs.{IsOver, IsNext, Because}
+use Rattle.page_decoder.proofs.Ruling.{or_cases, or_right, among_behind}
 use Rattle.page_decoder.proofs.GoingOn.{OutlinesStay, names_stay, outlines_on, within_library, length_names}
 
 abbrev pub Listed : Type 0
 Listed = (graph : Graph) (target file : ℕ) (files : List ℕ) → target < length graph.names → verdict_of graph target ≡ verdict.Files files
     → is_among file files ≡ true → (list : List ℕ) × (verdict_of graph file ≡ verdict.Files list)
-
-or_right : (a b : Bool) → b ≡ true → (a || b) ≡ true
-or_right true b e = refl
-or_right false b e = e
-
-eqb_same : (n : ℕ) → eqb n n ≡ true
-eqb_same n = eq-eqb n n refl
-
-among_behind : (file : ℕ) (before others : List ℕ) → is_among file (before ++ file ∷ others) ≡ true
-among_behind file [] others = ap (λ b. b || is_among file others) (eqb_same file)
-among_behind file (first ∷ before) others = or_right (eqb file first) (is_among file (before ++ file ∷ others)) (among_behind file before others)
 
 -- a list is the verdict on a file that is there
 unknown_by : (graph : Graph) (depth file : ℕ) → graph.outlines file ≡ None → verdict_by (visit graph depth [] file []) ≡ verdict.NeedOutline file
@@ -65,21 +55,65 @@ listed_result table library file it (verdict.Refused fault) v e = let wrong : No
 
 -- the reading of a page lacks the result of no file
 pub never_lacks : Listed → (table : List Row) (library : Library) (page file : ℕ)
-    → IsNext (run_given table library page).home (run_given table library page).known file → ⊥
-never_lacks listed table library page file next =
-    let list = listed (graph_of library) next.target file (next.before ++ file ∷ next.others) next.below next.list
+    → (pending : List Include) → IsNext (run_given table library page).home (run_given table library page).known pending file → ⊥
+never_lacks listed table library page file pending next =
+    let list = listed (graph_of library) next.target file (next.before ++ file ∷ next.others) next.of_include.below next.list
     (among_behind file next.before next.others) in
     let wrong : None ≡ Some (res_of table library file).result = sym next.lacking ∙ result_there table library file list.0 list.1 in cc
 
 -- so what it reaches has a list
 pub reached_listed : Listed → (table : List Row) (library : Library) (page file : ℕ)
     → ((it : Result) × (results_in table library file ≡ Some it)) ⊎ ((read (run_given table library page)).end ≡ NeedFile file)
-    → Because (run_given table library page).home (run_given table library page).known (read (run_given table library page)).end
+    → Because (run_given table library page).home (run_given table library page).known (read (run_given table library page)).left.decoded.pending
+    (read (run_given table library page)).end
     → (files : List ℕ) × (verdict_of (graph_of library) file ≡ verdict.Files files)
 reached_listed listed table library page file (inl it) because = listed_result table library file it.0 (verdict_of (graph_of library) file) refl it.1
 reached_listed listed table library page file (inr e) because =
-    absurd (never_lacks listed table library page file
-    (subst (λ end. Because (run_given table library page).home (run_given table library page).known end) e because))
+    let pending = (read (run_given table library page)).left.decoded.pending in
+    absurd (never_lacks listed table library page file pending
+    (subst (λ end. Because (run_given table library page).home (run_given table library page).known pending end) e because))
+
+-- a page's reading is over where the reading of its file is
+
+pub over_before : (end : Ending) → IsOver (run_end end) → IsOver end
+over_before Finished over = tt
+over_before (Refused fault) over = tt
+over_before NeedBytes over = absurd over
+over_before (NeedOutline file) over = absurd over
+over_before (NeedFile file) over = absurd over
+
+finished_before : (end : Ending) → run_end end ≡ Finished → end ≡ Finished
+finished_before Finished e = refl
+finished_before (Refused fault) e = absurd (cc)
+finished_before NeedBytes e = absurd (cc)
+finished_before (NeedOutline file) e = absurd (cc)
+finished_before (NeedFile file) e = absurd (cc)
+
+last_there : (drawings : List Drawing) → drawings ≢ [] → last_layers drawings ≢ None
+last_there [] some e = some refl
+last_there (drawing ∷ []) some e = cc
+last_there (drawing ∷ next ∷ drawings) some e = last_there (next ∷ drawings) (λ none. cc) e
+
+drawn_known : (layers : Option Layers) → layers ≢ None → drawn layers ≢ Unknown
+drawn_known None some e = some refl
+drawn_known (Some layers) some e = cc
+
+shown_known : (end : Ending) (layers : Option Layers) → IsOver end → (end ≡ Finished → layers ≢ None) → shown_by end layers ≢ Unknown
+shown_known Finished layers over some e = drawn_known layers (some refl) e
+shown_known (Refused fault) layers over some e = cc
+shown_known NeedBytes layers over some e = absurd over
+shown_known (NeedOutline file) layers over some e = absurd over
+shown_known (NeedFile file) layers over some e = absurd over
+
+-- what a page is, is known where its reading is over
+pub page_known : (table : List Row) (library : Library) (page : ℕ)
+    → ((given : Given) → given.home.role ≡ Page → (read given).end ≡ Finished → (read given).left.told.drawings ≢ [])
+    → ((given : Given) → (read given).left.decoded.layers ≡ last_layers (read given).left.told.drawings)
+    → IsOver (run_end (read (run_given table library page)).end) → page_in table library page ≢ Unknown
+page_known table library page drawn layers over =
+    let given = run_given table library page in
+    shown_known (run_end (read given).end) (read given).left.decoded.layers over
+    (λ e none. last_there (read given).left.told.drawings (drawn given refl (finished_before (read given).end e)) (sym (layers given) ∙ none))
 
 -- ---- a library whose files are all closed
 

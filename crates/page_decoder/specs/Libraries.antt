@@ -1,5 +1,5 @@
 -- Pages over a library: what included files give there, the reading of a page, its drawings, and the work of pages.
-use Rattle.std.specs.Prelude.{ℕ, zero, suc, ◌≡◌, ◌+◌, ◌==◌, Bool, List, [], ◌∷◌, length, map, sum_by, Option, Some, None, ⊤, ◌⊎◌, slice_get, if◌then◌else◌}
+use Rattle.std.specs.Prelude.{ℕ, zero, suc, ◌≡◌, ◌+◌, ◌==◌, Bool, List, [], ◌∷◌, length, map, sum_by, Option, Some, None, ⊤, ◌⊎◌, slice_get, option_map, if◌then◌else◌}
 use Rattle.std.specs.List.{list_any, range_with_len}
 use Rattle.djvu_base.specs.Library.{Mark, Open, File, Library}
 use Rattle.djvu_base.specs.Picture.{Picture}
@@ -14,7 +14,7 @@ use Rattle.include_graph.specs.Outlines.{outline_of}
 use Rattle.include_graph.specs.Verdicts.{Graph, is_among, verdict_of}
 use Rattle.page_decoder.specs.Results.{Result, Nothing}
 use Rattle.page_decoder.specs.Given.{Role, Page, Included, Given, Front}
-use Rattle.page_decoder.specs.PageRead.{Drawing, Ending, Finished, Refused, NeedBytes, NeedOutline, NeedFile, PageRead}
+use Rattle.page_decoder.specs.PageRead.{Drawing, last_layers, drawings_within, Ending, Finished, Refused, NeedBytes, NeedOutline, NeedFile, PageRead}
 use Rattle.page_decoder.specs.Read.{read, FileDone, decode}
 
 -- ---- what is given in a library
@@ -90,13 +90,14 @@ run_end (NeedFile file) = NeedFile file
 abbrev pub run : List Row → Library → ℕ → PageRead
 run table library page = record { left = (read (run_given table library page)).left; end = run_end (read (run_given table library page)).end }
 
+-- the drawing that is told behind so many chunks
 abbrev pub drawing_at : ℕ → List Drawing → Option Picture
 drawing_at chunks [] = None
 drawing_at chunks (drawing ∷ drawings) = if drawing.chunks == chunks then Some (raster_of drawing.layers) else drawing_at chunks drawings
 
--- the drawing of a page that its reading tells behind so many chunks
+-- the drawing of the layers that the first so many chunks of a page leave: its last drawing behind no more of them
 abbrev pub draw : List Row → Library → ℕ → ℕ → Option Picture
-draw table library page chunks = drawing_at chunks (run table library page).left.told.drawings
+draw table library page chunks = option_map raster_of (last_layers (drawings_within chunks (run table library page).left.told.drawings))
 
 -- what a page is, as far as that is known
 pub data Shown : Type 0 where

@@ -11,10 +11,9 @@ use Rattle.include_graph.specs.declared.outline.OutlineItem.TheVariants as item
 use Rattle.include_graph.specs.Outlines.{outline_of}
 use Rattle.include_graph.specs.Verdicts.{number_of, is_among, verdict_of}
 use Rattle.include_graph.specs.Graphs.{Includes}
-use Rattle.layer_compose.specs.declared.layers.Layers.{Layers}
 use Rattle.page_decoder.specs.Results.{Result, Refused as RefusedFile}
 use Rattle.page_decoder.specs.Given.{Page, Included, Home, Known, Given, Front}
-use Rattle.page_decoder.specs.PageRead.{Drawing, Ending, Finished, Refused, NeedBytes, NeedOutline, NeedFile, Told}
+use Rattle.page_decoder.specs.PageRead.{Ending, Finished, Refused, NeedBytes, NeedOutline, NeedFile, Include, Told}
 use Rattle.page_decoder.specs.Read.{listing, read, decode}
 use Rattle.page_decoder.specs.Libraries.{graph_of, given_in}
 
@@ -46,39 +45,40 @@ pub record IsGood (results : ℕ → Option Result) (file : ℕ) : Type 0 where
   pub known : results file ≡ Some result
   pub good : (fault : Fault) → result ≢ RefusedFile fault
 
--- what a file gives isn't known. It stands in the list of an include's target, behind files that aren't refused
-pub record IsNext (home : Home) (known : Known) (file : ℕ) : Type 0 where
+-- a file is the target of an include that is pending
+pub record IsTarget (names : List (List ℕ)) (pending : List Include) (target : ℕ) : Type 0 where
+  pub include : Include
+  pub is_pending : Contains pending include
+  pub number : number_of include.name names ≡ Some target
+  pub below : target < length names
+
+-- what a file gives isn't known. It stands in the list of the target of an include that is pending, behind files that aren't refused
+pub record IsNext (home : Home) (known : Known) (pending : List Include) (file : ℕ) : Type 0 where
   pub target : ℕ
-  pub below : target < length home.names
+  pub of_include : IsTarget home.names pending target
   pub before : List ℕ
   pub others : List ℕ
   pub list : listing home.role home known target ≡ verdict.Files (before ++ file ∷ others)
   pub good : (other : ℕ) → is_among other before ≡ true → IsGood known.results other
   pub lacking : known.results file ≡ None
 
--- the outline of a file isn't known, at which the verdict on an include's target stands
-pub record IsUnknown (home : Home) (known : Known) (file : ℕ) : Type 0 where
+-- the outline of a file isn't known, at which the verdict on the target of an include stands that is pending
+pub record IsUnknown (home : Home) (known : Known) (pending : List Include) (file : ℕ) : Type 0 where
   pub target : ℕ
-  pub below : target < length home.names
+  pub of_include : IsTarget home.names pending target
   pub list : listing home.role home known target ≡ verdict.NeedOutline file
 
 -- each number is a byte
 abbrev pub are_bytes : List ℕ → Bool
 are_bytes bytes = list_all (λ byte. nat_lt byte 256) bytes
 
--- the layers of the last drawing
-abbrev pub last_layers : List Drawing → Option Layers
-last_layers [] = None
-last_layers (drawing ∷ []) = Some drawing.layers
-last_layers (drawing ∷ next ∷ drawings) = last_layers (next ∷ drawings)
-
--- why a reading needs something
-abbrev pub Because : Home → Known → Ending → Type 0
-Because home known Finished = ⊤
-Because home known (Refused fault) = ⊤
-Because home known NeedBytes = ⊤
-Because home known (NeedOutline file) = IsUnknown home known file
-Because home known (NeedFile file) = IsNext home known file
+-- why a reading needs something, with these includes pending
+abbrev pub Because : Home → Known → List Include → Ending → Type 0
+Because home known pending Finished = ⊤
+Because home known pending (Refused fault) = ⊤
+Because home known pending NeedBytes = ⊤
+Because home known pending (NeedOutline file) = IsUnknown home known pending file
+Because home known pending (NeedFile file) = IsNext home known pending file
 
 -- ---- included files
 

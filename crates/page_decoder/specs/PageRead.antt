@@ -1,5 +1,6 @@
 -- What the reading of a file comes to.
-use Rattle.std.specs.Prelude.{ℕ, List, [], map, Option, Some, None}
+use Rattle.std.specs.Prelude.{ℕ, ◌<◌, ◌≤◌, nat_le, List, [], ◌∷◌, map, Option, Some, None, ⊤}
+use Rattle.std.specs.List.{filter}
 use Rattle.djvu_base.specs.Announced.{Announced}
 use Rattle.djvu_base.specs.declared.faults.Fault.{Fault}
 use Rattle.bit_plane.specs.Pixels.{Pixels}
@@ -7,14 +8,32 @@ use Rattle.layer_compose.specs.declared.layers.Layers.{Layers}
 use Rattle.layer_compose.specs.Drawing.{sum_of, preview_of}
 use Rattle.iw44_image.specs.Layer.{Data}
 
--- a drawing: after how many complete chunks of the page, and of which layers
+-- a drawing: after how many complete chunks of the page, how many decisions these had, and of which layers
 pub record Drawing : Type 0 where
   pub chunks : ℕ
+  pub decisions : ℕ
   pub layers : Layers
 
 -- what is told of a drawing
 abbrev pub notice_of : Drawing → Announced
 notice_of drawing = record { chunks = drawing.chunks; sum = sum_of drawing.layers; preview = preview_of drawing.layers }
+
+-- the layers of the last drawing
+abbrev pub last_layers : List Drawing → Option Layers
+last_layers [] = None
+last_layers (drawing ∷ []) = Some drawing.layers
+last_layers (drawing ∷ next ∷ drawings) = last_layers (next ∷ drawings)
+
+-- the drawings behind at most so many chunks
+abbrev pub drawings_within : ℕ → List Drawing → List Drawing
+drawings_within chunks drawings = filter (λ drawing. nat_le drawing.chunks chunks) drawings
+
+-- each drawing stands behind more chunks than the one before it, and behind no fewer decisions; the first behind more chunks than these,
+-- and behind no fewer decisions than these
+abbrev pub AscendFrom : ℕ → ℕ → List Drawing → Type 0
+AscendFrom chunks decisions [] = ⊤
+AscendFrom chunks decisions (drawing ∷ drawings) =
+    (chunks < drawing.chunks) × (decisions ≤ drawing.decisions) × AscendFrom drawing.chunks drawing.decisions drawings
 
 -- why a reading ends
 pub data Ending : Type 0 where

@@ -112,17 +112,17 @@ abbrev pub at_header : Home → Known → Head → Option FaultKind → Left →
 at_header home known head (Some kind) left = ends left (refused_at home kind head.offset)
 at_header home known head None left = resolved_before (kind_of head.id) home known left
 
-abbrev pub drawing_of : ℕ → Option Layers → List Drawing
-drawing_of chunks None = []
-drawing_of chunks (Some layers) = record { chunks = chunks; layers = layers } ∷ []
+abbrev pub drawing_of : ℕ → ℕ → Option Layers → List Drawing
+drawing_of chunks decisions None = []
+drawing_of chunks decisions (Some layers) = record { chunks = chunks; decisions = decisions; layers = layers } ∷ []
 
--- the drawing that a chunk of this kind brings, which is the last of so many, and leaves these layers
-abbrev pub drawing_by : ChunkKind → ℕ → Option Layers → List Drawing
-drawing_by kind.Info chunks layers = drawing_of chunks layers
-drawing_by kind.Mask chunks layers = drawing_of chunks layers
-drawing_by kind.Front chunks layers = drawing_of chunks layers
-drawing_by kind.Back chunks layers = drawing_of chunks layers
-drawing_by other chunks layers = []
+-- the drawing that a chunk of this kind brings, which is the last of so many with so many decisions, and leaves these layers
+abbrev pub drawing_by : ChunkKind → ℕ → ℕ → Option Layers → List Drawing
+drawing_by kind.Info chunks decisions layers = drawing_of chunks decisions layers
+drawing_by kind.Mask chunks decisions layers = drawing_of chunks decisions layers
+drawing_by kind.Front chunks decisions layers = drawing_of chunks decisions layers
+drawing_by kind.Back chunks decisions layers = drawing_of chunks decisions layers
+drawing_by other chunks decisions layers = []
 
 -- behind a complete chunk with these decisions, which leaves this
 abbrev pub with_chunk : Head → ℕ → Decoded → Left → Left
@@ -130,7 +130,7 @@ with_chunk head decisions decoded left = record {
   chunks = suc left.chunks;
   decoded = decoded;
   told = record {
-    drawings = left.told.drawings ++ drawing_by (kind_of head.id) (suc left.chunks) decoded.layers;
+    drawings = left.told.drawings ++ drawing_by (kind_of head.id) (suc left.chunks) (left.told.decisions + decisions) decoded.layers;
     decisions = left.told.decisions + decisions;
     reached = left.told.reached;
   };

@@ -3,12 +3,13 @@
 use Rattle.std.specs.Prelude.{ℕ, ◌≡◌, List, [], ◌∷◌, ◌++◌, map, None, codes}
 use Rattle.djvu_base.specs.Library.{Mark, Whole, File, Library}
 use Rattle.djvu_base.specs.declared.faults.FaultKind.{FaultKind}
+use Rattle.djvu_base.specs.Picture.{Picture}
 use Rattle.iff_chunks.specs.Worked.{form_with, header, page}
 use Rattle.zp_table.specs.declared.rows.Row.{Row}
 use Rattle.zp_table.specs.Listing.{flat_rows}
 use Rattle.layer_compose.specs.Drawing.{sum_of}
 use Rattle.include_graph.specs.Verdicts.{fault_at}
-use Rattle.include_graph.specs.Worked.{included_file, include_of}
+use Rattle.include_graph.specs.Worked.{included_file, include_of, includes_one}
 use Rattle.page_decoder.specs.Given.{Page, Known, Given}
 use Rattle.page_decoder.specs.PageRead.{Drawing, Ending, Refused, PageRead}
 use Rattle.page_decoder.specs.Read.{read}
@@ -84,6 +85,22 @@ two_dictionaries first second =
     whole_file (codes "d") dictionary_file ∷ whole_file (codes "e") empty_file
     ∷ whole_file (codes "p") (page 56 (include_of first ++ (include_of second ++ copying_mask))) ∷ []
 
+-- an included file without a dictionary of its own, which includes one that has one, and a page that includes the first and has its own
+-- dictionary, without a shape
+abbrev pub chain : Library
+chain =
+    whole_file (codes "d") dictionary_file ∷ whole_file (codes "g") (includes_one 0x64)
+    ∷ whole_file (codes "p") (page 56 (include_of 0x67 ++ (dictionary_chunk 1 (0xF0 ∷ 0x00 ∷ []) ++ copying_mask))) ∷ []
+
+-- an included file whose dictionary has a mark, and a page that includes it
+abbrev pub marked_dictionary : Library
+marked_dictionary =
+    whole_file (codes "d") (included_file 14 (dictionary_chunk 1 (0x7F ∷ 0x00 ∷ []))) ∷ whole_file (codes "p") including_page ∷ []
+
+-- a page whose mask tells another count of inherited shapes than there are
+abbrev pub other_count : Library
+other_count = whole_file (codes "d") dictionary_file ∷ whole_file (codes "p") (page 42 (include_of 0x64 ++ mask_chunk 2 (0x15 ∷ 0x7F ∷ []))) ∷ []
+
 -- two files that include each other, and two pages
 abbrev pub round_about : Library
 round_about =
@@ -93,6 +110,14 @@ round_about =
 -- a page in a library of one file
 abbrev pub run_alone : List ℕ → PageRead
 run_alone bytes = run flat_rows (whole_file (codes "p") bytes ∷ []) 0
+
+-- ---- drawings of one pixel
+
+abbrev pub white_pixel : Picture
+white_pixel = record { width = 1; height = 1; samples = 255 ∷ 255 ∷ 255 ∷ [] }
+
+abbrev pub black_pixel : Picture
+black_pixel = record { width = 1; height = 1; samples = 0 ∷ 0 ∷ 0 ∷ [] }
 
 -- ---- what is told
 

@@ -77,8 +77,10 @@ pub fn bring<M: Meter>(
     requires { CanDrawLast layers.now }
     ensures came { IfOk result (λ brought. IsBrought (data_came (arc_value table.now) is_whole layers.now id bytes.now) layers.now brought) }
     ensures drawable { IfOk result (λ brought. CanDrawLast (laid layers.now brought)) }
-    ensures ticks { OnOk result (TicksExactly (data_came (arc_value table.now) is_whole layers.now id bytes.now).decisions (M.count meter.old) (M.count meter.new)) }
-    ensures at_most { OnErr result (TicksAtMost (data_came (arc_value table.now) is_whole layers.now id bytes.now).decisions (M.count meter.old) (M.count meter.new)) }
+    ensures ticks { OnOk result (TicksExactly (data_came (arc_value table.now) is_whole layers.now id bytes.now).decisions (M.count meter.old)
+        (M.count meter.new)) }
+    ensures at_most { OnErr result
+        (TicksAtMost (data_came (arc_value table.now) is_whole layers.now id bytes.now).decisions (M.count meter.old) (M.count meter.new)) }
 {
     if is_info(id) {
         return Ok(bring_size(bytes));
@@ -114,10 +116,14 @@ fn bring_mask<M: Meter>(
     meter: &mut M,
 ) -> Result<Brought, AllocError>
     requires { CanDraw layers.now }
-    ensures came { IfOk result (λ brought. IsBrought (mask_from (mask_input (arc_value table.now) bytes.now is_whole layers.now) layers.now) (Some layers.now) brought) }
+    ensures came { IfOk result (λ brought.
+        IsBrought (mask_from (mask_input (arc_value table.now) bytes.now is_whole layers.now) layers.now) (Some layers.now) brought) }
     ensures drawable { IfOk result (λ brought. CanDrawLast (laid (Some layers.now) brought)) }
-    ensures ticks { OnOk result (TicksExactly (mask_from (mask_input (arc_value table.now) bytes.now is_whole layers.now) layers.now).decisions (M.count meter.old) (M.count meter.new)) }
-    ensures at_most { OnErr result (TicksAtMost (mask_from (mask_input (arc_value table.now) bytes.now is_whole layers.now) layers.now).decisions (M.count meter.old) (M.count meter.new)) }
+    ensures ticks { OnOk result (TicksExactly (mask_from (mask_input (arc_value table.now) bytes.now is_whole layers.now) layers.now).decisions
+        (M.count meter.old) (M.count meter.new)) }
+    ensures at_most { OnErr result
+        (TicksAtMost (mask_from (mask_input (arc_value table.now) bytes.now is_whole layers.now) layers.now).decisions (M.count meter.old)
+        (M.count meter.new)) }
 {
     let mut reader = fed_reader(alloc, table, layers, bytes, is_whole)?;
     match reader.advance(meter) {
@@ -138,7 +144,8 @@ fn fed_reader(
 ) -> Result<MaskReader, AllocError>
     requires { CanDraw layers.now }
     ensures fed { IfOk result (λ reader. Fed bytes.now reader) }
-    ensures source { IfOk result (λ reader. reader.source ≡ record { table = arc_value table.now; inherited = []; purpose = purpose.Mask layers.now.width layers.now.height }) }
+    ensures source { IfOk result (λ reader. reader.source
+        ≡ record { table = arc_value table.now; inherited = []; purpose = purpose.Mask layers.now.width layers.now.height }) }
     ensures end { IfOk result (λ reader. reader.ended ≡ is_whole) }
     ensures answered { IfOk result (λ reader. reader.answered ≡ None) }
     ensures decisions { IfOk result (λ reader. reader.decisions ≡ 0) }

@@ -49,7 +49,8 @@ impl Page {
         requires drawable { CanDrawLast (laid self.layers brought) }
         ensures chunks { IfOk result (λ page. page.chunks ≡ self.chunks + 1) }
         ensures layers { IfOk result (λ page. page.layers ≡ laid self.layers brought) }
-        ensures notices { IfOk result (λ page. page.notices.items ≡ self.notices.items ++ map drawn (notice_by (is_drawn id) (self.chunks + 1) (laid self.layers brought) [])) }
+        ensures notices { IfOk result (λ page. page.notices.items
+            ≡ self.notices.items ++ map drawn (notice_by (is_drawn id) (self.chunks + 1) (laid self.layers brought) [])) }
     {
         let chunks = self.chunks + 1;
         let layers = laid(self.layers, brought);

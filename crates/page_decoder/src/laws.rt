@@ -16,16 +16,22 @@ ghost use Rattle.page_decoder.specs.Worked.{mask_chunk, dot_bytes, dot_file, whi
 
 /// The reading of a page, chunk by chunk, is what its events come to, one after the other.
 pub fn by_events()
-    ensures { (rows : List Row) (mark : Mark) (bytes : List ℕ) → reading rows mark bytes ≡ concluded rows (chunks_place bytes) (after_events rows at_start (events_of (chunks_of bytes))) (ending_of (file_end mark bytes)) }
+    ensures { (rows : List Row) (mark : Mark) (bytes : List ℕ)
+        → reading rows mark bytes ≡ concluded rows (chunks_place bytes) (after_events rows at_start (events_of (chunks_of bytes)))
+        (ending_of (file_end mark bytes)) }
 {}
 
 /// More bytes never take back a drawing or a decision, and where a page is finished or refused, it stays so, with the same
 /// drawings and the same decisions.
 pub fn growth()
-    ensures notices { (rows : List Row) (mark : Mark) (bytes more : List ℕ) → (later : List Notice) × ((reading rows mark (bytes ++ more)).notices ≡ (reading rows Open bytes).notices ++ later) }
-    ensures decisions { (rows : List Row) (mark : Mark) (bytes more : List ℕ) → IsTable rows → (reading rows Open bytes).decisions ≤ (reading rows mark (bytes ++ more)).decisions }
-    ensures finished { (rows : List Row) (mark : Mark) (bytes more : List ℕ) → IsTable rows → (reading rows Open bytes).end ≡ Finished → reading rows mark (bytes ++ more) ≡ reading rows Open bytes }
-    ensures refused { (rows : List Row) (mark : Mark) (bytes more : List ℕ) (kind : FaultKind) (offset : ℕ) → IsTable rows → (reading rows Open bytes).end ≡ Fault kind offset → reading rows mark (bytes ++ more) ≡ reading rows Open bytes }
+    ensures notices { (rows : List Row) (mark : Mark) (bytes more : List ℕ)
+        → (later : List Notice) × ((reading rows mark (bytes ++ more)).notices ≡ (reading rows Open bytes).notices ++ later) }
+    ensures decisions { (rows : List Row) (mark : Mark) (bytes more : List ℕ) → IsTable rows
+        → (reading rows Open bytes).decisions ≤ (reading rows mark (bytes ++ more)).decisions }
+    ensures finished { (rows : List Row) (mark : Mark) (bytes more : List ℕ) → IsTable rows → (reading rows Open bytes).end ≡ Finished
+        → reading rows mark (bytes ++ more) ≡ reading rows Open bytes }
+    ensures refused { (rows : List Row) (mark : Mark) (bytes more : List ℕ) (kind : FaultKind) (offset : ℕ) → IsTable rows
+        → (reading rows Open bytes).end ≡ Fault kind offset → reading rows mark (bytes ++ more) ≡ reading rows Open bytes }
 {
     iff_chunks::laws::chunks_stay();
     iff_chunks::laws::never_cut();
@@ -73,7 +79,8 @@ pub fn worked_orders()
     ensures arriving { (read Open (form_with (codes "DJVU") 22 (header (codes "INFO") 10 ++ 0 ∷ 0 ∷ 0 ∷ []))).end ≡ NeedBytes }
     ensures second_mask_and_cut { (read Whole (page 46 (mask_chunk 4 dot_bytes ++ header (codes "Sjbz") 4))).end ≡ Fault SecondMask 46 }
     ensures decoding_and_cut { read Whole (page 50 (mask_chunk 20 (0xB7 ∷ 0xFF ∷ 0xFF ∷ 0xFF ∷ 0xFF ∷ []))) ≡ found (white ∷ []) (Fault Jb2SecondStart 34) 9 }
-    ensures decoding_and_broken_off { read Broken (page 50 (mask_chunk 20 (0xB7 ∷ 0xFF ∷ 0xFF ∷ 0xFF ∷ 0xFF ∷ []))) ≡ found (white ∷ []) (Fault Jb2SecondStart 34) 9 }
+    ensures decoding_and_broken_off { read Broken (page 50 (mask_chunk 20 (0xB7 ∷ 0xFF ∷ 0xFF ∷ 0xFF ∷ 0xFF ∷ [])))
+        ≡ found (white ∷ []) (Fault Jb2SecondStart 34) 9 }
 {}
 
 /// Pages with masks: which drawings they have, where they end, and how many decisions were read.
@@ -86,7 +93,8 @@ pub fn worked_masks()
 
     // Of a chunk that is cut the decisions are read that its bytes determine, and it is never laid on the page.
     ensures cut_early { read Whole (take 44 dot_file) ≡ found (white ∷ []) (Fault Truncated 34) 0 }
-    ensures cut_late { read Whole (take 48 (page 38 (mask_chunk 8 (dot_bytes ++ 0xFF ∷ 0xFF ∷ 0xFF ∷ 0xFF ∷ [])))) ≡ found (white ∷ []) (Fault Truncated 34) 17 }
+    ensures cut_late { read Whole (take 48 (page 38 (mask_chunk 8 (dot_bytes ++ 0xFF ∷ 0xFF ∷ 0xFF ∷ 0xFF ∷ []))))
+        ≡ found (white ∷ []) (Fault Truncated 34) 17 }
     ensures cut_behind { read Whole (page 50 (mask_chunk 20 (dot_bytes ++ 0xFF ∷ 0xFF ∷ 0xFF ∷ 0xFF ∷ []))) ≡ found (white ∷ []) (Fault Truncated 34) 29 }
     ensures broken_off { read Broken (take 44 dot_file) ≡ found (white ∷ []) (Fault Read 44) 0 }
     ensures arriving { read Open (take 44 dot_file) ≡ found (white ∷ []) NeedBytes 0 }

@@ -7,12 +7,15 @@ ghost use Rattle.include_graph.specs.declared.outline.Outline.{Outline};
 ghost use Rattle.include_graph.specs.Verdicts.{is_among};
 ghost use Rattle.page_decoder.specs.Results.{Result, Refused as RefusedFile};
 ghost use Rattle.page_decoder.specs.Given.{Page, Included, Home, Known, Given, Within, Front};
-ghost use Rattle.page_decoder.specs.PageRead.{notices_of, Left, Finished, Refused, NeedBytes, NeedOutline, NeedFile};
+ghost use Rattle.page_decoder.specs.PageRead.{notices_of, last_layers, Left, Finished, Refused, NeedBytes, NeedOutline, NeedFile};
 ghost use Rattle.page_decoder.specs.Acts.{Act, Close};
 ghost use Rattle.page_decoder.specs.Read.{after, read_from, step_through, read, decode};
-ghost use Rattle.page_decoder.specs.Needs.{Below, Lacks, Because, are_bytes, last_layers, IsOutlined, IncludesFile};
+ghost use Rattle.page_decoder.specs.Needs.{Below, Lacks, IsOver, Because, are_bytes, IsOutlined, IncludesFile};
 
+pub mod drawings;
 pub mod libraries;
+pub mod made;
+pub mod work;
 pub mod worked;
 
 /// More that is given takes nothing back that was told. A reading that is finished or refused stays, with all that it told and
@@ -46,17 +49,18 @@ pub fn acts()
         → read_from home known close (acts ++ others) left ≡ after (step_through home known acts left) (read_from home known close others) }
 {}
 
-/// Why a reading ends. It needs a file that stands in the list of an include's target, behind files that aren't refused; an
+/// Why a reading ends. It needs a file that stands in the list of a pending include's target, behind files that aren't refused; an
 /// outline that isn't known; and bytes only of a file of whose end nothing is known. What the files give that it reached is
-/// known, but for one that it needs.
+/// known, but for one that it needs, which it reached, too.
 pub fn needs()
-    ensures because { (given : Given) → Because given.home given.known (read given).end }
+    ensures because { (given : Given) → Because given.home given.known (read given).left.decoded.pending (read given).end }
     ensures outline { (given : Given) (file : ℕ) → (read given).end ≡ NeedOutline file → (given.known.outlines file ≡ None)
         × (file < length given.home.names) }
     ensures file { (given : Given) (file : ℕ) → (read given).end ≡ NeedFile file → (given.known.results file ≡ None) × (file < length given.home.names) }
     ensures closed { (given : Given) → given.mark ≢ Open → (read given).end ≢ NeedBytes }
     ensures reached { (given : Given) (file : ℕ) → is_among file (read given).left.told.reached ≡ true
         → ((result : Result) × (given.known.results file ≡ Some result)) ⊎ ((read given).end ≡ NeedFile file) }
+    ensures needed { (given : Given) (file : ℕ) → (read given).end ≡ NeedFile file → is_among file (read given).left.told.reached ≡ true }
     ensures stay_reached { (less more : Given) (file : ℕ) → IsTable less.home.table → Within less more
         → is_among file (read less).left.told.reached ≡ true → is_among file (read more).left.told.reached ≡ true }
 {
@@ -89,6 +93,9 @@ pub fn included_files()
     ensures stays { (less more : Given) (outline : Outline) → IsTable less.home.table → Within less more → less.home.role ≡ Included → IsOutlined less outline
         → ((file : ℕ) → IncludesFile less.home.names outline file → (result : Result) × (less.known.results file ≡ Some result))
         → decode more ≡ decode less }
+    ensures over { (given : Given) (outline : Outline) → given.home.role ≡ Included → IsOutlined given outline
+        → ((file : ℕ) → IncludesFile given.home.names outline file → (result : Result) × (given.known.results file ≡ Some result))
+        → IsOver (read given).end }
 {
     growth();
 }

@@ -86,9 +86,14 @@ fn rest_end<M: Meter>(
     meter: &mut M,
 ) -> Result<PageEnd, AllocError>
     requires { CanDrawLast so_far.now.page.layers }
-    ensures end { IfOk result (λ end. ending end ≡ (rest_at (arc_value table.now) origin so_far.now.place bytes.now so_far.now.page.chunks so_far.now.page.layers (ending last)).end) }
-    ensures ticks { OnOk result (TicksExactly (rest_at (arc_value table.now) origin so_far.now.place bytes.now so_far.now.page.chunks so_far.now.page.layers (ending last)).decisions (M.count meter.old) (M.count meter.new)) }
-    ensures at_most { OnErr result (TicksAtMost (rest_at (arc_value table.now) origin so_far.now.place bytes.now so_far.now.page.chunks so_far.now.page.layers (ending last)).decisions (M.count meter.old) (M.count meter.new)) }
+    ensures end { IfOk result (λ end. ending end
+        ≡ (rest_at (arc_value table.now) origin so_far.now.place bytes.now so_far.now.page.chunks so_far.now.page.layers (ending last)).end) }
+    ensures ticks { OnOk result (TicksExactly
+        (rest_at (arc_value table.now) origin so_far.now.place bytes.now so_far.now.page.chunks so_far.now.page.layers (ending last)).decisions
+        (M.count meter.old) (M.count meter.new)) }
+    ensures at_most { OnErr result
+        (TicksAtMost (rest_at (arc_value table.now) origin so_far.now.place bytes.now so_far.now.page.chunks so_far.now.page.layers (ending last)).decisions
+        (M.count meter.old) (M.count meter.new)) }
 {
     match so_far.place {
         Place::Before => Ok(last),
@@ -122,9 +127,14 @@ fn cut_end<M: Meter>(
     meter: &mut M,
 ) -> Result<PageEnd, AllocError>
     requires { CanDrawLast layers.now }
-    ensures end { IfOk result (λ end. ending end ≡ (cut_chunk (data_came (arc_value table.now) false layers.now head.id bytes.now) head.offset (ending last)).end) }
-    ensures ticks { OnOk result (TicksExactly (cut_chunk (data_came (arc_value table.now) false layers.now head.id bytes.now) head.offset (ending last)).decisions (M.count meter.old) (M.count meter.new)) }
-    ensures at_most { OnErr result (TicksAtMost (cut_chunk (data_came (arc_value table.now) false layers.now head.id bytes.now) head.offset (ending last)).decisions (M.count meter.old) (M.count meter.new)) }
+    ensures end { IfOk result (λ end. ending end
+        ≡ (cut_chunk (data_came (arc_value table.now) false layers.now head.id bytes.now) head.offset (ending last)).end) }
+    ensures ticks { OnOk result (TicksExactly
+        (cut_chunk (data_came (arc_value table.now) false layers.now head.id bytes.now) head.offset (ending last)).decisions (M.count meter.old)
+        (M.count meter.new)) }
+    ensures at_most { OnErr result
+        (TicksAtMost (cut_chunk (data_came (arc_value table.now) false layers.now head.id bytes.now) head.offset (ending last)).decisions (M.count meter.old)
+        (M.count meter.new)) }
 {
     let brought = bring(alloc, table, layers, head.id, bytes, false, meter)?;
     match brought.fault() {

@@ -37,8 +37,10 @@ pub fn walk<'a, M: Meter>(
 ) -> Result<(Progress, &'a [u8]), AllocError>
     requires fresh { Told [] [] walker.old }
     requires size { length file.now < 2 ^ 32 }
-    ensures walked { IfOk result (λ walked. Walked (arc_value table.now) file.now walked.0.place walked.1.now walked.0.page walker.new (M.count meter.old) (M.count meter.new)) }
-    ensures at_most { OnErr result (TicksAtMost ((after_events (arc_value table.now) at_start (events_of (chunks_of file.now))).done.decisions) (M.count meter.old) (M.count meter.new)) }
+    ensures walked { IfOk result (λ walked.
+        Walked (arc_value table.now) file.now walked.0.place walked.1.now walked.0.page walker.new (M.count meter.old) (M.count meter.new)) }
+    ensures at_most { OnErr result
+        (TicksAtMost ((after_events (arc_value table.now) at_start (events_of (chunks_of file.now))).done.decisions) (M.count meter.old) (M.count meter.new)) }
 {
     let mut so_far = Progress {
         place: Place::Before,
@@ -80,9 +82,12 @@ fn after_step<M: Meter>(
 ) -> Result<Progress, AllocError>
     requires room { so_far.page.chunks + open_count so_far.place < 2 ^ 32 }
     requires drawable { CanDrawLast so_far.page.layers }
-    ensures next { IfOk result (λ next. (done : Done) (used : List ℕ) → IsPage done so_far.page → IsProgress (after_step (arc_value table.now) (progress so_far.place bytes.now done) step used) next.place next.page) }
-    ensures ticks { OnOk result (TicksExactly (step_decisions (arc_value table.now) so_far.place bytes.now so_far.page.layers step) (M.count meter.old) (M.count meter.new)) }
-    ensures at_most { OnErr result (TicksAtMost (step_decisions (arc_value table.now) so_far.place bytes.now so_far.page.layers step) (M.count meter.old) (M.count meter.new)) }
+    ensures next { IfOk result (λ next. (done : Done) (used : List ℕ) → IsPage done so_far.page
+        → IsProgress (after_step (arc_value table.now) (progress so_far.place bytes.now done) step used) next.place next.page) }
+    ensures ticks { OnOk result (TicksExactly (step_decisions (arc_value table.now) so_far.place bytes.now so_far.page.layers step) (M.count meter.old)
+        (M.count meter.new)) }
+    ensures at_most { OnErr result
+        (TicksAtMost (step_decisions (arc_value table.now) so_far.place bytes.now so_far.page.layers step) (M.count meter.old) (M.count meter.new)) }
 {
     let Progress { place, page } = so_far;
     match step {
@@ -126,7 +131,8 @@ fn after_end<M: Meter>(
 ) -> Result<Progress, AllocError>
     requires room { page.chunks + open_count place < 2 ^ 32 }
     requires drawable { CanDrawLast page.layers }
-    ensures next { IfOk result (λ next. (done : Done) → IsPage done page → IsProgress (after_end (arc_value table.now) place bytes.now done) next.place next.page) }
+    ensures next { IfOk result (λ next. (done : Done) → IsPage done page
+        → IsProgress (after_end (arc_value table.now) place bytes.now done) next.place next.page) }
     ensures ticks { OnOk result (TicksExactly (end_decisions (arc_value table.now) place bytes.now page.layers) (M.count meter.old) (M.count meter.new)) }
     ensures at_most { OnErr result (TicksAtMost (end_decisions (arc_value table.now) place bytes.now page.layers) (M.count meter.old) (M.count meter.new)) }
 {
@@ -147,9 +153,12 @@ fn end_chunk<M: Meter>(
 ) -> Result<Progress, AllocError>
     requires room { page.chunks + 1 < 2 ^ 32 }
     requires drawable { CanDrawLast page.layers }
-    ensures next { IfOk result (λ next. (done : Done) → IsPage done page → IsProgress (ended head (data_came (arc_value table.now) true done.layers head.id bytes.now) bytes.now done) next.place next.page) }
-    ensures ticks { OnOk result (TicksExactly (data_came (arc_value table.now) true page.layers head.id bytes.now).decisions (M.count meter.old) (M.count meter.new)) }
-    ensures at_most { OnErr result (TicksAtMost (data_came (arc_value table.now) true page.layers head.id bytes.now).decisions (M.count meter.old) (M.count meter.new)) }
+    ensures next { IfOk result (λ next. (done : Done) → IsPage done page
+        → IsProgress (ended head (data_came (arc_value table.now) true done.layers head.id bytes.now) bytes.now done) next.place next.page) }
+    ensures ticks { OnOk result (TicksExactly (data_came (arc_value table.now) true page.layers head.id bytes.now).decisions (M.count meter.old)
+        (M.count meter.new)) }
+    ensures at_most { OnErr result
+        (TicksAtMost (data_came (arc_value table.now) true page.layers head.id bytes.now).decisions (M.count meter.old) (M.count meter.new)) }
 {
     match bring(alloc, table, &page.layers, head.id, bytes, true, meter)? {
         Brought::Fault(kind) => Ok(Progress {

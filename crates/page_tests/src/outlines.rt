@@ -3,7 +3,9 @@ ghost use Rattle.std.specs.Prelude.{◌≡◌, ◌≤◌, ◌<◌, length, IfSom
 ghost use Rattle.djvu_base.specs.Name.{IsAscending, is_ascending};
 
 use djvu_base::{FaultKind, FileEnd, Items, Name};
-use include_graph::{Outline, OutlineItem, OutlineReader, OutlineStep, Verdict, verdict};
+use include_graph::{
+    Outline, OutlineItem, OutlineReader, OutlineStep, Verdict, number_of, verdict,
+};
 use std::alloc::Global;
 use std::sync::Arc;
 
@@ -26,7 +28,7 @@ const FILES: [(&[u8], &[u8], Option<usize>); 15] = [
     ),
     (
         b"FORM\0\0\0\x14DJVIBG44\0\0\0\x04",
-        b"unsupported 12/",
+        b"misplaced 12/",
         Some(19),
     ),
     (
@@ -296,6 +298,23 @@ fn verdicts_on_small_graphs(rt: HostRuntime) {
         };
         assert_eq!(rt; text.as_slice(), said, "case {number}");
     }
+}
+
+/// The number of the name of one letter among the four names.
+fn number_among_four(alloc: Global, letter: u8) -> Option<Option<u32>> {
+    let names = four_names(alloc)?;
+    if names.len() != 4 {
+        return None;
+    }
+    let name = Name::read(alloc, &[letter]).ok()??;
+    Some(number_of(names.as_slice(), &name))
+}
+
+#[test]
+fn numbers_of_names(rt: HostRuntime) {
+    assert_eq!(rt; number_among_four(rt.alloc(), b'a'), Some(Some(0)));
+    assert_eq!(rt; number_among_four(rt.alloc(), b'c'), Some(Some(2)));
+    assert_eq!(rt; number_among_four(rt.alloc(), b'e'), Some(None));
 }
 
 /// Whether this is the right text, or there was no memory for it.

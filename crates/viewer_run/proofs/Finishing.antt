@@ -29,12 +29,14 @@ pub raster_there : ((rows : List Row) (mark : Mark) (bytes : List ℕ) → (read
     → ((rows : List Row) (mark : Mark) (bytes : List ℕ) → mark ≢ Open → (reading rows mark bytes).end ≢ NeedBytes)
     → (rows : List Row) (names : List (List ℕ)) (page : ℕ) (file : File) → file.mark ≢ Open → (texts_of_file rows names page file).refused ≡ false
     → (layers : Layers) × (last_layers (reading rows file.mark file.bytes).notices ≡ Some layers)
-    × ((texts_of_file rows names page file).puts ≡ to_report (lines_of (name_at names page) (reading rows file.mark file.bytes).notices) ++ to_out (raster_text layers))
+    × ((texts_of_file rows names page file).puts
+    ≡ to_report (lines_of (name_at names page) (reading rows file.mark file.bytes).notices) ++ to_out (raster_text layers))
 raster_there drawn known rows names page file some refused =
     let read : Reading = reading rows file.mark file.bytes in
     let there = drawn_by read (drawn rows file.mark file.bytes) (known rows file.mark file.bytes some) refused in
     let lines = lines_of (name_at names page) read.notices in (
       there.layers,
       there.last,
-      ap (λ x. to_report (lines_at names page lines x) ++ to_out (raster_at (raster_of (last_layers read.notices)) x)) there.finished ∙ ap (λ l. to_report lines ++ to_out (raster_of l)) there.last,
+      ap (λ x. to_report (lines_at names page lines x) ++ to_out (raster_at (raster_of (last_layers read.notices)) x)) there.finished
+          ∙ ap (λ l. to_report lines ++ to_out (raster_of l)) there.last,
     )

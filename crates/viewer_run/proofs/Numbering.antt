@@ -34,30 +34,36 @@ whole_at limit name bytes = record { name = name; bytes = take limit bytes; mark
 
 -- the file of a page in a library that was cut
 page_found : (failures : List Failure) (limit : ℕ) (files : Files) (name : List ℕ) → HasFile files name
-    → slice_get (cut failures (library_within limit files)) (number_of (names_in (library_within limit files)) name) ≡ Some (cut_file failures (whole_at limit name (bytes_in files name)))
+    → slice_get (cut failures (library_within limit files)) (number_of (names_in (library_within limit files)) name)
+    ≡ Some (cut_file failures (whole_at limit name (bytes_in files name)))
 page_found failures limit [] name h = absurd (cc)
 page_found failures limit (file ∷ files) name h = by (bytes_eq name file.0) refl (page_found failures limit files name) h
   where
     by : (t : Bool) → bytes_eq name file.0 ≡ t
-        → (HasFile files name → slice_get (cut failures (library_within limit files)) (number_of (names_in (library_within limit files)) name) ≡ Some (cut_file failures (whole_at limit name (bytes_in files name)))) → IsSome (cond t (Some file.1) (contents_of name files))
-        → slice_get (cut_file failures (whole_at limit file.0 file.1) ∷ cut failures (library_within limit files)) (cond t zero (suc (number_of (names_in (library_within limit files)) name)))
+        → (HasFile files name → slice_get (cut failures (library_within limit files)) (number_of (names_in (library_within limit files)) name)
+        ≡ Some (cut_file failures (whole_at limit name (bytes_in files name)))) → IsSome (cond t (Some file.1) (contents_of name files))
+        → slice_get (cut_file failures (whole_at limit file.0 file.1) ∷ cut failures (library_within limit files))
+        (cond t zero (suc (number_of (names_in (library_within limit files)) name)))
         ≡ Some (cut_file failures (whole_at limit name (unwrap_or (cond t (Some file.1) (contents_of name files)) [])))
     by true e more h = ap (λ n. Some (cut_file failures (whole_at limit n file.1))) (sym ((bytes_eq-Decides name file.0).0 e))
     by false e more h = more h
 
 -- the name of a page, by its number
-name_found : (limit : ℕ) (files : Files) (name : List ℕ) → HasFile files name → name_at (names_in (library_within limit files)) (number_of (names_in (library_within limit files)) name) ≡ name
+name_found : (limit : ℕ) (files : Files) (name : List ℕ) → HasFile files name
+    → name_at (names_in (library_within limit files)) (number_of (names_in (library_within limit files)) name) ≡ name
 name_found limit [] name h = absurd (cc)
 name_found limit (file ∷ files) name h = by (bytes_eq name file.0) refl (name_found limit files name) h
   where
     by : (t : Bool) → bytes_eq name file.0 ≡ t
-        → (HasFile files name → name_at (names_in (library_within limit files)) (number_of (names_in (library_within limit files)) name) ≡ name) → IsSome (cond t (Some file.1) (contents_of name files))
+        → (HasFile files name → name_at (names_in (library_within limit files)) (number_of (names_in (library_within limit files)) name) ≡ name)
+        → IsSome (cond t (Some file.1) (contents_of name files))
         → name_at (file.0 ∷ names_in (library_within limit files)) (cond t zero (suc (number_of (names_in (library_within limit files)) name))) ≡ name
     by true e more h = sym ((bytes_eq-Decides name file.0).0 e)
     by false e more h = more h
 
 -- the names of pages, by their numbers
-pub names_found : (files : Files) (names : List (List ℕ)) → HasFiles files names → map (name_at (names_in (library_of files))) (numbers_of (names_in (library_of files)) names) ≡ names
+pub names_found : (files : Files) (names : List (List ℕ)) → HasFiles files names
+    → map (name_at (names_in (library_of files))) (numbers_of (names_in (library_of files)) names) ≡ names
 names_found files [] h = refl
 names_found files (name ∷ names) h =
     ap (λ n. n ∷ map (name_at (names_in (library_of files))) (numbers_of (names_in (library_of files)) names)) (name_found file_limit files name h.0)
@@ -80,7 +86,10 @@ module _ (names : List (List ℕ)) (page : ℕ) (name : List ℕ) (is : name_at 
 
   pub drawn_same : (read : Reading) → texts_of_reading names page read ≡ texts_of_reading (name ∷ []) 0 read
   drawn_same read =
-      ap (λ l. let t : Texts = record { puts = to_report l ++ to_out (raster_at (raster_of (last_layers read.notices)) read.end); refused = is_refused read.end } in t)
+      ap (λ l. let t : Texts = record {
+        puts = to_report l ++ to_out (raster_at (raster_of (last_layers read.notices)) read.end);
+        refused = is_refused read.end;
+      } in t)
       (lines_same (lines_of (name_at names page) read.notices) read.end ∙ ap (λ n. lines_at (name ∷ []) 0 (lines_of n read.notices) read.end) is)
 
   tail_same : (tail : Tail) → fault_text names page tail ≡ fault_text (name ∷ []) 0 tail
@@ -94,7 +103,8 @@ module _ (names : List (List ℕ)) (page : ℕ) (name : List ℕ) (is : name_at 
   pub listed_same : (file : File) → info_of_file names page file ≡ info_of_file (name ∷ []) 0 file
   listed_same file =
       ap (λ l. let t : Texts = record { puts = to_report l; refused = has_fault (file_end file.mark file.bytes) } in t)
-      (ap (λ l. heading_lines (name_at names page) (chunks_of file.bytes) ++ l) (tail_same (file_end file.mark file.bytes)) ∙ ap (λ n. heading_lines n (chunks_of file.bytes) ++ fault_text (name ∷ []) 0 (file_end file.mark file.bytes)) is)
+      (ap (λ l. heading_lines (name_at names page) (chunks_of file.bytes) ++ l) (tail_same (file_end file.mark file.bytes))
+      ∙ ap (λ n. heading_lines n (chunks_of file.bytes) ++ fault_text (name ∷ []) 0 (file_end file.mark file.bytes)) is)
 
 -- what is put for a page of a library
 abbrev texts_for : Mode → Library → ℕ → Texts
@@ -109,7 +119,8 @@ for_in : (how : Mode) (library : Library) (page : ℕ) → texts_for how library
 for_in (mode.Draw rows) library page = refl
 for_in mode.Info library page = refl
 
-in_own : (how : Mode) (names : List (List ℕ)) (page : ℕ) (file : File) → name_at names page ≡ file.name → texts_in how names page (Some file) ≡ texts_by how file
+in_own : (how : Mode) (names : List (List ℕ)) (page : ℕ) (file : File) → name_at names page ≡ file.name
+    → texts_in how names page (Some file) ≡ texts_by how file
 in_own (mode.Draw rows) names page file is = drawn_same names page file.name is (reading rows file.mark file.bytes)
 in_own mode.Info names page file is = listed_same names page file.name is file
 
@@ -123,13 +134,16 @@ page_texts how failures files name h =
     for_in how (cut failures library) page
     ∙ ap (λ names. texts_in how names page (slice_get (cut failures library) page)) (names_cut failures library)
     ∙ ap (texts_in how (names_in library) page) (page_found failures file_limit files name h)
-    ∙ in_own how (names_in library) page file (name_found file_limit files name h ∙ sym (same_name_at (first_entry failures name) (whole_at file_limit name (bytes_in files name))))
+    ∙ in_own how (names_in library) page file
+    (name_found file_limit files name h ∙ sym (same_name_at (first_entry failures name) (whole_at file_limit name (bytes_in files name))))
 
 pages_texts : (how : Mode) (failures : List Failure) (files : Files) (names : List (List ℕ)) → HasFiles files names
-    → texts_of_pages (λ page. texts_for how (cut failures (library_of files)) page) (numbers_of (names_in (library_of files)) names) ≡ texts_named how files failures names
+    → texts_of_pages (λ page. texts_for how (cut failures (library_of files)) page) (numbers_of (names_in (library_of files)) names)
+    ≡ texts_named how files failures names
 pages_texts how failures files [] h = refl
 pages_texts how failures files (name ∷ names) h =
-    ap (λ t. joined t (texts_of_pages (λ page. texts_for how (cut failures (library_of files)) page) (numbers_of (names_in (library_of files)) names))) (page_texts how failures files name h.0)
+    ap (λ t. joined t (texts_of_pages (λ page. texts_for how (cut failures (library_of files)) page) (numbers_of (names_in (library_of files)) names)))
+    (page_texts how failures files name h.0)
     ∙ ap (joined (texts_by how (file_of files failures name))) (pages_texts how failures files names h.1)
 
 -- their work
@@ -137,7 +151,8 @@ drawn_work : (rows : List Row) (failures : List Failure) (files : Files) (names 
     → work rows (cut failures (library_of files)) (numbers_of (names_in (library_of files)) names) ≡ work_named (mode.Draw rows) files failures names
 drawn_work rows failures files [] h = refl
 drawn_work rows failures files (name ∷ names) h =
-    ap (λ f. decisions_in rows f + work rows (cut failures (library_of files)) (numbers_of (names_in (library_of files)) names)) (page_found failures file_limit files name h.0)
+    ap (λ f. decisions_in rows f + work rows (cut failures (library_of files)) (numbers_of (names_in (library_of files)) names))
+    (page_found failures file_limit files name h.0)
     ∙ ap (λ n. work_by (mode.Draw rows) (file_of files failures name) + n) (drawn_work rows failures files names h.1)
 
 listed_work : (files : Files) (failures : List Failure) (names : List (List ℕ)) → 0 ≡ work_named mode.Info files failures names
@@ -146,9 +161,12 @@ listed_work files failures (name ∷ names) = listed_work files failures names �
 
 -- what is written for pages of these names
 pub written_named : (how : Mode) (failures : List Failure) (files : Files) (names : List (List ℕ)) → HasFiles files names
-    → written_by (cut failures (library_of files)) (plan_for how (numbers_of (names_in (library_of files)) names)) ≡ written (texts_named how files failures names) (work_named how files failures names)
+    → written_by (cut failures (library_of files)) (plan_for how (numbers_of (names_in (library_of files)) names))
+    ≡ written (texts_named how files failures names) (work_named how files failures names)
 written_named (mode.Draw rows) failures files names h =
-    ap (λ t. written t (work rows (cut failures (library_of files)) (numbers_of (names_in (library_of files)) names))) (pages_texts (mode.Draw rows) failures files names h)
+    ap (λ t. written t (work rows (cut failures (library_of files)) (numbers_of (names_in (library_of files)) names)))
+    (pages_texts (mode.Draw rows) failures files names h)
     ∙ ap (written (texts_named (mode.Draw rows) files failures names)) (drawn_work rows failures files names h)
 written_named mode.Info failures files names h =
-    ap (λ t. written t 0) (pages_texts mode.Info failures files names h) ∙ ap (written (texts_named mode.Info files failures names)) (listed_work files failures names)
+    ap (λ t. written t 0) (pages_texts mode.Info failures files names h)
+    ∙ ap (written (texts_named mode.Info files failures names)) (listed_work files failures names)

@@ -27,7 +27,8 @@ block_fits now at_once row few short is =
     ]
 
 -- rows of a drawing, one block behind the other
-module _ (layers : Layers) (joined : (from count more : ℕ) → rows_of layers from (count + more) ≡ rows_of layers from count ++ rows_of layers (from + count) more) where
+module _ (layers : Layers) (joined : (from count more : ℕ)
+    → rows_of layers from (count + more) ≡ rows_of layers from count ++ rows_of layers (from + count) more) where
   -- the rows from the top on, and further ones
   pub rows_more : (done now : ℕ) → rows_of layers 0 done ++ rows_of layers done now ≡ rows_of layers 0 (done + now)
   rows_more done now = ap (λ n. rows_of layers 0 done ++ rows_of layers n now) (sym (zero-add done)) ∙ sym (joined 0 done now)

@@ -36,12 +36,14 @@ use Rattle.viewer_run.specs.Texts.{Texts}
 use Rattle.viewer_run.proofs.Numbering.{names_found, written_named}
 
 -- what a plan writes, as an equation
-pub is_written : (library : Library) (plan : Plan) (failures : List Failure) (w : Written) → w ≡ with_failures failures (written_by library plan) → IsWritten library plan failures w
+pub is_written : (library : Library) (plan : Plan) (failures : List Failure) (w : Written) → w ≡ with_failures failures (written_by library plan)
+    → IsWritten library plan failures w
 is_written library (Refuses line) failures w e = e
 is_written library (Draws rows pages) failures w e = e
 is_written library (Lists pages) failures w e = e
 
-pub written_is : (library : Library) (plan : Plan) (failures : List Failure) (w : Written) → IsWritten library plan failures w → w ≡ with_failures failures (written_by library plan)
+pub written_is : (library : Library) (plan : Plan) (failures : List Failure) (w : Written) → IsWritten library plan failures w
+    → w ≡ with_failures failures (written_by library plan)
 written_is library (Refuses line) failures w e = e
 written_is library (Draws rows pages) failures w e = e
 written_is library (Lists pages) failures w e = e
@@ -55,27 +57,33 @@ pages_for (mode.Draw rows) pages = refl
 pages_for mode.Info pages = refl
 
 -- the pages that are shown are what is read after the front
-read_names : (files : Files) (words names : List (List ℕ)) (how : Mode) → plan_for how (numbers_of (names_in (library_of files)) names) ≡ plan_of (library_of files) words → HasFiles files names → read_after (library_of files) words ≡ names
+read_names : (files : Files) (words names : List (List ℕ)) (how : Mode)
+    → plan_for how (numbers_of (names_in (library_of files)) names) ≡ plan_of (library_of files) words → HasFiles files names
+    → read_after (library_of files) words ≡ names
 read_names files words names how plan has =
     let library = library_of files in
-    ap (λ p. map (name_at (names_in library)) (pages_of p)) (sym plan) ∙ ap (map (name_at (names_in library))) (pages_for how (numbers_of (names_in library) names)) ∙ names_found files names has
+    ap (λ p. map (name_at (names_in library)) (pages_of p)) (sym plan)
+    ∙ ap (map (name_at (names_in library))) (pages_for how (numbers_of (names_in library) names)) ∙ names_found files names has
 
 and_not : (a b : Bool) → b ≡ true → (a && not b) ≡ false
 and_not true b e = ap not e
 and_not false b e = refl
 
 -- failures of pages alone aren't the front's
-not_front : (library : Library) (words names : List (List ℕ)) (failures : List Failure) → read_after library words ≡ names → NamesOnly names failures → lists_first failures ≡ false → front_failed library words failures ≡ false
+not_front : (library : Library) (words names : List (List ℕ)) (failures : List Failure) → read_after library words ≡ names → NamesOnly names failures
+    → lists_first failures ≡ false → front_failed library words failures ≡ false
 not_front library words names [] read only reads = refl
 not_front library words names (Listing ∷ failures) read only reads = absurd (true≢false reads)
 not_front library words names (Reading name count ∷ failures) read only reads =
-    and_not (names_table (words_of words) name) (is_listed (read_after library words) name) (ap (λ l. is_listed l name) read ∙ there (is_listed names name) refl)
+    and_not (names_table (words_of words) name) (is_listed (read_after library words) name)
+    (ap (λ l. is_listed l name) read ∙ there (is_listed names name) refl)
   where
     there : (t : Bool) → is_listed names name ≡ t → is_listed names name ≡ true
     there true h = h
     there false h =
         let none : cond (bytes_eq name name) (Some count) (first_entry failures name) ≡ None = only name h in
-        let some : cond (bytes_eq name name) (Some count) (first_entry failures name) ≡ Some count = ap (λ t. cond t (Some count) (first_entry failures name)) ((bytes_eq-Decides name name).1 refl) in
+        let some : cond (bytes_eq name name) (Some count) (first_entry failures name) ≡ Some count =
+        ap (λ t. cond t (Some count) (first_entry failures name)) ((bytes_eq-Decides name name).1 refl) in
         let both = sym some ∙ none in cc
 
 puts_kept : (failures : List Failure) (w : Written) → (with_failures failures w).puts ≡ w.puts
@@ -87,10 +95,12 @@ work_kept [] w = refl
 work_kept (entry ∷ failures) w = refl
 
 -- the status of pages that were shown
-status_of_all : (shown : Shown) (failures : List Failure) (texts : Texts) (work : ℕ) → HasBroken shown.broken failures → shown.refused ≡ texts.refused → status_shown shown ≡ (with_failures failures (written texts work)).status
+status_of_all : (shown : Shown) (failures : List Failure) (texts : Texts) (work : ℕ) → HasBroken shown.broken failures → shown.refused ≡ texts.refused
+    → status_shown shown ≡ (with_failures failures (written texts work)).status
 status_of_all shown failures texts work broken refused = by shown.broken shown.refused failures broken refused
   where
-    by : (b r : Bool) (failures : List Failure) → HasBroken b failures → r ≡ texts.refused → cond b 3 (cond r 1 0) ≡ (with_failures failures (written texts work)).status
+    by : (b r : Bool) (failures : List Failure) → HasBroken b failures → r ≡ texts.refused
+        → cond b 3 (cond r 1 0) ≡ (with_failures failures (written texts work)).status
     by true r [] h e = absurd (h refl)
     by true r (entry ∷ failures) h e = refl
     by false r [] h e = status_so r texts.refused e
@@ -106,7 +116,8 @@ or_second : (a b : Bool) → (a || b) ≡ false → b ≡ false
 or_second true b e = absurd (true≢false e)
 or_second false b e = e
 
-only_named : (library : Library) (words names : List (List ℕ)) (failures : List Failure) → read_after library words ≡ names → NamesOnly names failures → NamesRead library words failures
+only_named : (library : Library) (words names : List (List ℕ)) (failures : List Failure) → read_after library words ≡ names → NamesOnly names failures
+    → NamesRead library words failures
 only_named library words names failures read only name other =
     only name (ap (λ l. is_listed l name) (sym read) ∙ or_second (names_table (words_of words) name) (is_listed (read_after library words) name) other)
 
@@ -122,20 +133,26 @@ early_named library words (Reading table count) e name other = by (bytes_eq name
         absurd (true≢false (sym (ap (λ b. b || is_listed (read_after library words) name) (ap (names_table (words_of words)) same ∙ e)) ∙ other))
 
 -- what pages that were shown come to
-module _ (files : Files) (words names : List (List ℕ)) (how : Mode) (plan : plan_for how (numbers_of (names_in (library_of files)) names) ≡ plan_of (library_of files) words) (has : HasFiles files names) where
-  shown_written : (failures : List Failure) → IsWritten (cut failures (library_of files)) (plan_of (library_of files) words) failures (with_failures failures (written (texts_named how files failures names) (work_named how files failures names)))
+module _ (files : Files) (words names : List (List ℕ)) (how : Mode)
+    (plan : plan_for how (numbers_of (names_in (library_of files)) names) ≡ plan_of (library_of files) words) (has : HasFiles files names) where
+  shown_written : (failures : List Failure) → IsWritten (cut failures (library_of files)) (plan_of (library_of files) words) failures
+      (with_failures failures (written (texts_named how files failures names) (work_named how files failures names)))
   shown_written failures =
       let library = cut failures (library_of files) in
-      is_written library (plan_of (library_of files) words) failures _ (ap (with_failures failures) (sym (written_named how failures files names has) ∙ ap (written_by library) plan))
+      is_written library (plan_of (library_of files) words) failures _
+      (ap (with_failures failures) (sym (written_named how failures files names has) ∙ ap (written_by library) plan))
 
-  shown_outcome : (failures : List Failure) → front_failed (library_of files) words failures ≡ false → IsOutcome failures failures (library_of files) words (with_failures failures (written (texts_named how files failures names) (work_named how files failures names)))
-  shown_outcome failures late = inr (late, subst (λ p. MayFailSo p failures) plan (may_fail how (numbers_of (names_in (library_of files)) names) failures), shown_written failures)
+  shown_outcome : (failures : List Failure) → front_failed (library_of files) words failures ≡ false
+      → IsOutcome failures failures (library_of files) words
+      (with_failures failures (written (texts_named how files failures names) (work_named how files failures names)))
+  shown_outcome failures late =
+      inr (late, subst (λ p. MayFailSo p failures) plan (may_fail how (numbers_of (names_in (library_of files)) names) failures), shown_written failures)
 
   -- a run that shows pages, up to its end
   pub runs_shown : (result : Result Shown Stop) (shown : Shown) (status : Status) (before mid after : Around)
       → mid ≡ before → Shows how files names result mid after → result ≡ Ok shown → status.0 ≡ status_shown shown → Runs files words (Ok status) before after
   runs_shown result shown status before mid after same shows ok is =
-      let s : Shows how files names (Ok shown) before after = subst (λ m. Shows how files names (Ok shown) m after) same (subst (λ r. Shows how files names r mid after) ok shows) in
+      let s = subst (λ m. Shows how files names (Ok shown) m after) same (subst (λ r. Shows how files names r mid after) ok shows) in
       let texts = written (texts_named how files s.added names) (work_named how files s.added names) in
       let read = read_names files words names how plan has in
       let late = not_front (library_of files) words names s.added read s.only s.reads in
@@ -152,7 +169,8 @@ module _ (files : Files) (words names : List (List ℕ)) (how : Mode) (plan : pl
         nothing = λ e. cc;
       }
 
-  not_folder : (fault : Stop) → (fault ≡ stop.Folder → ⊥) → (added : List Failure) (n : ℕ) → GoesOnFrom (Err fault) (library_of files) words added × EndsSo (Err fault) n
+  not_folder : (fault : Stop) → (fault ≡ stop.Folder → ⊥) → (added : List Failure) (n : ℕ)
+      → GoesOnFrom (Err fault) (library_of files) words added × EndsSo (Err fault) n
   not_folder stop.Folder h added n = absurd (h refl)
   not_folder stop.Sink h added n = (tt, tt)
   not_folder stop.Memory h added n = (tt, tt)
@@ -162,9 +180,10 @@ module _ (files : Files) (words names : List (List ℕ)) (how : Mode) (plan : pl
 
   -- a run that stops at a page
   pub runs_stopped : (pages : Result Shown Stop) (result : Result Status Stop) (fault : Stop) (before mid after : Around)
-      → mid ≡ before → Shows how files names pages mid after → pages ≡ Err fault → (fault ≡ stop.Folder → ⊥) → result ≡ Err fault → Runs files words result before after
+      → mid ≡ before → Shows how files names pages mid after → pages ≡ Err fault → (fault ≡ stop.Folder → ⊥) → result ≡ Err fault
+      → Runs files words result before after
   runs_stopped pages result fault before mid after same shows err other is =
-      let s : Shows how files names (Err fault) before after = subst (λ m. Shows how files names (Err fault) m after) same (subst (λ r. Shows how files names r mid after) err shows) in
+      let s = subst (λ m. Shows how files names (Err fault) m after) same (subst (λ r. Shows how files names r mid after) err shows) in
       let texts = written (texts_named how files s.added names) (work_named how files s.added names) in
       let read = read_names files words names how plan has in
       let late = not_front (library_of files) words names s.added read s.only s.reads in
@@ -183,7 +202,8 @@ module _ (files : Files) (words names : List (List ℕ)) (how : Mode) (plan : pl
 
 -- a run that is refused, or stops at its line
 pub runs_refused : (files : Files) (words : List (List ℕ)) (line : List ℕ) (result : Result Status Stop) (before after : Around)
-    → Refuses line ≡ plan_of (library_of files) words → after.failures ≡ before.failures → after.count ≡ before.count → GivesBoth result (to_report line) before.told after.told → IfOk result (λ status. status.0 ≡ 2) → (result ≡ Err stop.Folder → ⊥)
+    → Refuses line ≡ plan_of (library_of files) words → after.failures ≡ before.failures → after.count ≡ before.count
+    → GivesBoth result (to_report line) before.told after.told → IfOk result (λ status. status.0 ≡ 2) → (result ≡ Err stop.Folder → ⊥)
     → Runs files words result before after
 runs_refused files words line result before after plan same still gives status other =
     record {
@@ -192,7 +212,12 @@ runs_refused files words line result before after plan same still gives status o
       only = λ name other. refl;
       goes_on = by_result result other;
       written = refused_by line;
-      outcome = inr (refl, subst (λ p. MayFailSo p []) plan refl, is_written (cut [] (library_of files)) (plan_of (library_of files) words) [] (refused_by line) (ap (written_by (cut [] (library_of files))) plan));
+      outcome =
+          inr (
+            refl,
+            subst (λ p. MayFailSo p []) plan refl,
+            is_written (cut [] (library_of files)) (plan_of (library_of files) words) [] (refused_by line) (ap (written_by (cut [] (library_of files))) plan),
+          );
       puts = gives;
       status = by_status result status other;
       ticks = subst (λ n. Ticks result 0 before.count n) (sym still) (no_ticks result 0 before.count refl);
@@ -218,8 +243,10 @@ none_failed (Lists pages) = tt
 
 -- a run that stops before its pages
 pub runs_early : (files : Files) (words : List (List ℕ)) (front : Result Front Stop) (fault : Stop) (result : Result Status Stop) (before after : Around)
-    → front ≡ Err fault → StartsFor front words before.failures after.failures → after.told ≡ before.told → after.count ≡ before.count → result ≡ Err fault → Runs files words result before after
-runs_early files words front fault result before after e starts told still is = subst (λ x. Runs files words x before after) (sym is) (by fault (subst (λ x. StartsFor x words before.failures after.failures) e starts))
+    → front ≡ Err fault → StartsFor front words before.failures after.failures → after.told ≡ before.told → after.count ≡ before.count → result ≡ Err fault
+    → Runs files words result before after
+runs_early files words front fault result before after e starts told still is =
+    subst (λ x. Runs files words x before after) (sym is) (by fault (subst (λ x. StartsFor x words before.failures after.failures) e starts))
   where
     nothing_got : (puts : List Put) → GotPrefix puts before.told after.told
     nothing_got puts = subst (GotPrefix puts before.told) (sym told) (stops_first puts before.told)
@@ -266,14 +293,17 @@ same_added old new a b e f = cancel old a b (sym e ∙ f)
 abbrev pub outside_of : Around → Outside
 outside_of here = record { failures = here.failures ∷ []; told = here.told; counts = here.count ∷ [] }
 
-one_outcome : (files : Files) (words : List (List ℕ)) (added : List Failure) (w : Written) → IsOutcome added added (library_of files) words w → IsOutcome added (added ++ []) (library_of files) words w
+one_outcome : (files : Files) (words : List (List ℕ)) (added : List Failure) (w : Written) → IsOutcome added added (library_of files) words w
+    → IsOutcome added (added ++ []) (library_of files) words w
 one_outcome files words added w o = subst (λ l. IsOutcome added l (library_of files) words w) (sym (append-nil added)) o
 
-one_named : (files : Files) (words : List (List ℕ)) (added : List Failure) → NamesRead (library_of files) words added → NamesRead (library_of files) words (added ++ [])
+one_named : (files : Files) (words : List (List ℕ)) (added : List Failure) → NamesRead (library_of files) words added
+    → NamesRead (library_of files) words (added ++ [])
 one_named files words added o = subst (NamesRead (library_of files) words) (sym (append-nil added)) o
 
 -- a run that came to its end
-pub run_ended : (files : Files) (words : List (List ℕ)) (status : Status) (before after : Around) → Runs files words (Ok status) before after → Run files words status.0 (outside_of before) (outside_of after)
+pub run_ended : (files : Files) (words : List (List ℕ)) (status : Status) (before after : Around) → Runs files words (Ok status) before after
+    → Run files words status.0 (outside_of before) (outside_of after)
 run_ended files words status before after r = record {
   added = r.added ∷ [];
   each_folder = refl;
@@ -310,7 +340,8 @@ none_left [] rest e = sym e
 none_left (x ∷ part) rest e = cc
 
 -- a run that stopped
-pub run_stopped : (files : Files) (words : List (List ℕ)) (fault : Stop) (status : ℕ) (before after : Around) → status ≡ status_of fault → Runs files words (Err fault) before after → Run files words status (outside_of before) (outside_of after)
+pub run_stopped : (files : Files) (words : List (List ℕ)) (fault : Stop) (status : ℕ) (before after : Around) → status ≡ status_of fault
+    → Runs files words (Err fault) before after → Run files words status (outside_of before) (outside_of after)
 run_stopped files words fault status before after e r =
     let early : status < 4 → fault ≡ stop.Folder = λ below. is_folder fault (subst (λ n. n < 4) e below) in
     let none : status < 4 → (r.written.puts ≡ []) × (r.written.work ≡ 0) = λ below. r.nothing (ap Err (early below)) in
@@ -335,11 +366,14 @@ run_stopped files words fault status before after e r =
     }
 
 -- a run whose front failed doesn't come to its end
-pub front_stops : (files : Files) (words : List (List ℕ)) (status : Status) (before after : Around) (added : List Failure) → Runs files words (Ok status) before after → after.failures ≡ before.failures ++ added → front_failed (library_of files) words added ≡ true → ⊥
-front_stops files words status before after added r grown failed = true≢false (sym failed ∙ ap (front_failed (library_of files) words) (same_added before.failures after.failures added r.added grown r.grown) ∙ r.goes_on)
+pub front_stops : (files : Files) (words : List (List ℕ)) (status : Status) (before after : Around) (added : List Failure)
+    → Runs files words (Ok status) before after → after.failures ≡ before.failures ++ added → front_failed (library_of files) words added ≡ true → ⊥
+front_stops files words status before after added r grown failed =
+    true≢false (sym failed ∙ ap (front_failed (library_of files) words) (same_added before.failures after.failures added r.added grown r.grown) ∙ r.goes_on)
 
 -- words that ask for nothing of the folder are refused
-refused_alone : (asked : Result Command ℕ) (words : List (List ℕ)) → asks_no_folder asked ≡ true → (line : List ℕ) × (plan_by_words [] (named_files words) asked ≡ Refuses line)
+refused_alone : (asked : Result Command ℕ) (words : List (List ℕ)) → asks_no_folder asked ≡ true
+    → (line : List ℕ) × (plan_by_words [] (named_files words) asked ≡ Refuses line)
 refused_alone (Ok (command.Draw table pages)) words e = absurd (true≢false (sym e))
 refused_alone (Ok (command.Info pages)) words e = absurd (true≢false (sym e))
 refused_alone (Err number) words e = (words_line number, refl)
@@ -351,7 +385,8 @@ never_shown words how pages e plan = by how (plan ∙ (refused_alone (words_of w
     by (mode.Draw rows) e = cc
     by mode.Info e = cc
 
-pub starts_alone : (front : Result Front Stop) (words : List (List ℕ)) (before after : ℕ) → FolderStops front before after → (front ≡ Err stop.Folder → ⊥) → StartsFor front words [] []
+pub starts_alone : (front : Result Front Stop) (words : List (List ℕ)) (before after : ℕ) → FolderStops front before after → (front ≡ Err stop.Folder → ⊥)
+    → StartsFor front words [] []
 starts_alone (Ok value) words before after s other = refl
 starts_alone (Err stop.Folder) words before after s other = absurd (other refl)
 starts_alone (Err stop.Sink) words before after s other = s
@@ -360,4 +395,5 @@ starts_alone (Err stop.Memory) words before after s other = refl
 -- where nothing failed
 pub sound_outcome : (library : Library) (words : List (List ℕ)) (texts : Written) → IsOutcome [] [] library words texts → texts ≡ offline library words
 sound_outcome library words texts (inl early) = absurd (true≢false (sym early.0))
-sound_outcome library words texts (inr late) = written_is (cut [] library) (plan_of library words) [] texts late.2 ∙ ap (λ l. written_by l (plan_of library words)) (nothing_cut library)
+sound_outcome library words texts (inr late) =
+    written_is (cut [] library) (plan_of library words) [] texts late.2 ∙ ap (λ l. written_by l (plan_of library words)) (nothing_cut library)

@@ -48,7 +48,8 @@ not_other : (other : Bool) (count : ℕ) → (other || false) ≡ false → cond
 not_other true count e = absurd (true≢false e)
 not_other false count e = refl
 
-pub read_with : (files : Files) (name bytes : List ℕ) (end : FileEnd) (old new : List Failure) → IsReadTo end bytes (take file_limit (bytes_in files name)) name 0 old new → IsReadWith files name bytes end old new
+pub read_with : (files : Files) (name bytes : List ℕ) (end : FileEnd) (old new : List Failure)
+    → IsReadTo end bytes (take file_limit (bytes_in files name)) name 0 old new → IsReadWith files name bytes end old new
 read_with files name bytes file_end.Whole old new r = record {
   added = [];
   grown = r.1 ∙ sym (append-nil old);
@@ -65,13 +66,15 @@ read_with files name bytes file_end.Broken old new r =
       after = refl;
       only = λ other e. not_other (bytes_eq other name) (length bytes) e;
       file =
-          ap (λ t. cut_at (cond t (Some (length bytes)) None) (record { name = name; bytes = take file_limit (bytes_in files name); mark = Whole })) (same_name name)
+          ap (λ t. cut_at (cond t (Some (length bytes)) None) (record { name = name; bytes = take file_limit (bytes_in files name); mark = Whole }))
+          (same_name name)
           ∙ ap (λ b. let f : File = record { name = name; bytes = b; mark = Broken } in f) (sym r.0);
       broken = λ e. cc;
     }
 
 -- a page that was put, or a prefix of it
-pub shows_page : (mode : Mode) (files : Files) (name bytes : List ℕ) (end : FileEnd) (put : Result Bool Stop) (result : Result Shown Stop) (before after : Around)
+pub shows_page : (mode : Mode) (files : Files) (name bytes : List ℕ) (end : FileEnd) (put : Result Bool Stop) (result : Result Shown Stop)
+    (before after : Around)
     → IsReadWith files name bytes end before.failures after.failures
     → ((puts : List Put) → GivesBoth put puts before.told after.told → GivesBoth result puts before.told after.told)
     → GivesBoth put (texts_by mode (file_read name bytes end)).puts before.told after.told
@@ -86,7 +89,9 @@ shows_page mode files name bytes end put result before after w for_result gave t
       grown = w.grown;
       only = w.only;
       reads = w.after;
-      puts = puts_same result here.puts (texts_named mode files w.added (name ∷ [])).puts before.told after.told (sym (ap (λ (t : Texts). t.puts) texts ∙ append-nil here.puts)) (for_result here.puts gave);
+      puts =
+          puts_same result here.puts (texts_named mode files w.added (name ∷ [])).puts before.told after.told
+          (sym (ap (λ (t : Texts). t.puts) texts ∙ append-nil here.puts)) (for_result here.puts gave);
       ticks = ticks_of result (work_by mode (file_read name bytes end)) (work_named mode files w.added (name ∷ [])) before.count after.count (sym work) ticks;
       refused = by_refused result done;
       broken = by_broken result done;
@@ -100,16 +105,21 @@ shows_page mode files name bytes end put result before after w for_result gave t
     or_false true = refl
     or_false false = refl
 
-    by_refused : (result : Result Shown Stop) → IfOk result (λ shown. (shown.refused ≡ (texts_by mode (file_read name bytes end)).refused) × (shown.broken ≡ is_broken end)) → IfOk result (λ shown. shown.refused ≡ (texts_named mode files w.added (name ∷ [])).refused)
+    by_refused : (result : Result Shown Stop)
+        → IfOk result (λ shown. (shown.refused ≡ (texts_by mode (file_read name bytes end)).refused) × (shown.broken ≡ is_broken end))
+        → IfOk result (λ shown. shown.refused ≡ (texts_named mode files w.added (name ∷ [])).refused)
     by_refused (Ok shown) d = d.0 ∙ sym (ap (λ (t : Texts). t.refused) texts ∙ or_false (texts_by mode (file_read name bytes end)).refused)
     by_refused (Err stop) d = tt
 
-    by_broken : (result : Result Shown Stop) → IfOk result (λ shown. (shown.refused ≡ (texts_by mode (file_read name bytes end)).refused) × (shown.broken ≡ is_broken end)) → IfOk result (λ shown. HasBroken shown.broken w.added)
+    by_broken : (result : Result Shown Stop)
+        → IfOk result (λ shown. (shown.refused ≡ (texts_by mode (file_read name bytes end)).refused) × (shown.broken ≡ is_broken end))
+        → IfOk result (λ shown. HasBroken shown.broken w.added)
     by_broken (Ok shown) d = subst (λ b. HasBroken b w.added) (sym d.1) w.broken
     by_broken (Err stop) d = tt
 
 -- a page that wasn't read
-pub shows_nothing : (mode : Mode) (files : Files) (name : List ℕ) (result : Result Shown Stop) (before after : Around) → IsErr result → after ≡ before → Shows mode files (name ∷ []) result before after
+pub shows_nothing : (mode : Mode) (files : Files) (name : List ℕ) (result : Result Shown Stop) (before after : Around) → IsErr result → after ≡ before
+    → Shows mode files (name ∷ []) result before after
 shows_nothing mode files name (Ok drawn) before after is_err e = absurd (cc)
 shows_nothing mode files name (Err stop) before after is_err e = subst (λ a. Shows mode files (name ∷ []) (Err stop) before a) (sym e) (record {
   added = [];
@@ -123,11 +133,13 @@ shows_nothing mode files name (Err stop) before after is_err e = subst (λ a. Sh
 })
 
 -- a part that stops gives what it gave
-pub gives_err : (put : Result Bool Stop) (fault : Stop) (result : Result Shown Stop) → put ≡ Err fault → IsErr result → (before after : Sinks) (puts : List Put) → GivesBoth put puts before after → GivesBoth result puts before after
+pub gives_err : (put : Result Bool Stop) (fault : Stop) (result : Result Shown Stop) → put ≡ Err fault → IsErr result → (before after : Sinks) (puts : List Put)
+    → GivesBoth put puts before after → GivesBoth result puts before after
 gives_err put fault (Ok drawn) e is_err before after puts g = absurd (cc)
 gives_err put fault (Err stop) e is_err before after puts g = subst (λ p. GivesBoth p puts before after) e g
 
-pub gives_ok : (put : Result Bool Stop) (refused : Bool) (drawn : Shown) → put ≡ Ok refused → (before after : Sinks) (puts : List Put) → GivesBoth put puts before after → GivesBoth {T = Shown} (Ok drawn) puts before after
+pub gives_ok : (put : Result Bool Stop) (refused : Bool) (drawn : Shown) → put ≡ Ok refused → (before after : Sinks) (puts : List Put)
+    → GivesBoth put puts before after → GivesBoth {T = Shown} (Ok drawn) puts before after
 gives_ok put refused drawn e before after puts g = subst (λ p. GivesBoth p puts before after) e g
 
 pub done_err : (result : Result Shown Stop) (refused broken : Bool) → IsErr result → IfOk result (λ drawn. (drawn.refused ≡ refused) × (drawn.broken ≡ broken))
@@ -135,11 +147,13 @@ done_err (Ok drawn) refused broken is_err = absurd (cc)
 done_err (Err stop) refused broken is_err = tt
 
 -- the meter of a page, by that of its putting
-pub ticks_err : (put : Result Bool Stop) (fault : Stop) (result : Result Shown Stop) → put ≡ Err fault → IsErr result → (work before after : ℕ) → Ticks put work before after → Ticks result work before after
+pub ticks_err : (put : Result Bool Stop) (fault : Stop) (result : Result Shown Stop) → put ≡ Err fault → IsErr result → (work before after : ℕ)
+    → Ticks put work before after → Ticks result work before after
 ticks_err put fault (Ok drawn) e is_err work before after t = absurd (cc)
 ticks_err put fault (Err stop) e is_err work before after t = subst (λ p. Ticks p work before after) e t
 
-pub ticks_ok : (put : Result Bool Stop) (refused : Bool) (drawn : Shown) → put ≡ Ok refused → (work before after : ℕ) → Ticks put work before after → Ticks {T = Shown} (Ok drawn) work before after
+pub ticks_ok : (put : Result Bool Stop) (refused : Bool) (drawn : Shown) → put ≡ Ok refused → (work before after : ℕ) → Ticks put work before after
+    → Ticks {T = Shown} (Ok drawn) work before after
 ticks_ok put refused drawn e work before after t = subst (λ p. Ticks p work before after) e t
 
 lines_same : (name : List ℕ) (notices : List Notice) → lines_told name (map drawn notices) ≡ lines_of name notices
@@ -147,7 +161,8 @@ lines_same name [] = refl
 lines_same name (notice ∷ notices) = ap (λ l. notice_line name notice.chunks (sum_of notice.layers) ++ l) (lines_same name notices)
 
 -- the texts of a page that is drawn, by what was found in it
-pub drawn_texts : (rows : List Row) (name bytes : List ℕ) (end : FileEnd) (found : PageReading) → IsReading (reading rows (mark_of end) bytes) found → texts_found name found ≡ texts_by (mode.Draw rows) (file_read name bytes end)
+pub drawn_texts : (rows : List Row) (name bytes : List ℕ) (end : FileEnd) (found : PageReading) → IsReading (reading rows (mark_of end) bytes) found
+    → texts_found name found ≡ texts_by (mode.Draw rows) (file_read name bytes end)
 drawn_texts rows name bytes end found r =
     let wanted : PageResult = reading rows (mark_of end) bytes in
     let names : List (List ℕ) = name ∷ [] in

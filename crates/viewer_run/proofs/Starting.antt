@@ -27,7 +27,8 @@ use Rattle.djvu_outside.specs.declared.stops.Stop.TheVariants as stop
 use Rattle.viewer_words.specs.declared.commands.Command.TheVariants as command
 use Rattle.viewer_words.specs.Words.{words_of}
 
-one_listed : (files : Files) (name : List ℕ) (bytes : List ℕ) (t : Bool) → (is_listed (names_of files) name ≡ true → HasFile files name) → (t || is_listed (names_of files) name) ≡ true → IsSome (cond t (Some bytes) (contents_of name files))
+one_listed : (files : Files) (name : List ℕ) (bytes : List ℕ) (t : Bool) → (is_listed (names_of files) name ≡ true → HasFile files name)
+    → (t || is_listed (names_of files) name) ≡ true → IsSome (cond t (Some bytes) (contents_of name files))
 one_listed files name bytes true more h = refl
 one_listed files name bytes false more h = more h
 
@@ -42,15 +43,18 @@ all_listed files [] e = tt
 all_listed files (file ∷ named) e = by (is_listed (names_of files) file.1) refl e (all_listed files named)
   where
     by : (t : Bool) → is_listed (names_of files) file.1 ≡ t → cond t (first_unlisted (names_of files) named) (Some file.0) ≡ None
-        → (first_unlisted (names_of files) named ≡ None → HasFiles files (map (λ (other : NamedFile). other.1) named)) → HasFile files file.1 × HasFiles files (map (λ (other : NamedFile). other.1) named)
+        → (first_unlisted (names_of files) named ≡ None → HasFiles files (map (λ (other : NamedFile). other.1) named))
+        → HasFile files file.1 × HasFiles files (map (λ (other : NamedFile). other.1) named)
     by true h e more = (listed_file files file.1 h, more e)
     by false h e more = cc
 
-by_first : (files : Files) (named : List NamedFile) (o : Option ℕ) → first_unlisted (names_of files) named ≡ o → CanStart files (map (λ (file : NamedFile). file.1) named) (option_map words_line o)
+by_first : (files : Files) (named : List NamedFile) (o : Option ℕ) → first_unlisted (names_of files) named ≡ o
+    → CanStart files (map (λ (file : NamedFile). file.1) named) (option_map words_line o)
 by_first files named (Some number) e = tt
 by_first files named None e = all_listed files named e
 
-by_many : (files : Files) (named : List NamedFile) (line : List ℕ) (many : Bool) → CanStart files (map (λ (file : NamedFile). file.1) named) (cond many (Some line) (unlisted_line (names_of files) named))
+by_many : (files : Files) (named : List NamedFile) (line : List ℕ) (many : Bool)
+    → CanStart files (map (λ (file : NamedFile). file.1) named) (cond many (Some line) (unlisted_line (names_of files) named))
 by_many files named line true = tt
 by_many files named line false = by_first files named (first_unlisted (names_of files) named) refl
 
@@ -58,7 +62,8 @@ pub can_start : (files : Files) (named : List NamedFile) → CanStart files (map
 can_start files named = by_many files named (folder_line (length (names_of files))) (ltb name_limit (length (names_of files)))
 
 -- the table's file and the pages of a drawing
-pub has_both : (files : Files) (table : TableChoice) (pages names : List (List ℕ)) → names ≡ table_before table pages → HasFiles files names → CanRead files table × HasFiles files pages
+pub has_both : (files : Files) (table : TableChoice) (pages names : List (List ℕ)) → names ≡ table_before table pages → HasFiles files names
+    → CanRead files table × HasFiles files pages
 has_both files choice.Djvu pages names e h = (tt, subst (HasFiles files) e h)
 has_both files choice.Flat pages names e h = (tt, subst (HasFiles files) e h)
 has_both files (choice.File name) pages names e h = let both = subst (HasFiles files) e h in (both.0, both.1)
@@ -73,7 +78,8 @@ bytes_found limit [] name = sym (take_all limit [] (omega arith))
 bytes_found limit (file ∷ files) name = by (bytes_eq name file.0) (bytes_found limit files name)
   where
     by : (t : Bool) → bytes_of_found (file_named name (library_within limit files)) ≡ take limit (bytes_in files name)
-        → bytes_of_found (cond t (Some (record { name = file.0; bytes = take limit file.1; mark = Whole })) (file_named name (library_within limit files))) ≡ take limit (unwrap_or (cond t (Some file.1) (contents_of name files)) [])
+        → bytes_of_found (cond t (Some (record { name = file.0; bytes = take limit file.1; mark = Whole })) (file_named name (library_within limit files)))
+        ≡ take limit (unwrap_or (cond t (Some file.1) (contents_of name files)) [])
     by true h = refl
     by false h = h
 
@@ -82,11 +88,13 @@ pub table_found : (files : Files) (name : List ℕ) → table_of (library_of fil
 table_found files name = ap table_in (bytes_found file_limit files name)
 
 -- a reading that failed, and one that didn't
-pub broken_read : (end : FileEnd) (bytes content name : List ℕ) (position : ℕ) (old new : List Failure) → is_broken end ≡ true → IsReadTo end bytes content name position old new → (entry : Failure) × (new ≡ old ++ entry ∷ []) × IsEarly (choice.File name) entry
+pub broken_read : (end : FileEnd) (bytes content name : List ℕ) (position : ℕ) (old new : List Failure) → is_broken end ≡ true
+    → IsReadTo end bytes content name position old new → (entry : Failure) × (new ≡ old ++ entry ∷ []) × IsEarly (choice.File name) entry
 broken_read file_end.Whole bytes content name position old new e r = absurd (true≢false (sym e))
 broken_read file_end.Broken bytes content name position old new e r = (Reading name (position + length bytes), r.1, (bytes_eq-Decides name name).1 refl)
 
-pub whole_read : (end : FileEnd) (bytes content name : List ℕ) (position : ℕ) (old new : List Failure) → is_broken end ≡ false → IsReadTo end bytes content name position old new → new ≡ old
+pub whole_read : (end : FileEnd) (bytes content name : List ℕ) (position : ℕ) (old new : List Failure) → is_broken end ≡ false
+    → IsReadTo end bytes content name position old new → new ≡ old
 whole_read file_end.Whole bytes content name position old new e r = r.1
 whole_read file_end.Broken bytes content name position old new e r = absurd (true≢false e)
 
@@ -106,7 +114,8 @@ are_distinct (page ∷ pages) h = (
 )
 
 -- failures of the listing and of the table, by the words
-pub starts_draw : {T : Type 0} (result : Result T Stop) (words pages : List (List ℕ)) (table : TableChoice) (old new : List Failure) → words_of words ≡ Ok (command.Draw table pages) → Starts result table old new → StartsFor result words old new
+pub starts_draw : {T : Type 0} (result : Result T Stop) (words pages : List (List ℕ)) (table : TableChoice) (old new : List Failure)
+    → words_of words ≡ Ok (command.Draw table pages) → Starts result table old new → StartsFor result words old new
 starts_draw (Ok value) words pages table old new e s = s
 starts_draw (Err stop.Folder) words pages table old new e s = (s.0, s.1, by s.0 s.2)
   where
@@ -116,7 +125,8 @@ starts_draw (Err stop.Folder) words pages table old new e s = (s.0, s.1, by s.0 
 starts_draw (Err stop.Sink) words pages table old new e s = s
 starts_draw (Err stop.Memory) words pages table old new e s = s
 
-pub starts_info : {T : Type 0} (result : Result T Stop) (words : List (List ℕ)) (old new : List Failure) → Starts result choice.Djvu old new → StartsFor result words old new
+pub starts_info : {T : Type 0} (result : Result T Stop) (words : List (List ℕ)) (old new : List Failure) → Starts result choice.Djvu old new
+    → StartsFor result words old new
 starts_info (Ok value) words old new s = s
 starts_info (Err stop.Folder) words old new s = (s.0, s.1, by s.0 s.2)
   where

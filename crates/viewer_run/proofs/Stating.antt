@@ -27,7 +27,8 @@ none_or : (a b : Bool) → a ≡ false → b ≡ false → (a || b) ≡ false
 none_or a b e f = ap (λ x. x || b) e ∙ f
 
 -- pages of which none is refused
-module _ (texts : ℕ → Texts) (IsShown : ℕ → Type 0) (shown : (page : ℕ) → (texts page).refused ≡ false → IsShown page) (back : (page : ℕ) → IsShown page → (texts page).refused ≡ false) where
+module _ (texts : ℕ → Texts) (IsShown : ℕ → Type 0) (shown : (page : ℕ) → (texts page).refused ≡ false → IsShown page)
+    (back : (page : ℕ) → IsShown page → (texts page).refused ≡ false) where
   all_shown : (pages : List ℕ) → (texts_of_pages texts pages).refused ≡ false → AllPages IsShown pages
   all_shown [] e = tt
   all_shown (page ∷ pages) e = let both = or_none (texts page).refused (texts_of_pages texts pages).refused e in (shown page both.0, all_shown pages both.1)
@@ -53,11 +54,13 @@ whole_files limit (first ∷ files) (suc page) file e = whole_files limit files 
 
 module _ (is_finished : (rows : List Row) (mark : Mark) (bytes : List ℕ) → (reading rows mark bytes).end ≡ Finished → (reading rows mark bytes).notices ≢ [])
     (is_known : (rows : List Row) (mark : Mark) (bytes : List ℕ) → mark ≢ Open → (reading rows mark bytes).end ≢ NeedBytes) where
-  page_drawn : (rows : List Row) (files : Files) (page : ℕ) → (texts_of_page rows (library_of files) page).refused ≡ false → PageIsDrawn rows (library_of files) page
+  page_drawn : (rows : List Row) (files : Files) (page : ℕ) → (texts_of_page rows (library_of files) page).refused ≡ false
+      → PageIsDrawn rows (library_of files) page
   page_drawn rows files page refused file found =
       let whole = whole_files file_limit files page file found in
       let known : file.mark ≢ Open = λ is_open. let both = sym whole ∙ is_open in cc in
-      let here : is_refused (reading rows file.mark file.bytes).end ≡ false = ap (λ f. (texts_of_found rows (names_in (library_of files)) page f).refused) (sym found) ∙ refused in
+      let here : is_refused (reading rows file.mark file.bytes).end ≡ false =
+      ap (λ f. (texts_of_found rows (names_in (library_of files)) page f).refused) (sym found) ∙ refused in
       drawn_by (reading rows file.mark file.bytes) (is_finished rows file.mark file.bytes) (is_known rows file.mark file.bytes known) here
 
 drawn_unrefused : (rows : List Row) (library : Library) (page : ℕ) → PageIsDrawn rows library page → (texts_of_page rows library page).refused ≡ false
@@ -81,8 +84,10 @@ listed_by whole (Broken kind offset) e = absurd (true≢false e)
 page_listed : (files : Files) (page : ℕ) → (info_of_page (library_of files) page).refused ≡ false → PageIsListed (library_of files) page
 page_listed files page refused file found =
     let whole = whole_files file_limit files page file found in
-    let here : has_fault (file_end file.mark file.bytes) ≡ false = ap (λ f. (info_of_found (names_in (library_of files)) page f).refused) (sym found) ∙ refused in
-    ap (λ m. file_end m file.bytes) whole ∙ listed_by (chunks_of file.bytes).whole (chunks_of file.bytes).tail (ap (λ m. has_fault (file_end m file.bytes)) (sym whole) ∙ here)
+    let here : has_fault (file_end file.mark file.bytes) ≡ false =
+    ap (λ f. (info_of_found (names_in (library_of files)) page f).refused) (sym found) ∙ refused in
+    ap (λ m. file_end m file.bytes) whole
+    ∙ listed_by (chunks_of file.bytes).whole (chunks_of file.bytes).tail (ap (λ m. has_fault (file_end m file.bytes)) (sym whole) ∙ here)
 
 listed_unrefused : (library : Library) (page : ℕ) → PageIsListed library page → (info_of_page library page).refused ≡ false
 listed_unrefused library page h = by (slice_get library page) refl
@@ -94,14 +99,19 @@ listed_unrefused library page h = by (slice_get library page) refl
 -- 0 exactly where all pages are shown
 pub done : ((rows : List Row) (mark : Mark) (bytes : List ℕ) → (reading rows mark bytes).end ≡ Finished → (reading rows mark bytes).notices ≢ [])
     → ((rows : List Row) (mark : Mark) (bytes : List ℕ) → mark ≢ Open → (reading rows mark bytes).end ≢ NeedBytes)
-    → (files : Files) (words : List (List ℕ)) (w : Written) → IsOutcome [] [] (library_of files) words w → (w.status ≡ 0) ↔ AllShown (library_of files) (plan_of (library_of files) words)
+    → (files : Files) (words : List (List ℕ)) (w : Written) → IsOutcome [] [] (library_of files) words w
+    → (w.status ≡ 0) ↔ AllShown (library_of files) (plan_of (library_of files) words)
 done is_finished is_known files words w outcome =
-    subst (λ (v : Written). (v.status ≡ 0) ↔ AllShown (library_of files) (plan_of (library_of files) words)) (sym (sound_outcome (library_of files) words w outcome)) (by (plan_of (library_of files) words))
+    subst (λ (v : Written). (v.status ≡ 0) ↔ AllShown (library_of files) (plan_of (library_of files) words))
+    (sym (sound_outcome (library_of files) words w outcome)) (by (plan_of (library_of files) words))
   where
     by : (plan : Plan) → ((written_by (library_of files) plan).status ≡ 0) ↔ AllShown (library_of files) plan
     by (Refuses line) = (λ e. cc, λ h. absurd h)
-    by (Draws rows pages) = by_status (texts_of_page rows (library_of files)) (PageIsDrawn rows (library_of files)) (page_drawn is_finished is_known rows files) (drawn_unrefused rows (library_of files)) pages
-    by (Lists pages) = by_status (info_of_page (library_of files)) (PageIsListed (library_of files)) (page_listed files) (listed_unrefused (library_of files)) pages
+    by (Draws rows pages) =
+        by_status (texts_of_page rows (library_of files)) (PageIsDrawn rows (library_of files)) (page_drawn is_finished is_known rows files)
+        (drawn_unrefused rows (library_of files)) pages
+    by (Lists pages) =
+        by_status (info_of_page (library_of files)) (PageIsListed (library_of files)) (page_listed files) (listed_unrefused (library_of files)) pages
 
 no_two : (refused : Bool) → status_by refused ≡ 2 → ⊥
 no_two true e = cc
@@ -117,31 +127,41 @@ status_sound library (Draws rows pages) e = no_three (texts_of_pages (texts_of_p
 status_sound library (Lists pages) e = no_three (texts_of_pages (info_of_page library) pages).refused e
 
 -- 3 exactly where something failed
-pub failed : (first all : List Failure) (library : Library) (words : List (List ℕ)) (w : Written) → IsOutcome first all library words w → (w.status ≡ 3) ↔ (all ≢ [])
+pub failed : (first all : List Failure) (library : Library) (words : List (List ℕ)) (w : Written) → IsOutcome first all library words w
+    → (w.status ≡ 3) ↔ (all ≢ [])
 failed first all library words w (inl early) = (λ e none. let both = sym early.1.1 ∙ none in cc, λ some. ap (λ (v : Written). v.status) early.2)
 failed first all library words w (inr late) = by all (written_is (cut all library) (plan_of library words) all w late.2)
   where
     by : (all : List Failure) → w ≡ with_failures all (written_by (cut all library) (plan_of library words)) → (w.status ≡ 3) ↔ (all ≢ [])
-    by [] e = (λ three. absurd (status_sound (cut [] library) (plan_of library words) (ap (λ (v : Written). v.status) (sym e) ∙ three)), λ some. absurd (some refl))
+    by [] e =
+        (λ three. absurd (status_sound (cut [] library) (plan_of library words) (ap (λ (v : Written). v.status) (sym e) ∙ three)), λ some. absurd (some refl))
     by (entry ∷ entries) e = (λ three none. cc, λ some. ap (λ (v : Written). v.status) e)
 
 -- 2 exactly where the run is refused, and nothing failed
-pub refused : (first all : List Failure) (library : Library) (words : List (List ℕ)) (w : Written) → IsOutcome first all library words w → (w.status ≡ 2) ↔ ((all ≡ []) × IsRefused (plan_of library words))
-refused first all library words w (inl early) = (λ two. let both = sym two ∙ ap (λ (v : Written). v.status) early.2 in cc, λ h. let both = sym early.1.1 ∙ h.0 in cc)
+pub refused : (first all : List Failure) (library : Library) (words : List (List ℕ)) (w : Written) → IsOutcome first all library words w
+    → (w.status ≡ 2) ↔ ((all ≡ []) × IsRefused (plan_of library words))
+refused first all library words w (inl early) =
+    (λ two. let both = sym two ∙ ap (λ (v : Written). v.status) early.2 in cc, λ h. let both = sym early.1.1 ∙ h.0 in cc)
 refused first all library words w (inr late) = by all (plan_of library words) (written_is (cut all library) (plan_of library words) all w late.2)
   where
     by : (all : List Failure) (plan : Plan) → w ≡ with_failures all (written_by (cut all library) plan) → (w.status ≡ 2) ↔ ((all ≡ []) × IsRefused plan)
     by [] (Refuses line) e = (λ two. (refl, tt), λ h. ap (λ (v : Written). v.status) e)
-    by [] (Draws rows pages) e = (λ two. absurd (no_two (texts_of_pages (texts_of_page rows (cut [] library)) pages).refused (ap (λ (v : Written). v.status) (sym e) ∙ two)), λ h. absurd h.1)
-    by [] (Lists pages) e = (λ two. absurd (no_two (texts_of_pages (info_of_page (cut [] library)) pages).refused (ap (λ (v : Written). v.status) (sym e) ∙ two)), λ h. absurd h.1)
+    by [] (Draws rows pages) e = (
+      λ two. absurd (no_two (texts_of_pages (texts_of_page rows (cut [] library)) pages).refused (ap (λ (v : Written). v.status) (sym e) ∙ two)),
+      λ h. absurd h.1,
+    )
+    by [] (Lists pages) e =
+        (λ two. absurd (no_two (texts_of_pages (info_of_page (cut [] library)) pages).refused (ap (λ (v : Written). v.status) (sym e) ∙ two)), λ h. absurd h.1)
     by (entry ∷ entries) plan e = (λ two. let both = sym two ∙ ap (λ (v : Written). v.status) e in cc, λ h. let none = h.0 in cc)
 
 -- one outcome, where it is known whether the front failed
-pub one : (first all : List Failure) (library : Library) (words : List (List ℕ)) (a b : Written) → front_may_fail words first ≡ front_failed library words first → IsOutcome first all library words a → IsOutcome first all library words b → a ≡ b
+pub one : (first all : List Failure) (library : Library) (words : List (List ℕ)) (a b : Written) → front_may_fail words first ≡ front_failed library words first
+    → IsOutcome first all library words a → IsOutcome first all library words b → a ≡ b
 one first all library words a b same (inl x) (inl y) = x.2 ∙ sym y.2
 one first all library words a b same (inl x) (inr y) = absurd (true≢false (sym x.0 ∙ same ∙ y.0))
 one first all library words a b same (inr x) (inl y) = absurd (true≢false (sym y.0 ∙ same ∙ x.0))
-one first all library words a b same (inr x) (inr y) = written_is (cut all library) (plan_of library words) all a x.2 ∙ sym (written_is (cut all library) (plan_of library words) all b y.2)
+one first all library words a b same (inr x) (inr y) =
+    written_is (cut all library) (plan_of library words) all a x.2 ∙ sym (written_is (cut all library) (plan_of library words) all b y.2)
 
 least : (refused : Bool) → status_by refused ≤ 3
 least true = omega arith

@@ -13,7 +13,8 @@ pub only_ticks : {T : Type 0} (result : Result T Stop) (work before after : ℕ)
 only_ticks (Ok value) work before after t = (work, t)
 only_ticks (Err stop) work before after t = (t.0, t.2)
 
-pub only_both : (before mid after : ℕ) → (ticks : ℕ) × TicksExactly ticks before mid → (ticks : ℕ) × TicksExactly ticks mid after → (ticks : ℕ) × TicksExactly ticks before after
+pub only_both : (before mid after : ℕ) → (ticks : ℕ) × TicksExactly ticks before mid → (ticks : ℕ) × TicksExactly ticks mid after
+    → (ticks : ℕ) × TicksExactly ticks before after
 only_both before mid after a b = (a.0 + b.0, ticks_both a.0 b.0 before mid after a.1 b.1)
 
 pub only_none : (before after : ℕ) → after ≡ before → (ticks : ℕ) × TicksExactly ticks before after

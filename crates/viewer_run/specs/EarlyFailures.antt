@@ -42,4 +42,5 @@ front_failed library words (Reading name count ∷ failures) = names_table (word
 
 -- a reading that failed is that of the table, or of a file that is read after it
 abbrev pub NamesRead : Library → List (List ℕ) → List Failure → Type 0
-NamesRead library words failures = (name : List ℕ) → (names_table (words_of words) name || is_listed (read_after library words) name) ≡ false → first_entry failures name ≡ None
+NamesRead library words failures =
+    (name : List ℕ) → (names_table (words_of words) name || is_listed (read_after library words) name) ≡ false → first_entry failures name ≡ None

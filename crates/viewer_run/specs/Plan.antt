@@ -69,7 +69,8 @@ plan_by_table (Err fault) pages = Refuses (table_line fault.row (word_of fault.w
 
 -- the table is read where nothing else refuses the run
 abbrev pub plan_of_draw : Library → List NamedFile → TableChoice → List (List ℕ) → Plan
-plan_of_draw library files table pages = refused_or (line_by_names (names_in library) files) (plan_by_table (table_of library table) (numbers_of (names_in library) pages))
+plan_of_draw library files table pages =
+    refused_or (line_by_names (names_in library) files) (plan_by_table (table_of library table) (numbers_of (names_in library) pages))
 
 -- no table is chosen
 abbrev pub plan_of_info : Library → List NamedFile → List (List ℕ) → Plan

@@ -46,14 +46,16 @@ pub fn find_front<F: Folder>(
     words: &[Items<u8>],
     folder: &mut F,
 ) -> Result<Front, Stop>
-    ensures told { (told : Files) → F.files folder.old ≡ Some told → IfOk result (λ front. plan_by (names_in (library_of told)) front ≡ plan_of (library_of told) words.now) }
+    ensures told { (told : Files) → F.files folder.old ≡ Some told
+        → IfOk result (λ front. plan_by (names_in (library_of told)) front ≡ plan_of (library_of told) words.now) }
     ensures failure { (told : Files) → F.files folder.old ≡ Some told → StartsFor result words.now (F.failures folder.old) (F.failures folder.new) }
     ensures can_show { (told : Files) → F.files folder.old ≡ Some told → IfOk result (λ front. CanShow told front) }
     ensures each_once { IfOk result ShowsEachOnce }
     ensures reads_none { draws (words_of words.now) ≡ false → IfOk result ReadsNone }
     ensures stops { FolderStops result (F.faults folder.old) (F.faults folder.new) }
     ensures same_files { F.files folder.new ≡ F.files folder.old }
-    ensures alone { asks_no_folder (words_of words.now) ≡ true → (folder.new ≡ folder.old) × (result ≢ Err Stop.Folder) × IfOk result (λ front. plan_by [] front ≡ plan_of [] words.now) }
+    ensures alone { asks_no_folder (words_of words.now) ≡ true
+        → (folder.new ≡ folder.old) × (result ≢ Err Stop.Folder) × IfOk result (λ front. plan_by [] front ≡ plan_of [] words.now) }
 {
     viewer_words::laws::named_files_are_words();
     match read_words(alloc, words) {
@@ -76,7 +78,8 @@ fn front_of_draw<F: Folder>(
 ) -> Result<Front, Stop>
     requires distinct { AreDistinct pages }
     requires named { map (λ file. file.1) (named_files words.now) ≡ table_before table.now pages }
-    ensures told { (told : Files) → F.files folder.old ≡ Some told → IfOk result (λ front. plan_by (names_in (library_of told)) front ≡ plan_of_draw (library_of told) (named_files words.now) table.now pages) }
+    ensures told { (told : Files) → F.files folder.old ≡ Some told
+        → IfOk result (λ front. plan_by (names_in (library_of told)) front ≡ plan_of_draw (library_of told) (named_files words.now) table.now pages) }
     ensures failure { (told : Files) → F.files folder.old ≡ Some told → Starts result table.now (F.failures folder.old) (F.failures folder.new) }
     ensures can_show { (told : Files) → F.files folder.old ≡ Some told → IfOk result (λ front. CanShow told front) }
     ensures each_once { IfOk result ShowsEachOnce }
@@ -107,7 +110,8 @@ fn front_of_info<F: Folder>(
 ) -> Result<Front, Stop>
     requires distinct { AreDistinct pages }
     requires named { map (λ file. file.1) (named_files words.now) ≡ pages }
-    ensures told { (told : Files) → F.files folder.old ≡ Some told → IfOk result (λ front. plan_by (names_in (library_of told)) front ≡ plan_of_info (library_of told) (named_files words.now) pages) }
+    ensures told { (told : Files) → F.files folder.old ≡ Some told
+        → IfOk result (λ front. plan_by (names_in (library_of told)) front ≡ plan_of_info (library_of told) (named_files words.now) pages) }
     ensures failure { (told : Files) → F.files folder.old ≡ Some told → Starts result TableChoice.Djvu (F.failures folder.old) (F.failures folder.new) }
     ensures can_show { (told : Files) → F.files folder.old ≡ Some told → IfOk result (λ front. CanShow told front) }
     ensures each_once { IfOk result ShowsEachOnce }
@@ -130,9 +134,12 @@ fn refusal<F: Folder>(
     words: &[Items<u8>],
     folder: &mut F,
 ) -> Result<Option<Items<u8>>, Stop>
-    ensures told { (told : Files) → F.files folder.old ≡ Some told → IfOk result (λ line. line ≡ line_by_names (names_in (library_of told)) (named_files words.now)) }
-    ensures failure { (told : Files) (table : TableChoice) → F.files folder.old ≡ Some told → Starts result table (F.failures folder.old) (F.failures folder.new) }
-    ensures can_start { (told : Files) → F.files folder.old ≡ Some told → IfOk result (λ line. CanStart told (map (λ file. file.1) (named_files words.now)) line) }
+    ensures told { (told : Files) → F.files folder.old ≡ Some told
+        → IfOk result (λ line. line ≡ line_by_names (names_in (library_of told)) (named_files words.now)) }
+    ensures failure { (told : Files) (table : TableChoice) → F.files folder.old ≡ Some told
+        → Starts result table (F.failures folder.old) (F.failures folder.new) }
+    ensures can_start { (told : Files) → F.files folder.old ≡ Some told
+        → IfOk result (λ line. CanStart told (map (λ file. file.1) (named_files words.now)) line) }
     ensures stops { FolderStops result (F.faults folder.old) (F.faults folder.new) }
     ensures same_files { F.files folder.new ≡ F.files folder.old }
 {

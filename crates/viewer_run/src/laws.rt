@@ -29,11 +29,16 @@ pub fn sound_folders()
 /// nothing failed, it is 0 exactly where the run is accepted and each page has a drawing, or each file that is listed ends
 /// with its FORM; else it is 1 or 2. Where it is known whether the listing or the table failed, there is one outcome.
 pub fn statuses_tell()
-    ensures failed { (first all : List Failure) (library : Library) (words : List (List ℕ)) (texts : Written) → IsOutcome first all library words texts → (texts.status ≡ 3) ↔ (all ≢ []) }
-    ensures refused { (first all : List Failure) (library : Library) (words : List (List ℕ)) (texts : Written) → IsOutcome first all library words texts → (texts.status ≡ 2) ↔ ((all ≡ []) × IsRefused (plan_of library words)) }
-    ensures done { (files : Files) (words : List (List ℕ)) (texts : Written) → IsOutcome [] [] (library_of files) words texts → (texts.status ≡ 0) ↔ AllShown (library_of files) (plan_of (library_of files) words) }
-    ensures below { (first all : List Failure) (library : Library) (words : List (List ℕ)) (texts : Written) → IsOutcome first all library words texts → texts.status ≤ 3 }
-    ensures one { (first all : List Failure) (library : Library) (words : List (List ℕ)) (texts others : Written) → front_may_fail words first ≡ front_failed library words first →
+    ensures failed { (first all : List Failure) (library : Library) (words : List (List ℕ)) (texts : Written) → IsOutcome first all library words texts
+        → (texts.status ≡ 3) ↔ (all ≢ []) }
+    ensures refused { (first all : List Failure) (library : Library) (words : List (List ℕ)) (texts : Written) → IsOutcome first all library words texts
+        → (texts.status ≡ 2) ↔ ((all ≡ []) × IsRefused (plan_of library words)) }
+    ensures done { (files : Files) (words : List (List ℕ)) (texts : Written) → IsOutcome [] [] (library_of files) words texts
+        → (texts.status ≡ 0) ↔ AllShown (library_of files) (plan_of (library_of files) words) }
+    ensures below { (first all : List Failure) (library : Library) (words : List (List ℕ)) (texts : Written) → IsOutcome first all library words texts
+        → texts.status ≤ 3 }
+    ensures one { (first all : List Failure) (library : Library) (words : List (List ℕ)) (texts others : Written)
+        → front_may_fail words first ≡ front_failed library words first →
         IsOutcome first all library words texts → IsOutcome first all library words others → texts ≡ others }
 {
     page_decoder::laws::ends();
@@ -50,7 +55,8 @@ pub fn others_have_no_work()
 pub fn unrefused_pages_are_drawn()
     ensures { (rows : List Row) (names : List (List ℕ)) (page : ℕ) (file : File) → file.mark ≢ Open → (texts_of_file rows names page file).refused ≡ false →
         (layers : Layers) × (last_layers (reading rows file.mark file.bytes).notices ≡ Some layers)
-        × ((texts_of_file rows names page file).puts ≡ to_report (lines_of (name_at names page) (reading rows file.mark file.bytes).notices) ++ to_out (raster_text layers)) }
+        × ((texts_of_file rows names page file).puts
+        ≡ to_report (lines_of (name_at names page) (reading rows file.mark file.bytes).notices) ++ to_out (raster_text layers)) }
 {
     page_decoder::laws::ends();
 }

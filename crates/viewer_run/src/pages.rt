@@ -65,7 +65,8 @@ fn show_page<F: Folder, S: Sink, E: Sink, M: Meter>(
 ) -> Result<Shown, Stop>
     requires { (told : Files) → F.files folder.old ≡ Some told → HasFile told page.now }
     ensures told { (told : Files) → F.files folder.old ≡ Some told →
-        Shows mode.now told (page.now ∷ []) result (around (F.failures folder.old) (S.given out.old) (E.given report.old) (M.count meter.old)) (around (F.failures folder.new) (S.given out.new) (E.given report.new) (M.count meter.new)) }
+        Shows mode.now told (page.now ∷ []) result (around (F.failures folder.old) (S.given out.old) (E.given report.old) (M.count meter.old))
+        (around (F.failures folder.new) (S.given out.new) (E.given report.new) (M.count meter.new)) }
     ensures counts { PagesCount result (F.faults folder.old) (F.faults folder.new) }
     ensures sinks_end { SinksEnd result (S.faults out.old) (S.faults out.new) (E.faults report.old) (E.faults report.new) }
     ensures no_folder { NeverFolder result }
@@ -92,7 +93,8 @@ fn put_file<S: Sink, E: Sink, M: Meter>(
     meter: &mut M,
 ) -> Result<bool, Stop>
     requires { vec_len file.now.bytes < 2 ^ 32 }
-    ensures puts { GivesBoth result (texts_by mode.now (file_read page.now file.now.bytes.items file.now.end)).puts (sinks (S.given out.old) (E.given report.old)) (sinks (S.given out.new) (E.given report.new)) }
+    ensures puts { GivesBoth result (texts_by mode.now (file_read page.now file.now.bytes.items file.now.end)).puts
+        (sinks (S.given out.old) (E.given report.old)) (sinks (S.given out.new) (E.given report.new)) }
     ensures refused { IfOk result (λ refused. refused ≡ (texts_by mode.now (file_read page.now file.now.bytes.items file.now.end)).refused) }
     ensures ticks { Ticks result (work_by mode.now (file_read page.now file.now.bytes.items file.now.end)) (M.count meter.old) (M.count meter.new) }
     ensures sinks_end { SinksEnd result (S.faults out.old) (S.faults out.new) (E.faults report.old) (E.faults report.new) }
@@ -116,9 +118,11 @@ fn put_drawn<S: Sink, E: Sink, M: Meter>(
     meter: &mut M,
 ) -> Result<bool, Stop>
     requires { vec_len file.now.bytes < 2 ^ 32 }
-    ensures puts { GivesBoth result (texts_by (Mode.Draw table.now) (file_read page.now file.now.bytes.items file.now.end)).puts (sinks (S.given out.old) (E.given report.old)) (sinks (S.given out.new) (E.given report.new)) }
+    ensures puts { GivesBoth result (texts_by (Mode.Draw table.now) (file_read page.now file.now.bytes.items file.now.end)).puts
+        (sinks (S.given out.old) (E.given report.old)) (sinks (S.given out.new) (E.given report.new)) }
     ensures refused { IfOk result (λ refused. refused ≡ (texts_by (Mode.Draw table.now) (file_read page.now file.now.bytes.items file.now.end)).refused) }
-    ensures ticks { Ticks result (work_by (Mode.Draw table.now) (file_read page.now file.now.bytes.items file.now.end)) (M.count meter.old) (M.count meter.new) }
+    ensures ticks { Ticks result (work_by (Mode.Draw table.now) (file_read page.now file.now.bytes.items file.now.end)) (M.count meter.old)
+        (M.count meter.new) }
     ensures sinks_end { SinksEnd result (S.faults out.old) (S.faults out.new) (E.faults report.old) (E.faults report.new) }
     ensures no_folder { NeverFolder result }
 {
@@ -162,7 +166,8 @@ pub fn show_pages<F: Folder, S: Sink, E: Sink, M: Meter>(
     requires listed { (told : Files) → F.files folder.old ≡ Some told → HasFiles told pages.now }
     requires distinct { AreDistinct pages.now }
     ensures told { (told : Files) → F.files folder.old ≡ Some told →
-        Shows mode.now told pages.now result (around (F.failures folder.old) (S.given out.old) (E.given report.old) (M.count meter.old)) (around (F.failures folder.new) (S.given out.new) (E.given report.new) (M.count meter.new)) }
+        Shows mode.now told pages.now result (around (F.failures folder.old) (S.given out.old) (E.given report.old) (M.count meter.old))
+        (around (F.failures folder.new) (S.given out.new) (E.given report.new) (M.count meter.new)) }
     ensures counts { PagesCount result (F.faults folder.old) (F.faults folder.new) }
     ensures sinks_end { SinksEnd result (S.faults out.old) (S.faults out.new) (E.faults report.old) (E.faults report.new) }
     ensures no_folder { NeverFolder result }

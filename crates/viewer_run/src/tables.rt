@@ -75,7 +75,8 @@ fn read_table<F: Folder>(
 ) -> Result<Result<SharedTable, TableFault>, Stop>
     requires { (told : Files) → F.files folder.old ≡ Some told → HasFile told name.now }
     ensures told { (told : Files) → F.files folder.old ≡ Some told → IfOk result (λ table. table ≡ table_in (take file_limit (bytes_in told name.now))) }
-    ensures failure { (told : Files) → F.files folder.old ≡ Some told → Starts result (TableChoice.File name.now) (F.failures folder.old) (F.failures folder.new) }
+    ensures failure { (told : Files) → F.files folder.old ≡ Some told
+        → Starts result (TableChoice.File name.now) (F.failures folder.old) (F.failures folder.new) }
     ensures stops { FolderStops result (F.faults folder.old) (F.faults folder.new) }
     ensures same_files { F.files folder.new ≡ F.files folder.old }
 {

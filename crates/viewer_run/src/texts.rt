@@ -24,7 +24,8 @@ pub fn put_page<S: Sink, E: Sink>(
     report: &mut E,
 ) -> Result<bool, Stop>
     requires { CanDrawLast read.now.layers }
-    ensures puts { GivesBoth result (texts_found page.now read.now).puts (sinks (S.given out.old) (E.given report.old)) (sinks (S.given out.new) (E.given report.new)) }
+    ensures puts { GivesBoth result (texts_found page.now read.now).puts (sinks (S.given out.old) (E.given report.old))
+        (sinks (S.given out.new) (E.given report.new)) }
     ensures refused { IfOk result (λ refused. refused ≡ (texts_found page.now read.now).refused) }
     ensures sinks_end { SinksEnd result (S.faults out.old) (S.faults out.new) (E.faults report.old) (E.faults report.new) }
     ensures no_folder { NeverFolder result }

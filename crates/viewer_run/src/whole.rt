@@ -35,13 +35,16 @@ pub fn run<F: Folder, S: Sink, E: Sink, M: Meter>(
     // What is put, the status below 4 and the work that the meter counts, by the failures that the folder met; with 4 and 5 a
     // prefix of it, and at most as much work.
     ensures told { (told : Files) → F.files folder.old ≡ Some told →
-        Run told words.now result.0 (outside (F.failures folder.old) (S.given out.old) (E.given report.old) (M.count meter.old)) (outside (F.failures folder.new) (S.given out.new) (E.given report.new) (M.count meter.new)) }
-    ensures untouched { (told : Files) (added : List Failure) → F.files folder.old ≡ Some told → F.failures folder.new ≡ F.failures folder.old ++ added → front_failed (library_of told) words.now added ≡ true →
+        Run told words.now result.0 (outside (F.failures folder.old) (S.given out.old) (E.given report.old) (M.count meter.old))
+        (outside (F.failures folder.new) (S.given out.new) (E.given report.new) (M.count meter.new)) }
+    ensures untouched { (told : Files) (added : List Failure) → F.files folder.old ≡ Some told → F.failures folder.new ≡ F.failures folder.old ++ added
+        → front_failed (library_of told) words.now added ≡ true →
         result.0 < 4 → (out.new ≡ out.old) × (report.new ≡ report.old) }
 
     // Words that ask for nothing of a folder: a run over no files, whatever the folder is.
     ensures alone { asks_no_folder (words_of words.now) ≡ true →
-        (folder.new ≡ folder.old) × Run [] words.now result.0 (outside [] (S.given out.old) (E.given report.old) (M.count meter.old)) (outside [] (S.given out.new) (E.given report.new) (M.count meter.new)) }
+        (folder.new ≡ folder.old) × Run [] words.now result.0 (outside [] (S.given out.old) (E.given report.old) (M.count meter.old))
+        (outside [] (S.given out.new) (E.given report.new) (M.count meter.new)) }
 
     // 3 comes where the folder failed, and a lower status where it didn't. 4 comes where a sink failed, and no other does.
     ensures folder_ends { FolderEnds result.0 (F.faults folder.old) (F.faults folder.new) }
@@ -72,9 +75,11 @@ fn carry_out<F: Folder, S: Sink, E: Sink, M: Meter>(
     meter: &mut M,
 ) -> Result<Status, Stop>
     ensures told { (told : Files) → F.files folder.old ≡ Some told →
-        Runs told words.now result (around (F.failures folder.old) (S.given out.old) (E.given report.old) (M.count meter.old)) (around (F.failures folder.new) (S.given out.new) (E.given report.new) (M.count meter.new)) }
+        Runs told words.now result (around (F.failures folder.old) (S.given out.old) (E.given report.old) (M.count meter.old))
+        (around (F.failures folder.new) (S.given out.new) (E.given report.new) (M.count meter.new)) }
     ensures alone { asks_no_folder (words_of words.now) ≡ true →
-        (folder.new ≡ folder.old) × Runs [] words.now result (around [] (S.given out.old) (E.given report.old) (M.count meter.old)) (around [] (S.given out.new) (E.given report.new) (M.count meter.new)) }
+        (folder.new ≡ folder.old) × Runs [] words.now result (around [] (S.given out.old) (E.given report.old) (M.count meter.old))
+        (around [] (S.given out.new) (E.given report.new) (M.count meter.new)) }
     ensures early { IfOk result (λ status. status.0 < 4) }
     ensures counts { RunCounts result (F.faults folder.old) (F.faults folder.new) }
     ensures sinks_end { SinksEnd result (S.faults out.old) (S.faults out.new) (E.faults report.old) (E.faults report.new) }

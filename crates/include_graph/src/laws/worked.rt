@@ -24,7 +24,7 @@ pub fn worked_outlines()
     ensures misplaced { outline_of Open (included_file 40 (include_of 0x62 ++ (header (codes "Sjbz") 4))) ≡ outline_with
         (Include (codes "b") 16 ∷ Broken kind.Misplaced 26 ∷ []) }
     ensures cut_misplaced { outline_of Whole (included_file 40 (header (codes "INFO") 10)) ≡ outline_with (Broken kind.Misplaced 16 ∷ []) }
-    ensures layer { outline_of Open (included_file 40 (header (codes "BG44") 4)) ≡ outline_with (Broken kind.Unsupported 16 ∷ []) }
+    ensures layer { outline_of Open (included_file 40 (header (codes "BG44") 4)) ≡ outline_with (Broken kind.Misplaced 16 ∷ []) }
     ensures directory { outline_of Open (included_file 40 (header (codes "DIRM") 4)) ≡ outline_with (Broken kind.Unsupported 16 ∷ []) }
     ensures one_dictionary { outline_of Open (included_file 12 (header (codes "Djbz") 0)) ≡ no_include }
     ensures dictionaries { outline_of Open (included_file 20 (header (codes "Djbz") 0 ++ header (codes "Djbz") 0)) ≡ outline_with

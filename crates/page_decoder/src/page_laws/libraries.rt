@@ -1,5 +1,5 @@
 //! Laws of readings over libraries: each is a clause of a function that does nothing.
-ghost use Rattle.std.specs.Prelude.{◌≡◌, ◌≢◌, ◌≤◌, ◌<◌, ℕ, List, length, Option, Some, slice_get};
+ghost use Rattle.std.specs.Prelude.{◌≡◌, ◌≢◌, ◌≤◌, ◌<◌, ℕ, List, length, Option, Some, None, slice_get};
 ghost use Rattle.djvu_base.specs.declared.faults.Fault.{Fault};
 ghost use Rattle.djvu_base.specs.Library.{Open, File, Library};
 ghost use Rattle.zp_table.specs.declared.rows.Row.{Row};
@@ -8,9 +8,9 @@ ghost use Rattle.include_graph.specs.declared.verdicts.Verdict.TheVariants.{File
 ghost use Rattle.include_graph.specs.Verdicts.{verdict_of};
 ghost use Rattle.page_decoder.specs.Results.{Result};
 ghost use Rattle.page_decoder.specs.Given.{Role, Page, Included, Within};
-ghost use Rattle.page_decoder.specs.PageRead.{Refused};
+ghost use Rattle.page_decoder.specs.PageRead.{Refused, NeedFile};
 ghost use Rattle.page_decoder.specs.Read.{decode};
-ghost use Rattle.page_decoder.specs.Libraries.{graph_of, given_in, res_of, results_in, run_given, run, work_of, LibraryGoesOn};
+ghost use Rattle.page_decoder.specs.Libraries.{outlines_in, graph_of, given_in, res_of, results_in, run_given, run, Unknown, page_in, work_of, LibraryGoesOn};
 ghost use Rattle.page_decoder.specs.Needs.{Below, IsOver, IsMade, Built};
 
 /// Results that were made out of one another, each when a page reached its file, are those of the library: a file that was
@@ -30,8 +30,8 @@ pub fn results_are_the_librarys()
     include_graph::laws::outlines_stay();
 }
 
-/// A library that goes on takes nothing back: lists and what their files give stay, readings of pages tell no less, and their
-/// work doesn't fall.
+/// A library that goes on takes nothing back: lists and what their files give stay, readings of pages tell no less, those that are
+/// over stay the same, and their work doesn't fall.
 pub fn libraries_go_on()
     ensures same { (library : Library) → LibraryGoesOn library library }
     ensures both { (library later latest : Library) → LibraryGoesOn library later → LibraryGoesOn later latest → LibraryGoesOn library latest }
@@ -45,6 +45,8 @@ pub fn libraries_go_on()
         → Within (run_given table library page) (run_given table later page) }
     ensures told { (table : List Row) (library later : Library) (page : ℕ) → IsTable table → LibraryGoesOn library later
         → Below (run table library page).left.told (run table later page).left.told }
+    ensures over { (table : List Row) (library later : Library) (page : ℕ) → IsTable table → LibraryGoesOn library later
+        → IsOver (run table library page).end → run table later page ≡ run table library page }
     ensures work { (table : List Row) (library later : Library) (pages : List ℕ) → IsTable table → LibraryGoesOn library later
         → work_of table library pages ≤ work_of table later pages }
 {
@@ -56,12 +58,24 @@ pub fn libraries_go_on()
     include_graph::laws::outlines_stay();
 }
 
-/// Where all files are closed, the reading of a page is over.
-pub fn closed_libraries()
-    ensures { (table : List Row) (library : Library) (page : ℕ) → page < length library
-        → ((file : ℕ) (it : File) → slice_get library file ≡ Some it → it.mark ≢ Open) → IsOver (run table library page).end }
+/// The need of a page is a file whose outline isn't known.
+pub fn needs_of_pages()
+    ensures { (table : List Row) (library : Library) (page file : ℕ) → (run table library page).end ≡ NeedFile file
+        → (outlines_in library file ≡ None) × (file < length library) }
 {
     crate::page_laws::needs();
+    include_graph::laws::lists();
+}
+
+/// Where all files are closed, the reading of a page is over, and so it is known what the page is.
+pub fn closed_libraries()
+    ensures over { (table : List Row) (library : Library) (page : ℕ) → page < length library
+        → ((file : ℕ) (it : File) → slice_get library file ≡ Some it → it.mark ≢ Open) → IsOver (run table library page).end }
+    ensures known { (table : List Row) (library : Library) (page : ℕ) → page < length library
+        → ((file : ℕ) (it : File) → slice_get library file ≡ Some it → it.mark ≢ Open) → page_in table library page ≢ Unknown }
+{
+    crate::page_laws::needs();
+    crate::page_laws::shows();
     include_graph::laws::lists();
     include_graph::laws::outlines_stay();
 }

@@ -1,5 +1,5 @@
 //! Readings that are worked out, as clauses of functions that do nothing.
-ghost use Rattle.std.specs.Prelude.{◌≡◌, [], ◌∷◌, ◌++◌, take, codes};
+ghost use Rattle.std.specs.Prelude.{◌≡◌, [], ◌∷◌, ◌++◌, map, take, codes, Some, None};
 ghost use Rattle.djvu_base.specs.Library.{Open, Whole};
 ghost use Rattle.djvu_base.specs.declared.faults.FaultKind.TheVariants as fault;
 ghost use Rattle.iff_chunks.specs.Chunks.{magic};
@@ -8,10 +8,10 @@ ghost use Rattle.include_graph.specs.Worked.{include_of};
 ghost use Rattle.zp_table.specs.Listing.{flat_rows, djvu_rows};
 ghost use Rattle.layer_compose.specs.Drawing.{raster_of};
 ghost use Rattle.page_decoder.specs.Worked.{mask_chunk, dot_bytes, dot_file};
-ghost use Rattle.page_decoder.specs.PageRead.{Finished, NeedBytes, NeedOutline, NeedFile};
+ghost use Rattle.page_decoder.specs.PageRead.{Drawing, Finished, NeedBytes, NeedOutline, NeedFile};
 ghost use Rattle.page_decoder.specs.Read.{read};
-ghost use Rattle.page_decoder.specs.Libraries.{run, page_in, Drawn, work_of};
-ghost use Rattle.page_decoder.specs.WorkedPages.{Tells, faulty, page_with, read_alone, run_alone, back_chunk, front_chunk, dictionary_chunk, grey_chunk, dot_dictionary, copying_mask, pair_page, dictionary_file, including_page, shared_dictionary, two_dictionaries, round_about, whole_file};
+ghost use Rattle.page_decoder.specs.Libraries.{run, draw, page_in, Drawn, work_of};
+ghost use Rattle.page_decoder.specs.WorkedPages.{Tells, faulty, page_with, read_alone, run_alone, back_chunk, front_chunk, dictionary_chunk, grey_chunk, dot_dictionary, copying_mask, pair_page, dictionary_file, including_page, shared_dictionary, two_dictionaries, chain, marked_dictionary, other_count, round_about, white_pixel, black_pixel, whole_file};
 
 /// Pages with a background of one pixel: grey without data, black, white, and with colours; of two pixels; and with half chroma.
 pub fn worked_backgrounds()
@@ -111,9 +111,8 @@ pub fn worked_libraries()
     ensures round { Tells (run flat_rows round_about 2) ((1, 765) ∷ []) 0 (faulty fault.CyclicInclude 1 16) }
     ensures other_way { Tells (run flat_rows round_about 3) ((1, 765) ∷ []) 0 (faulty fault.CyclicInclude 0 16) }
     ensures missing { Tells (run_alone (page 32 (include_of 0x7A))) ((1, 765) ∷ []) 0 (faulty fault.MissingInclude 0 34) }
-    ensures other_count { Tells (run flat_rows (whole_file (codes "d") dictionary_file
-        ∷ whole_file (codes "p") (page 42 (include_of 0x64 ++ mask_chunk 2 (0x15 ∷ 0x7F ∷ []))) ∷ []) 1) ((1, 765) ∷ []) 9
-        (faulty fault.Jb2Dictionary 1 44) }
+    ensures other_count { Tells (run flat_rows other_count 1) ((1, 765) ∷ []) 9 (faulty fault.Jb2Dictionary 1 44) }
+    ensures other_work { work_of flat_rows other_count (1 ∷ []) ≡ 27 }
     ensures itself { Tells (run_alone (page 32 (include_of 0x70))) ((1, 765) ∷ []) 0 (faulty fault.NotIncludedForm 0 0) }
     ensures first_counts { Tells (run flat_rows (two_dictionaries 0x64 0x65) 2) ((1, 765) ∷ (4, 0) ∷ []) 34 Finished }
     ensures empty_hides { Tells (run flat_rows (two_dictionaries 0x65 0x64) 2) ((1, 765) ∷ []) 9 (faulty fault.Jb2Dictionary 2 54) }
@@ -121,6 +120,26 @@ pub fn worked_libraries()
     // An include is resolved late: a background comes before it, and a cut too.
     ensures missing_late { Tells (run_alone (page 50 (include_of 0x7A ++ grey_chunk))) ((1, 765) ∷ (3, 381) ∷ []) 1 (faulty fault.MissingInclude 0 34) }
     ensures cut_before { Tells (run_alone (take 50 (page 50 (include_of 0x7A ++ grey_chunk)))) ((1, 765) ∷ []) 0 (faulty fault.Truncated 0 44) }
+{}
+
+/// A page's own dictionary comes before those of its includes, which are decoded all the same; and the fault of an included file
+/// is the page's.
+pub fn worked_dictionaries()
+    ensures own_hides { Tells (run flat_rows chain 2) ((1, 765) ∷ []) 17 (faulty fault.Jb2Dictionary 2 54) }
+    ensures own_work { work_of flat_rows chain (2 ∷ []) ≡ 35 }
+    ensures below { Tells (run flat_rows marked_dictionary 1) ((1, 765) ∷ []) 0 (faulty fault.Jb2Record 0 16) }
+    ensures below_work { work_of flat_rows marked_dictionary (1 ∷ []) ≡ 3 }
+{}
+
+/// What a page shows behind its chunks: white behind the first, and behind an include that brings nothing; and how many decisions
+/// the chunks had up to each drawing.
+pub fn worked_drawings()
+    ensures nothing { draw flat_rows shared_dictionary 1 0 ≡ None }
+    ensures first { draw flat_rows shared_dictionary 1 1 ≡ Some white_pixel }
+    ensures include { draw flat_rows shared_dictionary 1 2 ≡ Some white_pixel }
+    ensures mask { draw flat_rows shared_dictionary 1 3 ≡ Some black_pixel }
+    ensures beyond { draw flat_rows shared_dictionary 1 4 ≡ Some black_pixel }
+    ensures decisions { map (λ (drawing : Drawing). drawing.decisions) (run flat_rows shared_dictionary 1).left.told.drawings ≡ 0 ∷ 34 ∷ [] }
 {}
 
 /// A page whose background comes before its dictionary: where the dictionary isn't there, and where it is.

@@ -12,11 +12,16 @@ returns-then-place-lt8-clause-feeds c = rw c.breaks.ensures (chunk_short c.args.
 pub returns-then-count-lt8-clause-feeds : goal.returns-then-count-lt8-clause-feeds
 returns-then-count-lt8-clause-feeds c =
     let fill = c.fill-used.ensures in
-    let filled : Filled c.args.got c.fill-used.result.0 c.args.piece.now c.fill-used.result.1 8 = record { gathering = c.requires.some; few = omega arith; bytes = fill.bytes; count = fill.count; room = fill.room; most = fill.used } in
-    rw c.need_bytes.ensures (chunk_part c.args.place c.args.got c.fill-used.result.0 c.args.piece.now c.fill-used.result.1 filled (omega (arith, c.count.ensures, c.if-count-lt8.true)) c.if-place-lt8.false c.requires.fits)
+    let filled : Filled c.args.got c.fill-used.result.0 c.args.piece.now c.fill-used.result.1 8 =
+    record { gathering = c.requires.some; few = omega arith; bytes = fill.bytes; count = fill.count; room = fill.room; most = fill.used } in
+    rw c.need_bytes.ensures (chunk_part c.args.place c.args.got c.fill-used.result.0 c.args.piece.now c.fill-used.result.1 filled
+    (omega (arith, c.count.ensures, c.if-count-lt8.true)) c.if-place-lt8.false c.requires.fits)
 
 pub returns-clause-feeds : goal.returns-clause-feeds
 returns-clause-feeds c =
     let fill = c.fill-used.ensures in
-    let filled : Filled c.args.got c.fill-used.result.0 c.args.piece.now c.fill-used.result.1 8 = record { gathering = c.requires.some; few = omega arith; bytes = fill.bytes; count = fill.count; room = fill.room; most = fill.used } in
-    rw c.begun.ensures (rw c.bytes.ensures (chunk_begins c.args.place c.args.got c.fill-used.result.0 c.args.piece.now c.fill-used.result.1 filled (omega (arith, c.count.ensures, c.if-count-lt8.false)) c.if-place-lt8.false c.requires.fits))
+    let filled : Filled c.args.got c.fill-used.result.0 c.args.piece.now c.fill-used.result.1 8 =
+    record { gathering = c.requires.some; few = omega arith; bytes = fill.bytes; count = fill.count; room = fill.room; most = fill.used } in
+    rw c.begun.ensures (rw c.bytes.ensures
+    (chunk_begins c.args.place c.args.got c.fill-used.result.0 c.args.piece.now c.fill-used.result.1 filled
+    (omega (arith, c.count.ensures, c.if-count-lt8.false)) c.if-place-lt8.false c.requires.fits))

@@ -10,7 +10,9 @@ pub returns-then-place-lt8 : goal.returns-then-place-lt8
 returns-then-place-lt8 c = header_short c.args.place c.args.got c.if-place-eq0.false c.if-place-lt8.true
 
 pub returns-then-count-eq0 : goal.returns-then-count-eq0
-returns-then-count-eq0 c = rw c.truncated.ensures (header_cut_first c.args.place c.args.got c.if-place-lt8.false c.requires.1 (first_none c.args.place.is_first c.args.got.count c.if-place.true (sym c.count.ensures ∙ c.if-count-eq0.true)))
+returns-then-count-eq0 c =
+    rw c.truncated.ensures (header_cut_first c.args.place c.args.got c.if-place-lt8.false c.requires.1
+    (first_none c.args.place.is_first c.args.got.count c.if-place.true (sym c.count.ensures ∙ c.if-count-eq0.true)))
 
 pub returns-else-place : goal.returns-else-place
 returns-else-place c = rw c.truncated-else-place.ensures (header_cut_later c.args.place c.args.got c.if-place-lt8.false c.requires.1 (elim c.else-place.branch [

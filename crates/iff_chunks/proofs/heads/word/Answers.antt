@@ -10,8 +10,10 @@ returns-in-Whole-clause-feeds c =
     let got = c.new.result in
     let rest = subst (λ piece. Feeds (stage.Length c.args.offset got) piece c.length.result) c.rest_of.ensures c.length.ensures.feeds in
     let match = c.in-Whole.ensures in
-    rw c.behind.ensures (feeds_behind (stage.Word c.args.offset c.args.matched) (stage.Length c.args.offset got) c.args.piece.now c.in-Whole.used c.length.result
-    (form_word_lead c.args.offset c.args.matched c.in-Whole.used got c.args.piece.now c.new.ensures.bytes match.0 match.1 match.2) refl rest c.length.ensures.no_data tt)
+    rw c.behind.ensures (feeds_behind (stage.Word c.args.offset c.args.matched) (stage.Length c.args.offset got) c.args.piece.now c.in-Whole.used
+    c.length.result
+    (form_word_lead c.args.offset c.args.matched c.in-Whole.used got c.args.piece.now c.new.ensures.bytes match.0 match.1 match.2) refl rest
+    c.length.ensures.no_data tt)
 
 pub returns-in-Part-clause-feeds : goal.returns-in-Part-clause-feeds
 returns-in-Part-clause-feeds c =

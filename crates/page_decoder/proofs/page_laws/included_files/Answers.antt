@@ -12,3 +12,6 @@ pub returns-clause-stays : goal.returns-clause-stays
 returns-clause-stays c less more outline is within role it served =
     ap done_by (c.growth.ensures.unmet less more is within
     (over_lacks less more (read less).end (read_over less outline role (number_below less.home.names) it served)))
+
+pub returns-clause-over : goal.returns-clause-over
+returns-clause-over c given outline role it served = read_over given outline role (number_below given.home.names) it served

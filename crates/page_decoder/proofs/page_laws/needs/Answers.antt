@@ -11,13 +11,15 @@ returns-clause-because c given = (ended given (number_below given.home.names)).b
 
 pub returns-clause-outline : goal.returns-clause-outline
 returns-clause-outline c given file e =
-    unknown_lacking given.home given.known c.verdicts_ask.ensures c.below.ensures.asked file
-    (subst (λ end. Because given.home given.known end) e (ended given (number_below given.home.names)).because)
+    unknown_lacking given.home given.known c.verdicts_ask.ensures c.below.ensures.asked
+    (read given).left.decoded.pending file
+    (subst (λ end. Because given.home given.known (read given).left.decoded.pending end) e (ended given (number_below given.home.names)).because)
 
 pub returns-clause-file : goal.returns-clause-file
 returns-clause-file c given file e =
-    let next = subst (λ end. Because given.home given.known end) e (ended given (number_below given.home.names)).because in
-    (next.lacking, next_below given.home given.known c.lists.ensures.order file next)
+    let pending = (read given).left.decoded.pending in
+    let next = subst (λ end. Because given.home given.known pending end) e (ended given (number_below given.home.names)).because in
+    (next.lacking, next_below given.home given.known pending c.lists.ensures.order file next)
 
 pub returns-clause-closed : goal.returns-clause-closed
 returns-clause-closed c given m e = known_end given.mark given.bytes m ((ended given (number_below given.home.names)).quiet e)
@@ -28,3 +30,6 @@ returns-clause-reached c given file m = (ended given (number_below given.home.na
 pub returns-clause-stay_reached : goal.returns-clause-stay_reached
 returns-clause-stay_reached c less more file is within m =
     front_among file (read less).left.told.reached (read more).left.told.reached (c.growth.ensures.told less more is within).reached m
+
+pub returns-clause-needed : goal.returns-clause-needed
+returns-clause-needed c given file e = (ended given (number_below given.home.names)).needed file e

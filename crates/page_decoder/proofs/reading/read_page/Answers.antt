@@ -30,11 +30,13 @@ returns-in_err-rest-clause-at_most g c =
     read_so rows file (progress found.so_far.place found.told.now w.done) c.walk.new.walker c.args.end c.finish.result w.walked c.finish.ensures.ends
     ∙ ap (concluded rows (chunks_place file) (progress found.so_far.place found.told.now w.done)) (sym c.end_of_file-last.ensures) in
     let origin : c.form_place.result + 12 ≡ chunks_place file = ap (λ n. n + 12) c.form_place.ensures.place in
-    let rest = subst (λ n. TicksAtMost (rest_at rows n found.so_far.place found.told.now found.so_far.page.chunks found.so_far.page.layers (ending last)).decisions
+    let rest =
+    subst (λ n. TicksAtMost (rest_at rows n found.so_far.place found.told.now found.so_far.page.chunks found.so_far.page.layers (ending last)).decisions
     (g.M.Meter.count c.walk.new.meter) (g.M.Meter.count c.rest_end.new.meter)) origin c.in_err-rest.ensures.at_most in
     on_err c.from_residual-in_err-rest.result
     (subst (λ (r : Reading). TicksAtMost r.decisions (g.M.Meter.count c.args.meter.now) (g.M.Meter.count c.rest_end.new.meter)) (sym same)
-    (concluded_at_most rows file found.so_far.place found.told.now found.so_far.page last w.done (g.M.Meter.count c.args.meter.now) (g.M.Meter.count c.walk.new.meter)
+    (concluded_at_most rows file found.so_far.place found.told.now found.so_far.page last w.done (g.M.Meter.count c.args.meter.now)
+    (g.M.Meter.count c.walk.new.meter)
     (g.M.Meter.count c.rest_end.new.meter) w.is_page w.counted rest))
 
 pub returns-clause-reading : goal.returns-clause-reading
@@ -45,11 +47,15 @@ returns-clause-reading g c =
     let w = found.ensures.walked in
     let last : PageEnd = c.end_of_file-last.result in
     let same : reading rows (mark_of c.args.end) file ≡ concluded rows (chunks_place file) (progress found.so_far.place found.told.now w.done) (ending last) =
-    read_so rows file (progress found.so_far.place found.told.now w.done) c.walk.new.walker c.args.end c.finish.result w.walked c.finish.ensures.ends ∙ ap (concluded rows (chunks_place file) (progress found.so_far.place found.told.now w.done)) (sym c.end_of_file-last.ensures) in
+    read_so rows file (progress found.so_far.place found.told.now w.done) c.walk.new.walker c.args.end c.finish.result w.walked c.finish.ensures.ends
+    ∙ ap (concluded rows (chunks_place file) (progress found.so_far.place found.told.now w.done)) (sym c.end_of_file-last.ensures) in
     let origin : c.form_place.result + 12 ≡ chunks_place file = ap (λ n. n + 12) c.form_place.ensures.place in
-    let end = c.in_ok-rest.ensures.end ∙ ap (λ n. (rest_at rows n found.so_far.place found.told.now found.so_far.page.chunks found.so_far.page.layers (ending last)).end) origin in
+    let end =
+    c.in_ok-rest.ensures.end ∙ ap (λ n. (rest_at rows n found.so_far.place found.told.now found.so_far.page.chunks found.so_far.page.layers (ending last)).end)
+    origin in
     subst (λ (r : Reading). IsReading r (record { notices = c.of.result; layers = found.so_far.page.layers; end = c.in_ok-rest.rest })) (sym same)
-    (concludes rows file found.so_far.place found.told.now found.so_far.page last w.done (record { notices = c.of.result; layers = found.so_far.page.layers; end = c.in_ok-rest.rest }) w.is_page c.of.ensures refl end)
+    (concludes rows file found.so_far.place found.told.now found.so_far.page last w.done
+    (record { notices = c.of.result; layers = found.so_far.page.layers; end = c.in_ok-rest.rest }) w.is_page c.of.ensures refl end)
 
 pub returns-clause-ticks : goal.returns-clause-ticks
 returns-clause-ticks g c =
@@ -59,8 +65,13 @@ returns-clause-ticks g c =
     let w = found.ensures.walked in
     let last : PageEnd = c.end_of_file-last.result in
     let same : reading rows (mark_of c.args.end) file ≡ concluded rows (chunks_place file) (progress found.so_far.place found.told.now w.done) (ending last) =
-    read_so rows file (progress found.so_far.place found.told.now w.done) c.walk.new.walker c.args.end c.finish.result w.walked c.finish.ensures.ends ∙ ap (concluded rows (chunks_place file) (progress found.so_far.place found.told.now w.done)) (sym c.end_of_file-last.ensures) in
+    read_so rows file (progress found.so_far.place found.told.now w.done) c.walk.new.walker c.args.end c.finish.result w.walked c.finish.ensures.ends
+    ∙ ap (concluded rows (chunks_place file) (progress found.so_far.place found.told.now w.done)) (sym c.end_of_file-last.ensures) in
     let origin : c.form_place.result + 12 ≡ chunks_place file = ap (λ n. n + 12) c.form_place.ensures.place in
-    let ticks = c.in_ok-rest.ensures.ticks ∙ ap (λ n. ticked (rest_at rows n found.so_far.place found.told.now found.so_far.page.chunks found.so_far.page.layers (ending last)).decisions (g.M.Meter.count c.walk.new.meter)) origin in
-    concluded_counts rows file found.so_far.place found.told.now found.so_far.page last w.done (g.M.Meter.count c.args.meter.now) (g.M.Meter.count c.walk.new.meter) (g.M.Meter.count c.rest_end.new.meter) w.is_page w.counted ticks
+    let ticks =
+    c.in_ok-rest.ensures.ticks ∙ ap
+    (λ n. ticked (rest_at rows n found.so_far.place found.told.now found.so_far.page.chunks found.so_far.page.layers (ending last)).decisions
+    (g.M.Meter.count c.walk.new.meter)) origin in
+    concluded_counts rows file found.so_far.place found.told.now found.so_far.page last w.done (g.M.Meter.count c.args.meter.now)
+    (g.M.Meter.count c.walk.new.meter) (g.M.Meter.count c.rest_end.new.meter) w.is_page w.counted ticks
     ∙ ap (λ (r : Reading). ticked r.decisions (g.M.Meter.count c.args.meter.now)) (sym same)

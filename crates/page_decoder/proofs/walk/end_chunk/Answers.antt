@@ -12,7 +12,9 @@ returns-in_ok-with_chunk-in_default g c =
     let bytes : List ℕ = c.args.bytes.now in
     let made = c.in_ok-with_chunk-in_default in
     record {
-      next = λ done is. chunk_on rows c.args.head bytes done c.args.page made.field-0 c.in_ok-brought.brought is c.in_ok-brought.ensures.came c.in_default.not-Fault made.ensures.chunks made.ensures.layers made.ensures.notices c.in_ok-brought.ensures.drawable;
+      next =
+          λ done is. chunk_on rows c.args.head bytes done c.args.page made.field-0 c.in_ok-brought.brought is c.in_ok-brought.ensures.came
+          c.in_default.not-Fault made.ensures.chunks made.ensures.layers made.ensures.notices c.in_ok-brought.ensures.drawable;
       ticks = c.in_ok-brought.ensures.ticks;
       at_most = tt;
     }

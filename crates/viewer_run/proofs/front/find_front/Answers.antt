@@ -31,4 +31,6 @@ front_of_info-requires-clause-named g c =
 pub returns-in-Ok-Draw-clause-told : goal.returns-in-Ok-Draw-clause-told
 returns-in-Ok-Draw-clause-told g c told files =
     let command = c.in-Ok-Draw.ensures.command ∙ ap Ok c.in-Ok-Draw.field-0-is in
-    subst (λ (r : Result Command ℕ). IfOk c.front_of_draw.result (λ front. plan_by (names_in (library_of told)) front ≡ plan_by_words (library_of told) (named_files c.args.words.now) r)) (sym command) (c.front_of_draw.ensures.told told files)
+    subst (λ (r : Result Command ℕ).
+    IfOk c.front_of_draw.result (λ front. plan_by (names_in (library_of told)) front ≡ plan_by_words (library_of told) (named_files c.args.words.now) r))
+    (sym command) (c.front_of_draw.ensures.told told files)

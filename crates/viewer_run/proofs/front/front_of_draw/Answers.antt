@@ -25,13 +25,16 @@ returns-in_err-line-in-Err-clause-failure g c told files =
     let same = c.in_ok-table.ensures.failure told (c.in_ok-line.ensures.same_files ∙ files) ∙ c.in_ok-line.ensures.failure told c.args.table.now files in
     let result = c.from_residual-in_err-line-in-Err.result in
     let p = err_from_is_err_and result c.from_residual-in_err-line-in-Err.ensures.1 in
-    subst (λ (r : Result Front Stop). Starts r c.args.table.now (g.F.Folder.failures c.args.folder.now) (g.F.Folder.failures c.choose_table.new.folder)) (sym (p.1 ∙ ap Err p.2)) same
+    subst (λ (r : Result Front Stop). Starts r c.args.table.now (g.F.Folder.failures c.args.folder.now) (g.F.Folder.failures c.choose_table.new.folder))
+    (sym (p.1 ∙ ap Err p.2)) same
 
 pub returns-in-Ok-clause-failure : goal.returns-in-Ok-clause-failure
-returns-in-Ok-clause-failure g c told files = c.in_ok-table.ensures.failure told (c.in_ok-line.ensures.same_files ∙ files) ∙ c.in_ok-line.ensures.failure told c.args.table.now files
+returns-in-Ok-clause-failure g c told files =
+    c.in_ok-table.ensures.failure told (c.in_ok-line.ensures.same_files ∙ files) ∙ c.in_ok-line.ensures.failure told c.args.table.now files
 
 pub returns-in_ok-line-in-Err-clause-failure : goal.returns-in_ok-line-in-Err-clause-failure
-returns-in_ok-line-in-Err-clause-failure g c told files = c.in_ok-table.ensures.failure told (c.in_ok-line.ensures.same_files ∙ files) ∙ c.in_ok-line.ensures.failure told c.args.table.now files
+returns-in_ok-line-in-Err-clause-failure g c told files =
+    c.in_ok-table.ensures.failure told (c.in_ok-line.ensures.same_files ∙ files) ∙ c.in_ok-line.ensures.failure told c.args.table.now files
 
 pub returns-in-Ok-clause-told : goal.returns-in-Ok-clause-told
 returns-in-Ok-clause-told g c told files =

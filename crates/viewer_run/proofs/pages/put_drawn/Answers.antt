@@ -18,9 +18,13 @@ returns-clause-puts g c =
     let rows : List Row = c.args.table.now in
     let bytes : List ℕ = c.args.file.now.bytes.items in
     let mark = mark_of c.args.file.now.end in
-    let same : reading (arc_value c.shared.result.now) mark c.as_slice.result.now ≡ reading rows mark bytes = ap (λ r. reading r mark c.as_slice.result.now) c.shared.ensures ∙ ap (reading rows mark) c.as_slice.ensures.value in
-    let put = drawn_texts rows c.args.page.now bytes c.args.file.now.end c.in_ok-read.read (subst (λ (r : Reading). IsReading r c.in_ok-read.read) same c.in_ok-read.ensures.reading) in
-    subst (λ (t : Texts). GivesBoth c.put_page.result t.puts (sinks (g.S.Sink.given c.args.out.now) (g.E.Sink.given c.args.report.now)) (sinks (g.S.Sink.given c.put_page.new.out) (g.E.Sink.given c.put_page.new.report))) put c.put_page.ensures.puts
+    let same : reading (arc_value c.shared.result.now) mark c.as_slice.result.now ≡ reading rows mark bytes =
+    ap (λ r. reading r mark c.as_slice.result.now) c.shared.ensures ∙ ap (reading rows mark) c.as_slice.ensures.value in
+    let put =
+    drawn_texts rows c.args.page.now bytes c.args.file.now.end c.in_ok-read.read
+    (subst (λ (r : Reading). IsReading r c.in_ok-read.read) same c.in_ok-read.ensures.reading) in
+    subst (λ (t : Texts). GivesBoth c.put_page.result t.puts (sinks (g.S.Sink.given c.args.out.now) (g.E.Sink.given c.args.report.now))
+    (sinks (g.S.Sink.given c.put_page.new.out) (g.E.Sink.given c.put_page.new.report))) put c.put_page.ensures.puts
 
 pub returns-in_err-read-clause-puts : goal.returns-in_err-read-clause-puts
 returns-in_err-read-clause-puts g c =

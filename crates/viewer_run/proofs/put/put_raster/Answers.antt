@@ -22,7 +22,12 @@ returns-in_err-put_text-clause-taken g c before given =
     c.as_slice.ensures.value ∙ c.in_ok-head.ensures
     ∙ ap (λ w. raster_head w c.drawing_height.result) c.drawing_width.ensures.value
     ∙ ap (raster_head (drawing_width layers)) c.drawing_height.ensures.value in
-    rw p.1 (took.0, took.1, grows_within_more before (raster_head (drawing_width layers) (drawing_height layers)) (samples_of layers) took.0 (subst (λ t. GrowsWithin before t took.0) head took.2))
+    rw p.1 (
+      took.0,
+      took.1,
+      grows_within_more before (raster_head (drawing_width layers) (drawing_height layers)) (samples_of layers) took.0
+          (subst (λ t. GrowsWithin before t took.0) head took.2),
+    )
 
 pub returns-clause-taken : goal.returns-clause-taken
 returns-clause-taken g c before given =
@@ -33,5 +38,9 @@ returns-clause-taken g c before given =
     c.as_slice.ensures.value ∙ c.in_ok-head.ensures
     ∙ ap (λ w. raster_head w c.drawing_height.result) c.drawing_width.ensures.value
     ∙ ap (raster_head (drawing_width layers)) c.drawing_height.ensures.value in
-    let all : c.as_slice.result.now ++ samples_of layers ≡ raster_text layers = ap (λ h. h ++ samples_of layers) head in
-    (rows.0, rows.1, subst (λ t. Delivers c.put_rows.result before t rows.0) all (delivers_after c.put_rows.result before c.as_slice.result.now took.0 _ rows.0 took.2 rows.2))
+    let all : c.as_slice.result.now ++ samples_of layers ≡ raster_text layers = ap (λ h. h ++ samples_of layers) head in (
+      rows.0,
+      rows.1,
+      subst (λ t. Delivers c.put_rows.result before t rows.0) all
+          (delivers_after c.put_rows.result before c.as_slice.result.now took.0 _ rows.0 took.2 rows.2),
+    )

@@ -15,7 +15,8 @@ returns-in_err-block-clause-taken g c before given =
 pub overflow_mul-now : goal.overflow_mul-now
 overflow_mul-now g c =
     let side = c.drawing_width-row.ensures.side in
-    let columns : c.drawing_width-row.result ≤ 65535 = side_most c.drawing_width-row.result c.args.layers.now.width c.args.layers.now.height side c.requires.most_columns c.requires.most_rows in
+    let columns : c.drawing_width-row.result ≤ 65535 =
+    side_most c.drawing_width-row.result c.args.layers.now.width c.args.layers.now.height side c.requires.most_columns c.requires.most_rows in
     omega (arith, block_fits c.min-now.result c.max-at_once.result (3 * c.drawing_width-row.result) (omega arith) (omega arith) c.max-at_once.ensures)
 
 pub returns-in_err-put_block-clause-taken : goal.returns-in_err-put_block-clause-taken

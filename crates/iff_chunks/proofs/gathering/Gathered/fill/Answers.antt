@@ -8,7 +8,8 @@ loop-now-preserved c =
     let x = slice_index_or c.args.piece.now c.loop-now.used 0 in
     let here = take_more_set c.loop-now.now.bytes c.loop-now.now.count x (omega (arith, c.loop-now.invariant.4, c.loop-now-test.true, c.requires.room)) in
     let there = take_more c.args.piece.now c.loop-now.used 0 c.if-used-piece.true in (
-      here ∙ ap (λ l. l ++ x ∷ []) c.loop-now.invariant.0 ∙ append_assoc (gathered c.args.self) (take c.loop-now.used c.args.piece.now) (x ∷ []) ∙ ap (λ l. gathered c.args.self ++ l) (sym there),
+      here ∙ ap (λ l. l ++ x ∷ []) c.loop-now.invariant.0 ∙ append_assoc (gathered c.args.self) (take c.loop-now.used c.args.piece.now) (x ∷ [])
+          ∙ ap (λ l. gathered c.args.self ++ l) (sym there),
       omega (arith, c.loop-now.invariant.1),
       omega (arith, c.loop-now-test.true),
       omega (arith, c.if-used-piece.true),

@@ -7,7 +7,7 @@ use Rattle.page_decoder.specs.Read.{read}
 use Rattle.page_decoder.specs.Libraries.{mark_in, run_given, run_end}
 use Rattle.page_decoder.specs.Needs.{Because, IsOver}
 use Rattle.page_decoder.proofs.GoingOn.{length_names}
-use Rattle.page_decoder.proofs.Working.{never_lacks, closed_known, some_there}
+use Rattle.page_decoder.proofs.Working.{never_lacks, page_known, closed_known, some_there}
 use Rattle.page_decoder.proofs.page_laws.libraries.closed_libraries.Goals as goal
 
 module _ (c : goal.After-outlines_stay) (table : List Row) (library : Library) (page : ℕ) (below : page < length library)
@@ -25,9 +25,15 @@ module _ (c : goal.After-outlines_stay) (table : List Row) (library : Library) (
       absurd (closed_known library closed c.outlines_stay.ensures.whole c.outlines_stay.ensures.broken file
       (subst (λ n. file < n) (length_names library) lacking.1) lacking.0)
   over (NeedFile file) e =
-      absurd (never_lacks c.lists.ensures.listed table library page file
-      (subst (λ end. Because (run_given table library page).home (run_given table library page).known end) e
+      let pending = (read (run_given table library page)).left.decoded.pending in
+      absurd (never_lacks c.lists.ensures.listed table library page file pending
+      (subst (λ end. Because (run_given table library page).home (run_given table library page).known pending end) e
       (c.needs.ensures.because (run_given table library page))))
 
-pub returns : goal.returns
-returns c table library page below closed = over c table library page below closed (read (run_given table library page)).end refl
+pub returns-clause-over : goal.returns-clause-over
+returns-clause-over c table library page below closed = over c table library page below closed (read (run_given table library page)).end refl
+
+pub returns-clause-known : goal.returns-clause-known
+returns-clause-known c table library page below closed =
+    page_known table library page c.shows.ensures.drawn c.shows.ensures.layers
+    (over c table library page below closed (read (run_given table library page)).end refl)

@@ -7,11 +7,13 @@ use Rattle.zp_table.specs.Rows.{IsTable}
 use Rattle.include_graph.specs.declared.verdicts.Verdict.TheVariants as verdict
 use Rattle.include_graph.specs.Verdicts.{is_among, verdict_of}
 use Rattle.page_decoder.specs.Given.{Within}
-use Rattle.page_decoder.specs.Read.{FileDone}
-use Rattle.page_decoder.specs.Libraries.{names_in, graph_of, res_of, run_given, run, is_reached, file_work, work_of, LibraryGoesOn}
+use Rattle.page_decoder.specs.PageRead.{PageRead}
+use Rattle.page_decoder.specs.Read.{FileDone, read}
+use Rattle.page_decoder.specs.Libraries.{names_in, graph_of, res_of, run_given, run_end, run, is_reached, file_work, work_of, LibraryGoesOn}
 use Rattle.page_decoder.proofs.GoingOn.{same_library, library_both, within_library, length_stays}
 use Rattle.page_decoder.proofs.Building.{res_stays}
-use Rattle.page_decoder.proofs.Working.{reached_listed, list_stays, own_stays, within_run, sum_grows, any_grows, any_found, file_grows}
+use Rattle.page_decoder.proofs.Serving.{over_lacks}
+use Rattle.page_decoder.proofs.Working.{over_before, reached_listed, list_stays, own_stays, within_run, sum_grows, any_grows, any_found, file_grows}
 use Rattle.page_decoder.proofs.page_laws.libraries.libraries_go_on.Goals as goal
 
 module _ (c : goal.After-outlines_stay) (table : List Row) (library later : Library) (is : IsTable table) (on : LibraryGoesOn library later) where
@@ -77,3 +79,11 @@ returns-clause-told c table library later page is on =
 
 pub returns-clause-work : goal.returns-clause-work
 returns-clause-work c table library later pages is on = work_grows c table library later is on pages
+
+pub returns-clause-over : goal.returns-clause-over
+returns-clause-over c table library later page is on over =
+    let less = run_given table library page in
+    let more = run_given table later page in
+    ap (λ (r : PageRead). record { left = r.left; end = run_end r.end })
+    (c.growth.ensures.unmet less more is (runs c table library later is on page)
+    (over_lacks less more (read less).end (over_before (read less).end over)))

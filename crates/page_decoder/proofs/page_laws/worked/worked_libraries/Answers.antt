@@ -57,3 +57,7 @@ returns-clause-missing_late c = record { notices_so = refl; decisions_so = refl;
 pub returns-clause-cut_before : goal.returns-clause-cut_before
 unfolding digits is_utf8 chars encode file_limit most_bits most_decisions most_records columns_lifted rows_lifted samples_of
 returns-clause-cut_before c = record { notices_so = refl; decisions_so = refl; end_so = refl }
+
+pub returns-clause-other_work : goal.returns-clause-other_work
+unfolding digits is_utf8 chars encode file_limit most_bits most_decisions most_records columns_lifted rows_lifted samples_of
+returns-clause-other_work c = refl

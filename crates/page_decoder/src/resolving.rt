@@ -4,7 +4,7 @@ ghost use Rattle.djvu_base.specs.Name.{IsAscending};
 ghost use Rattle.djvu_base.specs.declared.faults.FaultKind.TheVariants as fault;
 ghost use Rattle.zp_table.specs.declared.rows.Row.{Row};
 ghost use Rattle.include_graph.specs.declared.outline.Outline.{Outline};
-ghost use Rattle.include_graph.specs.Verdicts.{outline_in, number_of, fault_at};
+ghost use Rattle.include_graph.specs.Verdicts.{outline_in, fault_at};
 ghost use Rattle.jb2_records.specs.declared.results.FileResult.{FileResult};
 ghost use Rattle.page_decoder.specs.Given.{Home};
 ghost use Rattle.page_decoder.specs.PageRead.{Left, or_else};
@@ -13,7 +13,7 @@ ghost use Rattle.page_decoder.specs.Resolving.{IsPlaced, given_at, result_from, 
 
 use crate::roles::Role;
 use djvu_base::{Fault, FaultKind, Items, Name, Place, Share};
-use include_graph::{Outline, Verdict, verdict};
+use include_graph::{Outline, Verdict, number_of, verdict};
 use jb2_records::{FileResult, SharedDictionary};
 use std::alloc::{AllocError, Global};
 use std::marker::Model;
@@ -377,19 +377,4 @@ fn missing(file: u32, offset: u32) -> Resolution
         kind: FaultKind::MissingInclude,
         place: Place { file, offset },
     })
-}
-
-/// The number of a name among others, or `None` where it isn't one of them.
-fn number_of(names: &[Name], name: &Name) -> Option<u32>
-    requires ascending { IsAscending names.now }
-    requires few { length names.now < 2 ^ 32 }
-    ensures { result ≡ number_of name.now names.now }
-{
-    match names
-        .iter()
-        .position(|listed| name.bytes() == listed.bytes())
-    {
-        Some(place) => Some(place as u32),
-        None => None,
-    }
 }

@@ -77,3 +77,5 @@ mod Made
 mod FaultPlaces
 -- the resolving of includes: list_next, pass_files, go_on of Includes
 mod ResolveSteps
+-- give_outline
+mod GivenOutlines

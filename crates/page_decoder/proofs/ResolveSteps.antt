@@ -78,8 +78,8 @@ pub comes_to_hand : (home : Home) (known : Known) (left : Left) (inherited : Opt
 comes_to_hand home known left inherited include pending target files stay n e r = record {
   reached = r.reached;
   rest = λ more on. r.rest more on
-    ∙ ap (λ t. and_then (at_target home more include.offset t (with_files inherited r.reached left)) (resolved home more pending)) n
-    ∙ ap (λ v. and_then (at_verdict more v (with_files inherited r.reached left)) (resolved home more pending))
+      ∙ ap (λ t. and_then (at_target home more include.offset t (with_files inherited r.reached left)) (resolved home more pending)) n
+      ∙ ap (λ v. and_then (at_verdict more v (with_files inherited r.reached left)) (resolved home more pending))
       (listing_on home.role home known more target files stay on e);
 }
 
@@ -91,7 +91,7 @@ stops_missing home known left inherited include pending n r = record {
   inherited = inherited;
   reached = r.reached;
   is = r.rest known (knows_same known)
-    ∙ ap (λ t. and_then (at_target home known include.offset t (with_files inherited r.reached left)) (resolved home known pending)) n;
+      ∙ ap (λ t. and_then (at_target home known include.offset t (with_files inherited r.reached left)) (resolved home known pending)) n;
 }
 
 -- at its target's verdict, by the end that it comes to there
@@ -103,9 +103,9 @@ stops_at home known left inherited include pending target v end n e at r = recor
   inherited = inherited;
   reached = r.reached;
   is = r.rest known (knows_same known)
-    ∙ ap (λ t. and_then (at_target home known include.offset t (with_files inherited r.reached left)) (resolved home known pending)) n
-    ∙ ap (λ w. and_then (at_verdict known w (with_files inherited r.reached left)) (resolved home known pending)) e
-    ∙ ap (λ s. and_then s (resolved home known pending)) (at (with_files inherited r.reached left));
+      ∙ ap (λ t. and_then (at_target home known include.offset t (with_files inherited r.reached left)) (resolved home known pending)) n
+      ∙ ap (λ w. and_then (at_verdict known w (with_files inherited r.reached left)) (resolved home known pending)) e
+      ∙ ap (λ s. and_then s (resolved home known pending)) (at (with_files inherited r.reached left));
 }
 
 pub stops_refused : (home : Home) (known : Known) (left : Left) (inherited : Option (List Pixels)) (include : Include) (pending : List Include)
@@ -202,7 +202,7 @@ pub passes_last : (home : Home) (known : Known) (left : Left) (inherited : Optio
 passes_last home known left inherited pending found files last p = record {
   reached = p.reached;
   rest = λ more on. p.rest more on
-    ∙ ap (λ fs. and_then (in_files more fs found (with_files inherited p.reached left)) (resolved home more pending)) (none_left files last);
+      ∙ ap (λ fs. and_then (in_files more fs found (with_files inherited p.reached left)) (resolved home more pending)) (none_left files last);
 }
 
 -- ---- the end

@@ -361,7 +361,9 @@ fn given(results: &[Option<FileResult>], file: u32) -> Result<Gift, AllocError>
     ensures { IfOk result (λ gift. gift_of gift ≡ result_from (given_at (slice_get results.now file))) }
 {
     match results.get(file as usize) {
-        Some(Some(FileResult::Dictionary(dictionary))) => Ok(Gift::Gives(Some(dictionary.share()?))),
+        Some(Some(FileResult::Dictionary(dictionary))) => Ok(Gift::Gives(Some(
+            dictionary.share()?,
+        ))),
         Some(Some(FileResult::Nothing)) => Ok(Gift::Gives(None)),
         Some(Some(FileResult::Refused(fault))) => Ok(Gift::Refused(*fault)),
         Some(Some(FileResult::NoMemory)) => Err(AllocError),

@@ -18,7 +18,7 @@ returns-in-Some-2 c = λ table left r.
     let outlines = map outline_in c.args.outlines.now in
     let known = known_of outlines c.args.results.now in
     let passed = subst (λ stop. AnswersIf home known left stop c.pass_files.new.self) c.in_default.is
-        (c.in_ok-stop.ensures.resolves home outlines left (c.includes.invariant table left r)) in
+    (c.in_ok-stop.ensures.resolves home outlines left (c.includes.invariant table left r)) in
     subst (λ stop. AnswersIf home known left stop c.list_next.new.self) c.in-Some-2.is
     (c.in_ok-stop-2.ensures.resolves table c.args.results.now left passed)
 
@@ -29,7 +29,7 @@ returns-then-len-self c = λ table left r.
     let known = known_of outlines c.args.results.now in
     let inherited = c.pass_files.new.self.inherited in
     let passed = subst (λ stop. AnswersIf home known left stop c.pass_files.new.self) c.in_default.is
-        (c.in_ok-stop.ensures.resolves home outlines left (c.includes.invariant table left r)) in
+    (c.in_ok-stop.ensures.resolves home outlines left (c.includes.invariant table left r)) in
     let over : length c.self.inside.read.items ≤ c.self.inside.begun = omega (arith, c.len.ensures) in
     let none_at_hand = c.in_ok-stop.ensures.passed c.in_default.is in
     let none_pending = sym (ap (λ it. it.pending) c.self.view_is) ∙ drop_of_length-le c.self.inside.read.items over in

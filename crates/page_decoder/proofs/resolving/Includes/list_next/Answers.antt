@@ -17,7 +17,7 @@ returns-in_default-clause-resolves c = λ table results left r.
     let pending = drop 1 c.args.self.now.pending in
     let include : Include = record { name = c.include.inside.target; offset = c.include.inside.place } in
     let e = kept_is c.args.self.now inherited None (include ∷ pending) refl c.requires.passed
-        (c.next-include.ensures ∙ ap (λ i. i ∷ pending) (sym c.include.view_is)) in
+    (c.next-include.ensures ∙ ap (λ i. i ∷ pending) (sym c.include.view_is)) in
     let waits = subst (λ it. Resolves home known left it) e r in
     subst (λ stop. Answers home known left stop c.args.self.now) (sym c.missing.ensures)
     (stops_missing home known left inherited include pending (sym c.number_of.ensures ∙ c.in_default.is) waits)
@@ -30,7 +30,7 @@ returns-in-Files-clause-resolves c = λ table results left r.
     let pending = drop 1 c.args.self.now.pending in
     let include : Include = record { name = c.include.inside.target; offset = c.include.inside.place } in
     let e = kept_is c.args.self.now inherited None (include ∷ pending) refl c.requires.passed
-        (c.next-include.ensures ∙ ap (λ i. i ∷ pending) (sym c.include.view_is)) in
+    (c.next-include.ensures ∙ ap (λ i. i ∷ pending) (sym c.include.view_is)) in
     let waits = subst (λ it. Resolves home known left it) e r in
     subst (λ it. Resolves home known left it)
     (sym (kept_is c.begin.new.self inherited (Some c.in-Files.files) pending c.begin.ensures.inherited c.begin.ensures.listed c.begin.ensures.pending))
@@ -45,7 +45,7 @@ returns-in-NeedOutline-clause-resolves c = λ table results left r.
     let pending = drop 1 c.args.self.now.pending in
     let include : Include = record { name = c.include.inside.target; offset = c.include.inside.place } in
     let e = kept_is c.args.self.now inherited None (include ∷ pending) refl c.requires.passed
-        (c.next-include.ensures ∙ ap (λ i. i ∷ pending) (sym c.include.view_is)) in
+    (c.next-include.ensures ∙ ap (λ i. i ∷ pending) (sym c.include.view_is)) in
     let waits = subst (λ it. Resolves home known left it) e r in
     subst (λ it. Needs home known left (NeedOutline c.in-NeedOutline.file) it) (sym e)
     (needs_outline home known left inherited include pending c.in-Some.target c.in-NeedOutline.file (sym c.number_of.ensures ∙ c.in-Some.is)
@@ -59,7 +59,7 @@ returns-in-Refused-clause-resolves c = λ table results left r.
     let pending = drop 1 c.args.self.now.pending in
     let include : Include = record { name = c.include.inside.target; offset = c.include.inside.place } in
     let e = kept_is c.args.self.now inherited None (include ∷ pending) refl c.requires.passed
-        (c.next-include.ensures ∙ ap (λ i. i ∷ pending) (sym c.include.view_is)) in
+    (c.next-include.ensures ∙ ap (λ i. i ∷ pending) (sym c.include.view_is)) in
     let waits = subst (λ it. Resolves home known left it) e r in
     stops_refused home known left inherited include pending c.in-Some.target c.in-Refused.fault (sym c.number_of.ensures ∙ c.in-Some.is)
     (sym (c.in_ok-files.ensures table results c.args.file) ∙ c.in-Refused.is) waits

@@ -1,5 +1,5 @@
 -- Steps of resolving: each leaves what all includes come to, whatever more becomes known.
-use Rattle.std.proofs.Common.{◌≡◌, ◌<◌, ℕ, zero, suc, Option, Some, None, List, [], ◌∷◌, ◌++◌, length, refl, sym, ap, ◌∙◌, subst}
+use Rattle.std.proofs.Common.{◌≡◌, ℕ, Option, Some, None, List, [], ◌∷◌, ◌++◌, drop, slice_get, refl, sym, ap, ◌∙◌}
 use Rattle.bit_plane.specs.Pixels.{Pixels}
 use Rattle.djvu_base.specs.declared.faults.Fault.{Fault}
 use Rattle.djvu_base.specs.declared.faults.FaultKind.TheVariants as fault
@@ -8,7 +8,7 @@ use Rattle.include_graph.specs.declared.verdicts.Verdict.{Verdict}
 use Rattle.include_graph.specs.declared.verdicts.Verdict.TheVariants as verdict
 use Rattle.include_graph.specs.Graphs.{KnownOn, VerdictOn, same_verdict, was_unknown}
 use Rattle.include_graph.specs.Verdicts.{number_of, verdict_of}
-use Rattle.page_decoder.specs.Results.{Result, Dictionary, Nothing}
+use Rattle.page_decoder.specs.Results.{Result, Dictionary, Nothing, result_of}
 use Rattle.page_decoder.specs.Results as result
 use Rattle.page_decoder.specs.Given.{Role, Page, Included, Home, Known, KnowsMore}
 use Rattle.page_decoder.specs.PageRead.{Ending, NeedOutline, NeedFile, Refused, Include, Left, or_else}
@@ -37,6 +37,13 @@ resolves_on home known more left it on r = record {
 -- before anything is begun
 pub resolves_first : (home : Home) (known : Known) (left : Left) → Resolves home known left (resolving_of left.decoded)
 resolves_first home known left = record { reached = left.told.reached; rest = λ more on. refl }
+
+-- what is kept, by its parts
+pub kept_is : (it : Resolving) (inherited : Option (List Pixels)) (listed : Option (List ℕ)) (pending : List Include) → it.inherited ≡ inherited
+    → it.listed ≡ listed → it.pending ≡ pending → it ≡ record { inherited = inherited; listed = listed; pending = pending }
+kept_is it inherited listed pending a b c = ap (λ x. record { inherited = x; listed = it.listed; pending = it.pending }) a
+    ∙ ap (λ x. record { inherited = inherited; listed = x; pending = it.pending }) b
+    ∙ ap (λ x. record { inherited = inherited; listed = listed; pending = x }) c
 
 -- ---- the next include
 
@@ -71,8 +78,8 @@ pub comes_to_hand : (home : Home) (known : Known) (left : Left) (inherited : Opt
 comes_to_hand home known left inherited include pending target files stay n e r = record {
   reached = r.reached;
   rest = λ more on. r.rest more on
-    ∙ ap (λ t. and_then (at_target home more include.offset t (with_files inherited r.reached left)) (resolved home more pending)) n
-    ∙ ap (λ v. and_then (at_verdict more v (with_files inherited r.reached left)) (resolved home more pending))
+      ∙ ap (λ t. and_then (at_target home more include.offset t (with_files inherited r.reached left)) (resolved home more pending)) n
+      ∙ ap (λ v. and_then (at_verdict more v (with_files inherited r.reached left)) (resolved home more pending))
       (listing_on home.role home known more target files stay on e);
 }
 
@@ -84,7 +91,7 @@ stops_missing home known left inherited include pending n r = record {
   inherited = inherited;
   reached = r.reached;
   is = r.rest known (knows_same known)
-    ∙ ap (λ t. and_then (at_target home known include.offset t (with_files inherited r.reached left)) (resolved home known pending)) n;
+      ∙ ap (λ t. and_then (at_target home known include.offset t (with_files inherited r.reached left)) (resolved home known pending)) n;
 }
 
 -- at its target's verdict, by the end that it comes to there
@@ -96,9 +103,9 @@ stops_at home known left inherited include pending target v end n e at r = recor
   inherited = inherited;
   reached = r.reached;
   is = r.rest known (knows_same known)
-    ∙ ap (λ t. and_then (at_target home known include.offset t (with_files inherited r.reached left)) (resolved home known pending)) n
-    ∙ ap (λ w. and_then (at_verdict known w (with_files inherited r.reached left)) (resolved home known pending)) e
-    ∙ ap (λ s. and_then s (resolved home known pending)) (at (with_files inherited r.reached left));
+      ∙ ap (λ t. and_then (at_target home known include.offset t (with_files inherited r.reached left)) (resolved home known pending)) n
+      ∙ ap (λ w. and_then (at_verdict known w (with_files inherited r.reached left)) (resolved home known pending)) e
+      ∙ ap (λ s. and_then s (resolved home known pending)) (at (with_files inherited r.reached left));
 }
 
 pub stops_refused : (home : Home) (known : Known) (left : Left) (inherited : Option (List Pixels)) (include : Include) (pending : List Include)
@@ -130,21 +137,35 @@ pub passes_first : (home : Home) (known : Known) (left : Left) (inherited : Opti
     → Passes home known left inherited pending None files
 passes_first home known left inherited pending files r = record { reached = r.reached; rest = r.rest }
 
--- the next file, by what it gives
+first_of : (files : List ℕ) (file : ℕ) → slice_get files 0 ≡ Some file → files ≡ file ∷ drop 1 files
+first_of [] file e = absurd (clash e)
+  where
+    clash : ◌≡◌ {A = Option ℕ} None (Some file) → ⊥
+    clash h = cc
+first_of (first ∷ files) file e = ap (λ f. f ∷ files) (one e)
+  where
+    one : Some first ≡ Some file → first ≡ file
+    one h = cc
+
+-- the first of the files, by what it gives
 module _ (home : Home) (known : Known) (left : Left) (inherited : Option (List Pixels)) (pending : List Include) (found : Option (List Pixels))
-    (file : ℕ) (files : List ℕ) (p : Passes home known left inherited pending found (file ∷ files)) where
+    (file : ℕ) (files : List ℕ) (first : slice_get files 0 ≡ Some file) (p : Passes home known left inherited pending found files) where
+  abbrev now : Left
+  now = with_files inherited p.reached left
+
   abbrev at : Known → Option Result → Step
-  at more it = and_then (at_result (in_files more files) file it (with_files inherited p.reached left)) (resolved home more pending)
+  at more it = and_then (at_result (in_files more (drop 1 files)) file it now) (resolved home more pending)
+
+  on_first : (more : Known) (last : Option (List Pixels)) → in_files more files last now ≡ at_result (in_files more (drop 1 files)) file (more.results file) now
+  on_first more last = ap (λ fs. in_files more fs last now) (first_of files file first)
 
   by : (it : Result) → known.results file ≡ Some it → (more : Known) → KnowsMore known more → all_resolved home more left ≡ at more (Some it)
-  by it e more on = p.rest more on ∙ ap (at more) (on.results file it e)
+  by it e more on = p.rest more on ∙ ap (λ s. and_then s (resolved home more pending)) (on_first more found) ∙ ap (at more) (on.results file it e)
 
-  pub passes_dictionary : (shapes : List Pixels) → known.results file ≡ Some (Dictionary shapes)
-      → Passes home known left inherited pending (Some shapes) files
-  passes_dictionary shapes e = record { reached = p.reached ++ file ∷ []; rest = by (Dictionary shapes) e }
-
-  pub passes_nothing : known.results file ≡ Some Nothing → Passes home known left inherited pending None files
-  passes_nothing e = record { reached = p.reached ++ file ∷ []; rest = by Nothing e }
+  pub passes_file : (gave : Option (List Pixels)) → known.results file ≡ Some (result_of gave)
+      → Passes home known left inherited pending gave (drop 1 files)
+  passes_file (Some shapes) e = record { reached = p.reached ++ file ∷ []; rest = by (Dictionary shapes) e }
+  passes_file None e = record { reached = p.reached ++ file ∷ []; rest = by Nothing e }
 
   pub stops_at_file : (fault : Fault) → known.results file ≡ Some (result.Refused fault) → Stops home known left (Refused fault)
   stops_at_file fault e = record {
@@ -154,21 +175,35 @@ module _ (home : Home) (known : Known) (left : Left) (inherited : Option (List P
   }
 
   pub needs_file : known.results file ≡ None
-      → Needs home known left (NeedFile file) (record { inherited = inherited; listed = Some (file ∷ files); pending = pending })
+      → Needs home known left (NeedFile file) (record { inherited = inherited; listed = Some files; pending = pending })
   needs_file e = record {
     stops = record {
       inherited = inherited;
       reached = p.reached ++ file ∷ [];
-      is = p.rest known (knows_same known) ∙ ap (at known) e;
+      is = p.rest known (knows_same known) ∙ ap (λ s. and_then s (resolved home known pending)) (on_first known found) ∙ ap (at known) e;
     };
-    resolves = record { reached = p.reached; rest = p.rest };
+    resolves = record {
+      reached = p.reached;
+      rest = λ more on. p.rest more on ∙ ap (λ s. and_then s (resolved home more pending)) (on_first more found ∙ sym (on_first more None));
+    };
   }
+
+none_left : (files : List ℕ) → slice_get files 0 ≡ None → files ≡ []
+none_left [] e = refl
+none_left (first ∷ files) e = absurd (clash e)
+  where
+    clash : ◌≡◌ {A = Option ℕ} (Some first) None → ⊥
+    clash h = cc
 
 -- the last file gave this dictionary or none
 pub passes_last : (home : Home) (known : Known) (left : Left) (inherited : Option (List Pixels)) (pending : List Include) (found : Option (List Pixels))
-    → Passes home known left inherited pending found []
+    (files : List ℕ) → slice_get files 0 ≡ None → Passes home known left inherited pending found files
     → Resolves home known left (record { inherited = or_else inherited found; listed = None; pending = pending })
-passes_last home known left inherited pending found p = record { reached = p.reached; rest = p.rest }
+passes_last home known left inherited pending found files last p = record {
+  reached = p.reached;
+  rest = λ more on. p.rest more on
+      ∙ ap (λ fs. and_then (in_files more fs found (with_files inherited p.reached left)) (resolved home more pending)) (none_left files last);
+}
 
 -- ---- the end
 

@@ -6,12 +6,14 @@ use Rattle.zp_table.specs.declared.rows.Row.{Row}
 use Rattle.include_graph.specs.declared.outline.Outline.{Outline}
 use Rattle.include_graph.specs.Verdicts.{in_list}
 use Rattle.jb2_records.specs.declared.results.FileResult.{FileResult}
-use Rattle.jb2_records.specs.declared.results.FileResult.TheVariants as gift
+use Rattle.jb2_records.specs.declared.results.FileResult.TheVariants as file
 use Rattle.page_decoder.specs.declared.roles.Role.{Role as FileRole}
 use Rattle.page_decoder.specs.declared.roles.Role.TheVariants as file_role
 use Rattle.page_decoder.specs.declared.resolving.Resolution.{Resolution}
 use Rattle.page_decoder.specs.declared.resolving.Resolution.TheVariants as resolution
-use Rattle.page_decoder.specs.Results.{Result, Dictionary, Nothing}
+use Rattle.page_decoder.specs.declared.resolving.Gift.{Gift}
+use Rattle.page_decoder.specs.declared.resolving.Gift.TheVariants as gift
+use Rattle.page_decoder.specs.Results.{Result, Dictionary, Nothing, result_of}
 use Rattle.page_decoder.specs.Results as result
 use Rattle.page_decoder.specs.Given.{Role, Page, Included, Home, Known, KnowsMore}
 use Rattle.page_decoder.specs.PageRead.{Ending, NeedOutline, NeedFile, Refused, Include, Decoded, Left}
@@ -21,10 +23,10 @@ use Rattle.page_decoder.specs.Read.{Step, On, ends, and_then, in_files, resolved
 
 -- what a file is known to give. Of one whose decoding found no memory nothing is known
 abbrev pub result_in : FileResult → Option Result
-result_in (gift.Dictionary shapes) = Some (Dictionary shapes)
-result_in gift.Nothing = Some Nothing
-result_in (gift.Refused fault) = Some (result.Refused fault)
-result_in gift.NoMemory = None
+result_in (file.Dictionary shapes) = Some (Dictionary shapes)
+result_in file.Nothing = Some Nothing
+result_in (file.Refused fault) = Some (result.Refused fault)
+result_in file.NoMemory = None
 
 -- what stands at a place, if there is one
 abbrev pub given_at : Option (Option FileResult) → Option FileResult
@@ -34,6 +36,12 @@ given_at (Some gift) = gift
 abbrev pub result_from : Option FileResult → Option Result
 result_from None = None
 result_from (Some gift) = result_in gift
+
+-- the same, in the code's words
+abbrev pub gift_of : Gift → Option Result
+gift_of (gift.Gives found) = Some (result_of found)
+gift_of (gift.Refused fault) = Some (result.Refused fault)
+gift_of gift.Unknown = None
 
 -- what was given of so many files, by their numbers. Neither list has a place before the first gift
 pub record Gifts : Type 0 where

@@ -38,8 +38,5 @@ mod walk;
 
 pub use decoder::PageStep;
 pub use ends::PageEnd;
-pub use other_files::OtherFiles;
 pub use page::Size;
 pub use reading::{Drawn, PageReading, read_page};
-pub use resolving::{Include, Includes, Resolution};
-pub use roles::Role;

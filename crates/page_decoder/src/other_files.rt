@@ -72,9 +72,7 @@ impl OtherFiles {
         ensures results { self.new.results ≡ self.old.results }
         ensures err { OnErr result (self.new ≡ self.old) }
     {
-        if self.outlines.is_empty() {
-            self.outlines = all_unknown(self.alloc, self.files)?;
-        }
+        self.make_places()?;
         self.outlines[file as usize] = Some(outline);
         Ok(())
     }
@@ -94,6 +92,20 @@ impl OtherFiles {
             self.results = all_unknown(self.alloc, self.files)?;
         }
         self.results[file as usize] = Some(gift);
+        Ok(())
+    }
+
+    /// There is a place for the outline of each file, where there was none.
+    fn make_places(&mut self) -> Result<(), AllocError>
+        ensures places { IfOk result (λ done. length self.new.outlines ≡ self.new.count) }
+        ensures same { (file : ℕ) → (known_by self.new).outlines file ≡ (known_by self.old).outlines file }
+        ensures count { self.new.count ≡ self.old.count }
+        ensures results { self.new.results ≡ self.old.results }
+        ensures err { OnErr result (self.new ≡ self.old) }
+    {
+        if self.outlines.is_empty() {
+            self.outlines = all_unknown(self.alloc, self.files)?;
+        }
         Ok(())
     }
 }

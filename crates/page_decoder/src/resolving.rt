@@ -1,19 +1,19 @@
 //! Includes of a file, which are resolved late and in order, and what is kept of them.
-ghost use Rattle.std.specs.Prelude.{◌≡◌, ℕ, ◌<◌, ◌^◌, List, [], length, map, drop, Option, Some, None, IfOk, OnErr, slice_get};
+ghost use Rattle.std.specs.Prelude.{◌≡◌, ℕ, ◌<◌, ◌^◌, List, [], ◌∷◌, length, map, drop, Option, Some, None, IfOk, OnErr, slice_get};
 ghost use Rattle.djvu_base.specs.Name.{IsAscending};
 ghost use Rattle.djvu_base.specs.declared.faults.FaultKind.TheVariants as fault;
 ghost use Rattle.zp_table.specs.declared.rows.Row.{Row};
 ghost use Rattle.include_graph.specs.declared.outline.Outline.{Outline};
-ghost use Rattle.include_graph.specs.Verdicts.{outline_in, number_of, fault_at};
+ghost use Rattle.include_graph.specs.Verdicts.{outline_in, fault_at};
 ghost use Rattle.jb2_records.specs.declared.results.FileResult.{FileResult};
 ghost use Rattle.page_decoder.specs.Given.{Home};
 ghost use Rattle.page_decoder.specs.PageRead.{Left, or_else};
 ghost use Rattle.page_decoder.specs.Read.{listing};
-ghost use Rattle.page_decoder.specs.Resolving.{IsPlaced, given_at, known_of, home_of, role_of, with_include, Resolves, Answers, AnswersIf};
+ghost use Rattle.page_decoder.specs.Resolving.{IsPlaced, given_at, result_from, gift_of, known_of, home_of, role_of, with_include, Resolves, Answers, AnswersIf};
 
 use crate::roles::Role;
 use djvu_base::{Fault, FaultKind, Items, Name, Place, Share};
-use include_graph::{Outline, Verdict, verdict};
+use include_graph::{Outline, Verdict, number_of, verdict};
 use jb2_records::{FileResult, SharedDictionary};
 use std::alloc::{AllocError, Global};
 use std::marker::Model;
@@ -228,16 +228,16 @@ impl Includes {
         let mut found = None;
         'files: while let Some(file) = listed.next() {
             match given(results, file)? {
-                None => {
+                Gift::Gives(dictionary) => {
+                    found = dictionary;
+                    listed.pass();
+                }
+                Gift::Refused(fault) => return Ok(Some(Resolution::Refused(fault))),
+                Gift::Unknown => {
                     self.at_hand = Some(listed);
                     return Ok(Some(Resolution::NeedFile(file)));
                 }
-                Some(FileResult::Refused(fault)) => return Ok(Some(Resolution::Refused(fault))),
-                Some(FileResult::NoMemory) => return Err(AllocError),
-                Some(FileResult::Nothing) => found = None,
-                Some(FileResult::Dictionary(dictionary)) => found = Some(dictionary),
             }
-            listed.pass();
         }
         self.inherit(found);
         Ok(None)
@@ -273,19 +273,38 @@ impl Includes {
             → AnswersIf (home_of role table names.now file) (known_of (map outline_in outlines.now) results) left stop self.new) }
         ensures pending { IfOk result (λ stop. stop ≡ None → length self.new.pending < length self.old.pending) }
     {
-        let include = &self.read[self.begun];
+        include_graph::laws::verdicts_stay();
+        let include = self.next();
         let Some(target) = number_of(names, &include.target) else {
             return Ok(Some(missing(file, include.place)));
         };
         match list_of(alloc, role, names, outlines, target)? {
             Verdict::Files(files) => {
-                self.begun += 1;
-                self.at_hand = Some(Listed::of(files));
+                self.begin(files);
                 Ok(None)
             }
             Verdict::NeedOutline(file) => Ok(Some(Resolution::NeedOutline(file))),
             Verdict::Refused(fault) => Ok(Some(Resolution::Refused(fault))),
         }
+    }
+
+    /// The next include.
+    fn next(&self) -> &Include
+        requires { 0 < length self.now.pending }
+        ensures { self.now.pending ≡ result.now ∷ drop 1 self.now.pending }
+    {
+        &self.read[self.begun]
+    }
+
+    /// The next include comes to hand, with these files.
+    fn begin(&mut self, files: Items<u32>)
+        requires { 0 < length self.old.pending }
+        ensures inherited { self.new.inherited ≡ self.old.inherited }
+        ensures listed { self.new.listed ≡ Some files }
+        ensures pending { self.new.pending ≡ drop 1 self.old.pending }
+    {
+        self.begun += 1;
+        self.at_hand = Some(Listed::of(files));
     }
 
     /// All includes were looked up.
@@ -326,13 +345,29 @@ fn list_of(
     }
 }
 
-/// A share of what a file gives, where that is known.
-fn given(results: &[Option<FileResult>], file: u32) -> Result<Option<FileResult>, AllocError>
-    ensures { IfOk result (λ gift. gift ≡ given_at (slice_get results.now file)) }
+/// What a listed file is known to give.
+#[derive(Debug, Drop)]
+enum Gift {
+    /// A share of its dictionary, or none.
+    Gives(Option<SharedDictionary>),
+    /// The file is refused.
+    Refused(Fault),
+    /// It isn't known.
+    Unknown,
+}
+
+/// What a file is known to give. Where its decoding found no memory, there is none here.
+fn given(results: &[Option<FileResult>], file: u32) -> Result<Gift, AllocError>
+    ensures { IfOk result (λ gift. gift_of gift ≡ result_from (given_at (slice_get results.now file))) }
 {
     match results.get(file as usize) {
-        Some(Some(gift)) => Ok(Some(gift.share()?)),
-        _ => Ok(None),
+        Some(Some(FileResult::Dictionary(dictionary))) => Ok(Gift::Gives(Some(
+            dictionary.share()?,
+        ))),
+        Some(Some(FileResult::Nothing)) => Ok(Gift::Gives(None)),
+        Some(Some(FileResult::Refused(fault))) => Ok(Gift::Refused(*fault)),
+        Some(Some(FileResult::NoMemory)) => Err(AllocError),
+        Some(None) | None => Ok(Gift::Unknown),
     }
 }
 
@@ -344,19 +379,4 @@ fn missing(file: u32, offset: u32) -> Resolution
         kind: FaultKind::MissingInclude,
         place: Place { file, offset },
     })
-}
-
-/// The number of a name among others, or `None` where it isn't one of them.
-fn number_of(names: &[Name], name: &Name) -> Option<u32>
-    requires ascending { IsAscending names.now }
-    requires few { length names.now < 2 ^ 32 }
-    ensures { result ≡ number_of name.now names.now }
-{
-    match names
-        .iter()
-        .position(|listed| name.bytes() == listed.bytes())
-    {
-        Some(place) => Some(place as u32),
-        None => None,
-    }
 }

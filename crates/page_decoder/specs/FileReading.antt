@@ -25,10 +25,11 @@ use Rattle.page_decoder.specs.declared.decoder.PageStep.TheVariants as step
 use Rattle.page_decoder.specs.Given.{Home, Known, Given, Within}
 use Rattle.page_decoder.specs.PageRead.{last_layers, Decoded, Left, or_else, in_force, at_start}
 use Rattle.page_decoder.specs.Headers.{Head, header_fault}
-use Rattle.page_decoder.specs.Acts.{Act, Close, Waits, Breaks, Over, acts_of, close_in}
+use Rattle.page_decoder.specs.Acts.{Act, Close, Breaks, Over, acts_of, close_in}
+use Rattle.page_decoder.specs.Acts as acts
 use Rattle.page_decoder.specs.Read.{Step, On, and_then, after, all_resolved, at_header, at_close, finished, step_through, read}
 use Rattle.page_decoder.specs.ActsTold.{OpenChunk, ActsTold, nothing_told, begun_at, all_told, after_events, after_step}
-use Rattle.page_decoder.specs.Resolving.{home_of, known_of, resolving_of, Resolves}
+use Rattle.page_decoder.specs.Resolving.{home_of, known_of, Waits, Resolves}
 use Rattle.page_decoder.specs.Kept.{Keeping, Keeps}
 use Rattle.page_decoder.specs.Opened.{Opens, decisions_of}
 use Rattle.page_decoder.specs.Decoder.{next_entry, answer_to, decisions_to, drawn_with, Shows}
@@ -95,7 +96,7 @@ HoldsChunk table (Some told) None decoded kept = ⊥
 pub record Holds (home : Home) (known : Known) (so_far : ActsTold) (left : Left) (reader : FileReader) : Type 0 where
   pub on : reached home known so_far.acts so_far.chunk ≡ On left
   pub holds_chunk : HoldsChunk home.table so_far.chunk reader.chunk left.decoded reader.kept
-  pub includes_are : reader.includes ≡ resolving_of left.decoded
+  pub waits : Waits home known left.decoded reader.includes
   pub decisions_are : TicksExactly left.told.decisions 0 reader.decisions
   pub tallies : Tallies left reader
 
@@ -243,7 +244,7 @@ pub record IsTold (given : Given) (rest : List ℕ) (event : WalkStep) (used : L
   pub settles : Settles event walks.told now.bytes rest
 
 abbrev pub close_of : ℕ → FileClose → Close
-close_of origin close.Waits = Waits
+close_of origin close.Waits = acts.Waits
 close_of origin (close.Breaks kind offset) = Breaks kind offset
 close_of origin close.Over = Over origin
 
@@ -269,7 +270,7 @@ pub record IsClosing (given : Given) (rest : List ℕ) (behind : FileClose) (rea
   pub reads : read given ≡ at_close given.home given.known (close_of reader.origin behind) left
   pub stays : behind ≡ close.Over → (later : Given) → Within given later → read later ≡ at_close later.home later.known (Over reader.origin) left
   pub like : IsLike left.decoded reader.kept
-  pub includes_are : reader.includes ≡ resolving_of left.decoded
+  pub includes_wait : Waits given.home given.known left.decoded reader.includes
   pub decisions_are : TicksExactly left.told.decisions 0 (decisions_in reader)
   pub tallies : Tallies left reader
   pub waits : behind ≡ close.Waits → (rest ≡ []) × Stands given reader

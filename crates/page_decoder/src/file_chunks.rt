@@ -3,6 +3,7 @@ ghost use Rattle.std.specs.Prelude.{◌≡◌, ◌≢◌, ◌<◌, ◌≤◌, �
 ghost use Rattle.djvu_base.specs.Meter.{TicksExactly, ticked};
 ghost use Rattle.djvu_base.specs.Name.{IsAscending};
 ghost use Rattle.zp_table.specs.declared.rows.Row.{Row};
+ghost use Rattle.iff_chunks.specs.declared.walker.WalkStep.TheVariants as step;
 ghost use Rattle.include_graph.specs.Verdicts.{outline_in};
 ghost use Rattle.page_decoder.specs.Given.{Given};
 ghost use Rattle.page_decoder.specs.PageRead.{Left};
@@ -28,7 +29,7 @@ use std::sync::Arc;
 impl FileReader {
     /// At the end of the chunk at hand.
     pub(crate) fn at_chunk_end<M: Meter>(&mut self, meter: &mut M) -> Option<PageStep>
-        ensures comes { (given : Given) (rest taken : List ℕ) → IsTold given rest WalkStep.ChunkEnd taken self.old → ComesTo given rest result self.old self.new }
+        ensures comes { (given : Given) (rest taken : List ℕ) → IsTold given rest step.ChunkEnd taken self.old → ComesTo given rest result self.old self.new }
         ensures walker { self.new.walker ≡ self.old.walker }
         ensures stage { self.new.stage ≡ self.old.stage }
         ensures rise { RiseTogether (decisions_in self.old) (decisions_in self.new) (M.count meter.old) (M.count meter.new) }

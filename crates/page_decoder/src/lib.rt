@@ -16,6 +16,7 @@ mod brought;
 mod drawings;
 mod ends;
 pub mod laws;
+mod listing;
 mod other_files;
 mod page;
 pub mod page_laws;

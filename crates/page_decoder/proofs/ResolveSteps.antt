@@ -71,6 +71,17 @@ kept_is it inherited listed pending marks a b c d = ap (λ x. record { inherited
     ∙ ap (λ x. record { inherited = inherited; listed = listed; pending = x; marks = it.marks }) c
     ∙ ap (λ x. record { inherited = inherited; listed = listed; pending = pending; marks = x }) d
 
+-- the same marks in another list
+pub same_marks : (home : Home) (known : Known) (left : Left) (it : Resolving) (marks : List Bool)
+    → ((target : ℕ) → is_marked marks target ≡ is_marked it.marks target) → Resolves home known left it
+    → Resolves home known left (record it { marks = marks })
+same_marks home known left it marks same r = record {
+  reached = r.reached;
+  rest = r.rest;
+  begun = r.begun;
+  marks = λ target m. r.marks target (sym (same target) ∙ m);
+}
+
 -- of a file of which nothing was read
 pub waits_first : (home : Home) (known : Known) → Waits home known nothing_decoded (record { inherited = None; listed = None; pending = []; marks = [] })
 waits_first home known = record { inherited = refl; listed = refl; pending = refl; marks = λ target m. absurd (true≢false (sym m)) }

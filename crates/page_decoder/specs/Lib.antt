@@ -40,3 +40,4 @@ pub mod ActsTold
 pub mod Decoder
 pub mod FileReading
 pub mod FileSteps
+pub mod PageFed

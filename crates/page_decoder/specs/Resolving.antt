@@ -1,5 +1,5 @@
 -- The resolving of includes: what is kept of them, and how that stands to the definition, whatever more becomes known.
-use Rattle.std.specs.Prelude.{ℕ, ◌≡◌, ◌⊎◌, List, [], ◌∷◌, ◌++◌, length, Option, Some, None, ⊤, slice_get}
+use Rattle.std.specs.Prelude.{ℕ, ◌≡◌, ◌⊎◌, Bool, true, false, List, [], ◌∷◌, ◌++◌, length, Option, Some, None, ⊤, slice_get, unwrap_or}
 use Rattle.bit_plane.specs.Pixels.{Pixels}
 use Rattle.djvu_base.specs.declared.faults.Fault.{Fault}
 use Rattle.zp_table.specs.declared.rows.Row.{Row}
@@ -11,13 +11,13 @@ use Rattle.page_decoder.specs.declared.roles.Role.{Role as FileRole}
 use Rattle.page_decoder.specs.declared.roles.Role.TheVariants as file_role
 use Rattle.page_decoder.specs.declared.resolving.Resolution.{Resolution}
 use Rattle.page_decoder.specs.declared.resolving.Resolution.TheVariants as resolution
-use Rattle.page_decoder.specs.declared.resolving.Gift.{Gift}
-use Rattle.page_decoder.specs.declared.resolving.Gift.TheVariants as gift
+use Rattle.page_decoder.specs.declared.listing.Gift.{Gift}
+use Rattle.page_decoder.specs.declared.listing.Gift.TheVariants as gift
 use Rattle.page_decoder.specs.Results.{Result, Dictionary, Nothing, result_of}
 use Rattle.page_decoder.specs.Results as result
 use Rattle.page_decoder.specs.Given.{Role, Page, Included, Home, Known, KnowsMore}
-use Rattle.page_decoder.specs.PageRead.{Ending, NeedOutline, NeedFile, Refused, Include, Decoded, Left}
-use Rattle.page_decoder.specs.Read.{Step, On, ends, and_then, in_files, resolved, all_resolved, nothing_pending}
+use Rattle.page_decoder.specs.PageRead.{Ending, NeedOutline, NeedFile, Refused, Include, Decoded, Left, or_else}
+use Rattle.page_decoder.specs.Read.{Step, On, ends, and_then, in_files, at_verdict, listing, resolved, all_resolved, nothing_pending}
 
 -- ---- what is known of other files
 
@@ -76,18 +76,24 @@ home_of role table names file = record { role = role_of role; table = table; nam
 
 -- ---- what is kept of includes
 
--- the dictionary that includes gave so far, the files of the include at hand that weren't passed, and the includes behind it
+-- the target of the include at hand, and those of its files that weren't passed
+pub record AtHand : Type 0 where
+  pub target : ℕ
+  pub files : List ℕ
+
+-- the dictionary that includes gave so far, the include at hand, those behind it, and which targets were resolved, by their numbers
 pub record Resolving : Type 0 where
   pub inherited : Option (List Pixels)
-  pub listed : Option (List ℕ)
+  pub listed : Option AtHand
   pub pending : List Include
-
--- no include is at hand, and these wait, behind chunks that left this
-abbrev pub resolving_of : Decoded → Resolving
-resolving_of decoded = record { inherited = decoded.inherited; listed = None; pending = decoded.pending }
+  pub marks : List Bool
 
 abbrev pub with_include : Include → Resolving → Resolving
 with_include include it = record it { pending = it.pending ++ include ∷ [] }
+
+-- whether the file with this number has a mark. None has one before the first list
+abbrev pub is_marked : List Bool → ℕ → Bool
+is_marked marks file = unwrap_or (slice_get marks file) false
 
 -- what was left, with a dictionary that includes gave, and the files reached
 abbrev pub with_files : Option (List Pixels) → List ℕ → Left → Left
@@ -96,9 +102,39 @@ with_files inherited reached left = record left {
   told = record left.told { reached = reached };
 }
 
-abbrev pub listed_files : Known → Option (List ℕ) → Left → Step
+-- the files of an include of this target were passed up to these, whatever more becomes known. The last of them gave this
+-- dictionary, or none
+pub record HasPassed (home : Home) (known : Known) (target : ℕ) (files : List ℕ) (found : Option (List Pixels)) : Type 0 where
+  pub passed : List ℕ
+  pub is : (more : Known) → KnowsMore known more → (inherited : Option (List Pixels)) (reached : List ℕ) (left : Left)
+      → at_verdict more (listing home.role home more target) (with_files inherited reached left)
+      ≡ in_files more files found (with_files inherited (reached ++ passed) left)
+
+-- all of them were passed, and where this dictionary is inherited, a further include of the target gives no other
+pub record GaveAll (home : Home) (known : Known) (inherited : Option (List Pixels)) (target : ℕ) : Type 0 where
+  pub found : Option (List Pixels)
+  pub all : HasPassed home known target [] found
+  pub absorbed : or_else inherited found ≡ inherited
+
+-- what is marked was resolved
+abbrev pub HasMarks : Home → Known → Option (List Pixels) → List Bool → Type 0
+HasMarks home known inherited marks = (target : ℕ) → is_marked marks target ≡ true → GaveAll home known inherited target
+
+-- behind chunks that left this, no include is at hand, and these wait
+pub record Waits (home : Home) (known : Known) (decoded : Decoded) (it : Resolving) : Type 0 where
+  pub inherited : it.inherited ≡ decoded.inherited
+  pub listed : it.listed ≡ None
+  pub pending : it.pending ≡ decoded.pending
+  pub marks : HasMarks home known it.inherited it.marks
+
+abbrev pub listed_files : Known → Option AtHand → Left → Step
 listed_files known None left = On left
-listed_files known (Some files) left = in_files known files None left
+listed_files known (Some hand) left = in_files known hand.files None left
+
+-- the include at hand is one of its target
+abbrev pub HasBegun : Home → Known → Option AtHand → Type 0
+HasBegun home known None = ⊤
+HasBegun home known (Some hand) = HasPassed home known hand.target hand.files None
 
 -- what is to be resolved from here: the files of the include at hand, and then the includes behind it
 abbrev pub rest_of : Home → Known → Resolving → Left → Step
@@ -109,12 +145,14 @@ rest_of home known it left = and_then (listed_files known it.listed left) (resol
 pub record Resolves (home : Home) (known : Known) (left : Left) (it : Resolving) : Type 0 where
   pub reached : List ℕ
   pub rest : (more : Known) → KnowsMore known more → all_resolved home more left ≡ rest_of home more it (with_files it.inherited reached left)
+  pub begun : HasBegun home known it.listed
+  pub marks : HasMarks home known it.inherited it.marks
 
 -- all are resolved, and more that becomes known changes nothing
 pub record IsResolved (home : Home) (known : Known) (left : Left) (it : Resolving) : Type 0 where
   pub reached : List ℕ
   pub is : (more : Known) → KnowsMore known more → all_resolved home more left ≡ On (nothing_pending (with_files it.inherited reached left))
-  pub empty : it ≡ record { inherited = it.inherited; listed = None; pending = [] }
+  pub waits : Waits home known (nothing_pending (with_files it.inherited reached left)).decoded it
 
 -- the includes that were pending come to this end
 pub record Stops (home : Home) (known : Known) (left : Left) (end : Ending) : Type 0 where

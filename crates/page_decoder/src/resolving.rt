@@ -1,5 +1,5 @@
 //! Includes of a file, which are resolved late and in order, and what is kept of them.
-ghost use Rattle.std.specs.Prelude.{◌≡◌, ℕ, ◌<◌, ◌^◌, List, [], ◌∷◌, length, map, drop, Option, Some, None, IfOk, OnErr, slice_get};
+ghost use Rattle.std.specs.Prelude.{◌≡◌, ℕ, ◌<◌, ◌^◌, List, [], ◌∷◌, length, map, drop, Option, Some, None, IfOk, OnErr, slice_set, true};
 ghost use Rattle.djvu_base.specs.Name.{IsAscending};
 ghost use Rattle.djvu_base.specs.declared.faults.FaultKind.TheVariants as fault;
 ghost use Rattle.zp_table.specs.declared.rows.Row.{Row};
@@ -8,12 +8,12 @@ ghost use Rattle.include_graph.specs.Verdicts.{outline_in, fault_at};
 ghost use Rattle.jb2_records.specs.declared.results.FileResult.{FileResult};
 ghost use Rattle.page_decoder.specs.Given.{Home};
 ghost use Rattle.page_decoder.specs.PageRead.{Left, or_else};
-ghost use Rattle.page_decoder.specs.Read.{listing};
-ghost use Rattle.page_decoder.specs.Resolving.{IsPlaced, given_at, result_from, gift_of, known_of, home_of, role_of, with_include, Resolves, Answers, AnswersIf};
+ghost use Rattle.page_decoder.specs.Resolving.{IsPlaced, is_marked, known_of, home_of, with_include, Resolves, Answers, AnswersIf};
 
+use crate::listing::{Gift, Listed, given, list_of};
 use crate::roles::Role;
-use djvu_base::{Fault, FaultKind, Items, Name, Place, Share};
-use include_graph::{Outline, Verdict, number_of, verdict};
+use djvu_base::{Fault, FaultKind, Items, Name, Place};
+use include_graph::{Outline, Verdict, number_of};
 use jb2_records::{FileResult, SharedDictionary};
 use std::alloc::{AllocError, Global};
 use std::marker::Model;
@@ -61,50 +61,6 @@ impl Include {
     }
 }
 
-/// The files of an include that weren't passed yet.
-#[derive(Debug, Drop)]
-struct Listed {
-    files: Vec<u32>,
-    passed: usize,
-}
-
-impl Model for Listed {
-    ghost use Rattle.std.specs.Prelude.{List, ℕ, drop};
-
-    ghost Value = { List ℕ };
-
-    ghost view = { λ a. drop a.passed a.files.items };
-}
-
-impl Listed {
-    fn of(files: Items<u32>) -> Listed
-        ensures { result ≡ files }
-    {
-        Listed {
-            files: files.into_vec(),
-            passed: 0,
-        }
-    }
-
-    /// The first of them.
-    fn next(&self) -> Option<u32>
-        ensures { result ≡ slice_get self.now 0 }
-    {
-        match self.files.get(self.passed) {
-            Some(file) => Some(*file),
-            None => None,
-        }
-    }
-
-    /// Passes the first of them.
-    fn pass(&mut self)
-        requires { 0 < length self.old }
-        ensures { self.new ≡ drop 1 self.old }
-    {
-        self.passed += 1;
-    }
-}
-
 /// The includes of a file that aren't resolved yet, and the dictionary that earlier ones gave.
 #[derive(Debug, Drop)]
 pub struct Includes {
@@ -112,8 +68,10 @@ pub struct Includes {
     read: Vec<Include>,
     /// So many of them were looked up.
     begun: usize,
-    /// The files of the last one of these, up to the last of which it isn't known what it gives.
+    /// The list of the last one of these, up to the file of which it isn't known what it gives.
     at_hand: Option<Listed>,
+    /// Whether an include of a target was resolved, by the target's number. A page's first list makes room for all.
+    resolved: Vec<bool>,
 }
 
 impl Model for Includes {
@@ -122,7 +80,7 @@ impl Model for Includes {
 
     ghost Value = { Resolving };
 
-    ghost view = { λ a. record { inherited = a.dictionary; listed = a.at_hand; pending = drop a.begun a.read.items } };
+    ghost view = { λ a. record { inherited = a.dictionary; listed = a.at_hand; pending = drop a.begun a.read.items; marks = a.resolved.items } };
 
     ghost invariant = { λ a. a.begun ≤ length a.read.items };
 }
@@ -130,13 +88,14 @@ impl Model for Includes {
 impl Includes {
     /// Those of a file of which no include was read. Takes no memory.
     pub fn new(alloc: Global) -> Includes
-        ensures { result ≡ record { inherited = None; listed = None; pending = [] } }
+        ensures { result ≡ record { inherited = None; listed = None; pending = []; marks = [] } }
     {
         Includes {
             dictionary: None,
             read: Vec::new(alloc),
             begun: 0,
             at_hand: None,
+            resolved: Vec::new(alloc),
         }
     }
 
@@ -157,8 +116,9 @@ impl Includes {
     }
 
     /// Resolves the includes in order, each once: is its target there, then the verdict on it, then what the listed files give. It
-    /// is called again after gifts, and goes on where it stands. The file itself has this role and number. Each list has a place
-    /// for each name, or none yet. An included file asks for no outline: those below it were decoded before.
+    /// is called again after gifts, and goes on where it stands; after want of memory it isn't called again. The file itself has this
+    /// role and number. The lists have a place for each name, or none yet. An included file asks for no outline: those below it were
+    /// decoded before. At most two verdicts are asked for each outline that is given.
     pub fn resolve(
         &mut self,
         alloc: Global,
@@ -212,7 +172,7 @@ impl Includes {
         }
     }
 
-    /// Passes the files at hand, and inherits what the last one gives. Answers what stops this, if something does.
+    /// Passes the files at hand, and inherits what the last one gives, which is the target. Answers what stops this, if something does.
     fn pass_files(
         &mut self,
         results: &[Option<FileResult>],
@@ -240,6 +200,7 @@ impl Includes {
             }
         }
         self.inherit(found);
+        self.mark(listed.target());
         Ok(None)
     }
 
@@ -248,13 +209,51 @@ impl Includes {
         ensures inherited { self.new.inherited ≡ or_else self.old.inherited found }
         ensures listed { self.new.listed ≡ self.old.listed }
         ensures pending { self.new.pending ≡ self.old.pending }
+        ensures marks { self.new.marks ≡ self.old.marks }
     {
         if self.dictionary.is_none() {
             self.dictionary = found;
         }
     }
 
-    /// The next include comes to hand, by the list of its target's verdict. Answers what stops this, if something does.
+    /// An include of this target is resolved.
+    fn mark(&mut self, target: u32)
+        ensures inherited { self.new.inherited ≡ self.old.inherited }
+        ensures listed { self.new.listed ≡ self.old.listed }
+        ensures pending { self.new.pending ≡ self.old.pending }
+        ensures marks { self.new.marks ≡ slice_set self.old.marks target true }
+    {
+        let place = target as usize;
+        if place < self.resolved.len() {
+            self.resolved[place] = true;
+        }
+    }
+
+    /// Whether an include of this target is resolved.
+    fn is_marked(&self, target: u32) -> bool
+        ensures { result ≡ is_marked self.now.marks target }
+    {
+        match self.resolved.get(target as usize) {
+            Some(mark) => *mark,
+            None => false,
+        }
+    }
+
+    /// There is room for the marks of so many files, where a verdict is costly: on a page.
+    fn make_marks(&mut self, alloc: Global, role: Role, count: usize) -> Result<(), AllocError>
+        ensures inherited { self.new.inherited ≡ self.old.inherited }
+        ensures listed { self.new.listed ≡ self.old.listed }
+        ensures pending { self.new.pending ≡ self.old.pending }
+        ensures marks { (target : ℕ) → is_marked self.new.marks target ≡ is_marked self.old.marks target }
+    {
+        if role == Role::Page && self.resolved.is_empty() {
+            self.resolved = vec![in alloc; false; count]?;
+        }
+        Ok(())
+    }
+
+    /// The next include comes to hand, by the list of its target's verdict. One of a target that was resolved gives nothing new, and is
+    /// passed over. Answers what stops this, if something does.
     fn list_next(
         &mut self,
         alloc: Global,
@@ -278,9 +277,14 @@ impl Includes {
         let Some(target) = number_of(names, &include.target) else {
             return Ok(Some(missing(file, include.place)));
         };
+        if self.is_marked(target) {
+            self.skip();
+            return Ok(None);
+        }
         match list_of(alloc, role, names, outlines, target)? {
             Verdict::Files(files) => {
-                self.begin(files);
+                self.make_marks(alloc, role, names.len())?;
+                self.begin(target, files);
                 Ok(None)
             }
             Verdict::NeedOutline(file) => Ok(Some(Resolution::NeedOutline(file))),
@@ -296,15 +300,27 @@ impl Includes {
         &self.read[self.begun]
     }
 
-    /// The next include comes to hand, with these files.
-    fn begin(&mut self, files: Items<u32>)
+    /// The next include is looked up.
+    fn skip(&mut self)
         requires { 0 < length self.old.pending }
         ensures inherited { self.new.inherited ≡ self.old.inherited }
-        ensures listed { self.new.listed ≡ Some files }
+        ensures listed { self.new.listed ≡ self.old.listed }
         ensures pending { self.new.pending ≡ drop 1 self.old.pending }
+        ensures marks { self.new.marks ≡ self.old.marks }
     {
         self.begun += 1;
-        self.at_hand = Some(Listed::of(files));
+    }
+
+    /// The next include comes to hand, with this target and its list.
+    fn begin(&mut self, target: u32, files: Items<u32>)
+        requires { 0 < length self.old.pending }
+        ensures inherited { self.new.inherited ≡ self.old.inherited }
+        ensures listed { self.new.listed ≡ Some (record { target = target; files = files }) }
+        ensures pending { self.new.pending ≡ drop 1 self.old.pending }
+        ensures marks { self.new.marks ≡ self.old.marks }
+    {
+        self.skip();
+        self.at_hand = Some(Listed::of(target, files));
     }
 
     /// All includes were looked up.
@@ -313,61 +329,10 @@ impl Includes {
         ensures inherited { self.new.inherited ≡ self.old.inherited }
         ensures listed { self.new.listed ≡ self.old.listed }
         ensures pending { self.new.pending ≡ [] }
+        ensures marks { self.new.marks ≡ self.old.marks }
     {
         self.read.clear();
         self.begun = 0;
-    }
-}
-
-/// The files that an include of this target comes to, in order.
-fn list_of(
-    alloc: Global,
-    role: Role,
-    names: &[Name],
-    outlines: &[Option<Arc<Outline>>],
-    target: u32,
-) -> Result<Verdict, AllocError>
-    requires ascending { IsAscending names.now }
-    requires few { length names.now < 2 ^ 32 }
-    requires places { IsPlaced (length names.now) outlines.now }
-    requires below { target < length names.now }
-    ensures { IfOk result (λ list. (table : List Row) (results : List (Option FileResult)) (file : ℕ)
-        → list ≡ listing (role_of role) (home_of role table names.now file) (known_of (map outline_in outlines.now) results) target) }
-{
-    match role {
-        Role::Page if outlines.is_empty() => Ok(Verdict::NeedOutline(target)),
-        Role::Page => verdict(alloc, names, outlines, target),
-        Role::Included => {
-            let mut files = Vec::new(alloc);
-            files.push(target)?;
-            Ok(Verdict::Files(Items::of(files)))
-        }
-    }
-}
-
-/// What a listed file is known to give.
-#[derive(Debug, Drop)]
-enum Gift {
-    /// A share of its dictionary, or none.
-    Gives(Option<SharedDictionary>),
-    /// The file is refused.
-    Refused(Fault),
-    /// It isn't known.
-    Unknown,
-}
-
-/// What a file is known to give. Where its decoding found no memory, there is none here.
-fn given(results: &[Option<FileResult>], file: u32) -> Result<Gift, AllocError>
-    ensures { IfOk result (λ gift. gift_of gift ≡ result_from (given_at (slice_get results.now file))) }
-{
-    match results.get(file as usize) {
-        Some(Some(FileResult::Dictionary(dictionary))) => Ok(Gift::Gives(Some(
-            dictionary.share()?,
-        ))),
-        Some(Some(FileResult::Nothing)) => Ok(Gift::Gives(None)),
-        Some(Some(FileResult::Refused(fault))) => Ok(Gift::Refused(*fault)),
-        Some(Some(FileResult::NoMemory)) => Err(AllocError),
-        Some(None) | None => Ok(Gift::Unknown),
     }
 }
 

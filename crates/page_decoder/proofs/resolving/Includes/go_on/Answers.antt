@@ -33,7 +33,9 @@ returns-then-len-self c = λ table left r.
     let over : length c.self.inside.read.items ≤ c.self.inside.begun = omega (arith, c.len.ensures) in
     let none_at_hand = c.in_ok-stop.ensures.passed c.in_default.is in
     let none_pending = sym (ap (λ it. it.pending) c.self.view_is) ∙ drop_of_length-le c.self.inside.read.items over in
+    let it = c.pass_files.new.self in
     subst (λ it. IsResolved home known left it)
-    (sym (kept_is c.forget.new.self inherited None [] c.forget.ensures.inherited (c.forget.ensures.listed ∙ none_at_hand) c.forget.ensures.pending))
-    (all_passed home known left inherited
-    (subst (λ it. Resolves home known left it) (kept_is c.pass_files.new.self inherited None [] refl none_at_hand none_pending) passed))
+    (sym (kept_is c.forget.new.self inherited None [] it.marks c.forget.ensures.inherited (c.forget.ensures.listed ∙ none_at_hand)
+    c.forget.ensures.pending c.forget.ensures.marks))
+    (all_passed home known left it
+    (subst (λ it. Resolves home known left it) (kept_is it inherited None [] it.marks refl none_at_hand none_pending refl) passed))

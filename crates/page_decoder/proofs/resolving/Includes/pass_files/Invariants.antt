@@ -9,11 +9,16 @@ use Rattle.page_decoder.proofs.resolving.Includes.pass_files.Given as goal
 abbrev pub invariant-files : goal.invariant-files
 invariant-files l = record {
   passes : (home : Home) (outlines : List (Option Outline)) (left : Left) → Resolves home (known_of outlines l.results) left l.fn.self
-      → Passes home (known_of outlines l.results) left l.self-inside.dictionary (drop l.self-inside.begun l.self-inside.read.items) l.found l.listed;
+      → Passes home (known_of outlines l.results) left (record {
+        inherited = l.self-inside.dictionary;
+        listed = None;
+        pending = drop l.self-inside.begun l.self-inside.read.items;
+        marks = l.self-inside.resolved.items;
+      }) l.found l.listed;
   pending : drop l.self-inside.begun l.self-inside.read.items ≡ l.fn.self.pending;
   at_hand : l.self-inside.at_hand ≡ None;
   begun : l.self-inside.begun ≤ length l.self-inside.read.items;
 }
 
 abbrev pub decreases-files : goal.decreases-files
-decreases-files l = length l.listed
+decreases-files l = length l.listed.files

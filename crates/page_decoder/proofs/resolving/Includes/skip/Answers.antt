@@ -1,7 +1,7 @@
 use Rattle.std.proofs.Common.{ℕ, ◌+◌, List, [], ◌∷◌, ◌≡◌, zero, suc, drop, refl, sym, ap, ◌∙◌, arith}
 use Rattle.std.proofs.Math.Seq.{drop-nil}
 use Rattle.page_decoder.specs.PageRead.{Include}
-use Rattle.page_decoder.proofs.resolving.Includes.begin.Goals as goal
+use Rattle.page_decoder.proofs.resolving.Includes.skip.Goals as goal
 
 one_less : (k : ℕ) (includes : List Include) → drop (k + 1) includes ≡ drop 1 (drop k includes)
 one_less k [] = drop-nil (k + 1) ∙ sym (ap (drop 1) (drop-nil k))

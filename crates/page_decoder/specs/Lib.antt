@@ -41,3 +41,4 @@ pub mod Decoder
 pub mod FileReading
 pub mod FileSteps
 pub mod PageFed
+pub mod FileDecoding

@@ -18,6 +18,7 @@ mod decoder;
 mod drawings;
 mod ends;
 mod file_chunks;
+mod file_decoding;
 mod file_ends;
 mod file_events;
 mod file_reader;
@@ -40,5 +41,6 @@ mod walk;
 
 pub use decoder::{PageDecoder, PageStep};
 pub use ends::PageEnd;
+pub use file_decoding::{DecodedFile, decode_done, decode_file};
 pub use page::Size;
 pub use reading::{Drawn, PageReading, read_page};

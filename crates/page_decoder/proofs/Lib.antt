@@ -77,6 +77,8 @@ mod Made
 mod FaultPlaces
 -- the resolving of includes: list_next, pass_files, go_on of Includes
 mod ResolveSteps
+-- enter, finish
+mod Entering
 -- give_outline
 mod GivenOutlines
 -- the decoder: acts by events, what stays of first acts, entries

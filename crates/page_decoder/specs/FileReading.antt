@@ -29,7 +29,9 @@ use Rattle.page_decoder.specs.Acts.{Act, Close, Breaks, Over, acts_of, close_in}
 use Rattle.page_decoder.specs.Acts as acts
 use Rattle.page_decoder.specs.Read.{Step, On, and_then, after, all_resolved, at_header, at_close, finished, step_through, read}
 use Rattle.page_decoder.specs.ActsTold.{OpenChunk, ActsTold, nothing_told, begun_at, all_told, after_events, after_step}
-use Rattle.page_decoder.specs.Resolving.{home_of, known_of, Waits, Resolves}
+use Rattle.page_decoder.specs.Resolving.{Resolving, home_of, known_of, Waits, Resolves}
+use Rattle.page_decoder.specs.Kinds.{ChunkKind, kind_of}
+use Rattle.page_decoder.specs.Kinds as kind
 use Rattle.page_decoder.specs.Kept.{Keeping, Keeps}
 use Rattle.page_decoder.specs.Opened.{Opens, decisions_of}
 use Rattle.page_decoder.specs.Decoder.{next_entry, answer_to, decisions_to, drawn_with, Shows}
@@ -110,6 +112,12 @@ pub record IsWalking (given : Given) (reader : FileReader) : Type 0 where
   pub walks : Walks given reader.walker so_far
   pub holds : Holds given.home given.known so_far left reader
 
+-- the includes before a chunk of this kind: they are resolved as far as this, or wait where it brings nothing of them
+abbrev pub ResolvesAt : ChunkKind → Home → Known → Left → Resolving → Type 0
+ResolvesAt kind.Dictionary home known left it = Resolves home known left it
+ResolvesAt kind.Mask home known left it = Resolves home known left it
+ResolvesAt other home known left it = Waits home known left.decoded it
+
 -- behind the header of a chunk, which is right. What it brings is to be resolved
 pub record IsBefore (given : Given) (head : Head) (reader : FileReader) : Type 0 where
   pub acts : List Act
@@ -120,7 +128,7 @@ pub record IsBefore (given : Given) (head : Head) (reader : FileReader) : Type 0
   pub fine : header_fault given.home.role left head ≡ None
   pub none : reader.chunk ≡ None
   pub keeps : Keeps given.home.table left.decoded reader.kept
-  pub resolves : Resolves given.home given.known left reader.includes
+  pub resolves : ResolvesAt (kind_of head.id) given.home given.known left reader.includes
   pub decisions_are : TicksExactly left.told.decisions 0 reader.decisions
   pub tallies : Tallies left reader
 

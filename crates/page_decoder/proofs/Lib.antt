@@ -85,3 +85,5 @@ mod GivenOutlines
 mod ActsByEvents
 mod Onward
 mod Entries
+-- the functions of FileReader
+mod Answering

@@ -1,5 +1,5 @@
 -- How the reader of a file stands to what was given of the file: where it stands among the acts, and what it keeps of those that are complete.
-use Rattle.std.specs.Prelude.{ℕ, suc, ◌≡◌, ◌≢◌, ◌+◌, ◌*◌, ◌≤◌, ◌<◌, ◌^◌, ⊤, List, [], ◌∷◌, ◌++◌, length, Option, Some, None, is_some, IsSome, Bool, true, false, ◌==◌, if◌then◌else◌}
+use Rattle.std.specs.Prelude.{ℕ, suc, ◌≡◌, ◌≢◌, ◌+◌, ◌*◌, ◌≤◌, ◌<◌, ◌^◌, ◌-◌, min, ⊤, List, [], ◌∷◌, ◌++◌, length, Option, Some, None, is_some, IsSome, Bool, true, false, ◌==◌, if◌then◌else◌}
 use Rattle.std.specs.Arc.{arc_value}
 use Rattle.bit_plane.specs.Pixels.{Pixels}
 use Rattle.djvu_base.specs.Library.{Mark, Open, mark_of}
@@ -9,6 +9,7 @@ use Rattle.zp_table.specs.declared.rows.Row.{Row}
 use Rattle.zp_table.specs.Rows.{IsTable}
 use Rattle.iff_chunks.specs.Chunks.{chunks_of, FormEnd, Broken}
 use Rattle.iff_chunks.specs.Events.{Event, events_of, GoesOn, IsOpen}
+use Rattle.iff_chunks.specs.Order.{InOrder, AtForm}
 use Rattle.iff_chunks.specs.Told.{Walking, Told as WasTold, pending}
 use Rattle.iff_chunks.specs.declared.walker.WalkStep.{WalkStep}
 use Rattle.iff_chunks.specs.declared.walker.WalkStep.TheVariants as event
@@ -43,7 +44,7 @@ origin_by (byte ∷ bytes) = if byte == 0x41 then 16 else 12
 
 -- so many bytes came, as far as they are counted
 abbrev pub Counts : List ℕ → ℕ → Type 0
-Counts bytes arrived = length bytes < 2 ^ 32 → arrived ≡ length bytes
+Counts bytes arrived = arrived ≡ min (length bytes) (2 ^ 32 - 1)
 
 -- the decisions of a chunk at hand, and of all that was read
 abbrev pub decisions_at_hand : Option ChunkAtHand → ℕ
@@ -250,6 +251,7 @@ pub record IsTold (given : Given) (rest : List ℕ) (event : WalkStep) (used : L
   pub holds : Holds now.home now.known so_far left reader
   pub is_walking : reader.stage ≡ stage.Walking
   pub settles : Settles event walks.told now.bytes rest
+  pub order : InOrder AtForm walks.told
 
 abbrev pub close_of : ℕ → FileClose → Close
 close_of origin close.Waits = acts.Waits

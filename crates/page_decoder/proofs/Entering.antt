@@ -1,215 +1,263 @@
--- The reader of a file where its pending includes are resolved: before a chunk, and behind the FORM.
-use Rattle.std.proofs.Common.{◌≡◌, ◌≢◌, ◌≤◌, ◌<◌, ◌+◌, ◌⊎◌, inl, inr, ℕ, zero, suc, Bool, Option, Some, None, List, [], ◌∷◌, ◌++◌, length, take, refl, sym, ap, ◌∙◌, subst, arith}
-use Rattle.std.proofs.lemmas.List.{length-append}
+-- The reader of a file behind the header of a chunk, before which its pending includes are resolved.
+use Rattle.std.proofs.Common.{◌≡◌, ◌≢◌, ℕ, Option, Some, None, List, [], ◌∷◌, ◌++◌, length, refl, sym, ap, ◌∙◌, subst, arith}
 use Rattle.std.specs.Arc.{arc_value}
-use Rattle.bit_plane.specs.Pixels.{Pixels}
 use Rattle.djvu_base.specs.Meter.{ticked, TicksExactly}
-use Rattle.djvu_base.proofs.Ticks.{ticked_none, ticked_more}
+use Rattle.djvu_base.proofs.Ticks.{ticked_none}
+use Rattle.iff_chunks.specs.Chunks.{chunks_of}
+use Rattle.iw44_image.specs.Layer.{Data, data_of}
 use Rattle.page_decoder.specs.declared.file_reader.FileReader.{FileReader}
-use Rattle.page_decoder.specs.declared.file_reader.Stage.{Stage}
 use Rattle.page_decoder.specs.declared.file_reader.Stage.TheVariants as stage
 use Rattle.page_decoder.specs.declared.decoder.PageStep.{PageStep}
 use Rattle.page_decoder.specs.declared.decoder.PageStep.TheVariants as step
-use Rattle.page_decoder.specs.Given.{Home, Known, Given, Within, Front}
-use Rattle.page_decoder.specs.PageRead.{Drawing, Ending, Finished, Refused, NeedBytes, NeedOutline, NeedFile, last_layers, Left, PageRead, or_else, in_force}
-use Rattle.page_decoder.specs.Read.{Step, On, Ends, and_then, after, ends, all_resolved, nothing_pending, finished, read}
+use Rattle.page_decoder.specs.Kinds.{ChunkKind, kind_of}
+use Rattle.page_decoder.specs.Kinds as kind
+use Rattle.page_decoder.specs.Given.{Home, Known, Given, Within}
+use Rattle.page_decoder.specs.PageRead.{Ending, Finished, Refused, NeedOutline, NeedFile, last_layers, Left, PageRead, or_else, at_start}
+use Rattle.page_decoder.specs.Headers.{Head, header_fault}
+use Rattle.page_decoder.specs.Acts.{Act, Reads, acts_of, close_in}
+use Rattle.page_decoder.specs.ActsTold.{ActsTold, begun_at, GoOnFrom}
+use Rattle.page_decoder.specs.Read.{Step, On, and_then, after, all_resolved, resolved_before, nothing_pending, finished, at_header, at_data, read_from, step_through, read}
 use Rattle.page_decoder.specs.Needs.{Below}
-use Rattle.page_decoder.specs.Decoder.{next_entry, entry_at, answer_at, answer_to, decisions_to, drawn_with}
-use Rattle.page_decoder.specs.Decoder as decoder
-use Rattle.page_decoder.specs.Resolving.{Resolving, home_of, with_files, Resolves, Stops}
-use Rattle.page_decoder.specs.FileReading.{Answers, StandsBefore, StandsAt, Stands, IsOf, IsAtEnd, IsPause, dictionary_in, decisions_in, decisions_at_hand}
-use Rattle.page_decoder.specs.FileSteps.{IsKnown, IsFinishing, StopsSo, HasResolved}
-use Rattle.page_decoder.proofs.Entries.{last_entry, told_front}
-use Rattle.page_decoder.proofs.Retaining.{below_same, after_below, resolved_below}
+use Rattle.page_decoder.specs.Kept.{Keeping, Keeps, Background}
+use Rattle.page_decoder.specs.Opened.{Opens}
+use Rattle.page_decoder.specs.Resolving.{Resolving, home_of, with_files, Waits, Resolves, IsResolved, Stops}
+use Rattle.page_decoder.specs.FileReading.{Answers, Moves, ComesTo, StandsBefore, StandsAt, ResolvesAt, IsOf, IsBefore, IsAtEnd, Tallies, decisions_in, decisions_at_hand}
+use Rattle.page_decoder.specs.FileSteps.{IsKnown, IsEntering, IsFinishing, StopsSo, HasResolved, ResolvesBefore, Begins, MayLackMemory}
+use Rattle.page_decoder.proofs.ActsByEvents.{acts_go_on}
+use Rattle.page_decoder.proofs.Answering.{exact_within, ends_answer, memory_answer}
+use Rattle.page_decoder.proofs.Further.{after_then}
+use Rattle.page_decoder.proofs.Onward.{reads_on}
+use Rattle.page_decoder.proofs.ResolveSteps.{knows_same}
+use Rattle.page_decoder.proofs.Stopping.{IsLeft, stop_answers, ticks_alone}
+use Rattle.page_decoder.proofs.Retaining.{below_same, after_below, resolved_below, data_below, from_below}
 
--- ---- a reader that answers and keeps what was left
+-- ---- before a chunk
 
--- it drew what was left, and keeps the layers and the decisions
-pub record Keeps (left : Left) (old new : FileReader) : Type 0 where
-  pub drawn : old.drawn ≡ length left.told.drawings
-  pub same : new.drawn ≡ old.drawn
-  pub last : left.decoded.layers ≡ last_layers left.told.drawings
-  pub layers : new.kept.layers ≡ left.decoded.layers
-  pub decisions : TicksExactly left.told.decisions 0 (decisions_in new)
+-- the includes before a chunk of this kind are resolved, or it brings nothing of them
+pub record Entered (home : Home) (known : Known) (of : ChunkKind) (left : Left) (it : Resolving) : Type 0 where
+  pub now : Left
+  pub on : resolved_before of home known left ≡ On now
+  pub waits : Waits home known now.decoded it
+  pub chunks : now.chunks ≡ left.chunks
+  pub drawings : now.told.drawings ≡ left.told.drawings
+  pub decisions : now.told.decisions ≡ left.told.decisions
+  pub layers : now.decoded.layers ≡ left.decoded.layers
+  pub back : now.decoded.back ≡ left.decoded.back
+  pub own : now.decoded.own ≡ left.decoded.own
 
-no_memory : (end : Ending) → answer_at end ≡ step.OutOfMemory → ⊥
-no_memory Finished e = cc
-no_memory (Refused fault) e = cc
-no_memory NeedBytes e = cc
-no_memory (NeedOutline file) e = cc
-no_memory (NeedFile file) e = cc
-
-same_drawn : (end : Ending) (drawn : ℕ) → drawn_with (answer_at end) drawn ≡ drawn
-same_drawn Finished drawn = refl
-same_drawn (Refused fault) drawn = refl
-same_drawn NeedBytes drawn = refl
-same_drawn (NeedOutline file) drawn = refl
-same_drawn (NeedFile file) drawn = refl
-
-module _ (given : Given) (rest : List ℕ) (left : Left) (old new : FileReader) (k : Keeps left old new) where
-  at_most : Below left.told (read given).left.told → decisions_in new ≤ ticked (read given).left.told.decisions 0
-  at_most b = subst (λ n. n ≤ ticked (read given).left.told.decisions 0) (sym k.decisions)
-      (ticked_more left.told.decisions (read given).left.told.decisions b.decisions)
-
-  shows : Below left.told (read given).left.told → decoder.Shows new.kept.layers new.drawn (read given).left.told
-  shows b =
-      let more : List Drawing = b.drawings.0 in
-      let same : (read given).left.told.drawings ≡ left.told.drawings ++ more = b.drawings.1 in
-      let count : new.drawn ≡ length left.told.drawings = k.same ∙ k.drawn in
-      let long : length (read given).left.told.drawings ≡ length left.told.drawings + length more = ap length same ∙ length-append left.told.drawings more in
-      (omega (arith, count, long),
-      k.layers ∙ k.last ∙ sym (ap (λ n. last_layers (take n (read given).left.told.drawings)) count
-      ∙ ap (λ all. last_layers (take (length left.told.drawings) all)) same ∙ ap last_layers (told_front left.told.drawings more)))
-
-  -- where the reading ends with what was left, but for includes
-  pub answers_end : (now : Left) (end : Ending) → now.told.drawings ≡ left.told.drawings → now.told.decisions ≡ left.told.decisions
-      → read given ≡ record { left = now; end = end } → Below left.told (read given).left.told
-      → (end ≡ Finished → in_force now.decoded ≡ dictionary_in new) → (IsPause (answer_at end) → StandsBefore given rest new)
-      → Answers given rest (answer_at end) old new
-  answers_end now end drawings decisions is b force pauses =
-      let entry : next_entry (read given) old.drawn ≡ decoder.Ends end =
-          ap (λ r. next_entry r old.drawn) is ∙ ap (λ all. entry_at all old.drawn end) drawings
-          ∙ ap (λ n. entry_at left.told.drawings n end) k.drawn ∙ last_entry left.told.drawings end in
-      record {
-        told = λ some. ap answer_to (sym entry);
-        decisions = λ some. subst (λ n. TicksExactly n 0 (decisions_in new))
-            (sym (ap (λ e. decisions_to e (read given)) entry ∙ ap (λ r. r.left.told.decisions) is ∙ decisions)) k.decisions;
-        at_most = at_most b;
-        drawn = k.same ∙ sym (same_drawn end old.drawn);
-        shows = shows b;
-        finished = λ e. ap (λ r. in_force r.left.decoded) is ∙ force (is_finished end e);
-        pauses = pauses;
-      }
-    where
-      is_finished : (end : Ending) → answer_at end ≡ step.Finished → end ≡ Finished
-      is_finished Finished e = refl
-      is_finished (Refused fault) e = absurd (cc)
-      is_finished NeedBytes e = absurd (cc)
-      is_finished (NeedOutline file) e = absurd (cc)
-      is_finished (NeedFile file) e = absurd (cc)
-
-  pub answers_no_memory : Below left.told (read given).left.told → Answers given rest step.OutOfMemory old new
-  answers_no_memory b = record {
-    told = λ some. absurd (some refl);
-    decisions = λ some. absurd (some refl);
-    at_most = at_most b;
-    drawn = k.same;
-    shows = shows b;
-    finished = λ e. absurd (cc);
-    pauses = λ p. absurd p;
+module _ (home : Home) (known : Known) (left : Left) (before it : Resolving) where
+  none_brought : (of : ChunkKind) → resolved_before of home known left ≡ On left → Waits home known left.decoded before → it ≡ before
+      → Entered home known of left it
+  none_brought of on w e = record {
+    now = left;
+    on = on;
+    waits = subst (λ i. Waits home known left.decoded i) (sym e) w;
+    chunks = refl;
+    drawings = refl;
+    decisions = refl;
+    layers = refl;
+    back = refl;
+    own = refl;
   }
 
-  -- where the resolving of includes stops, before this
-  module _ (next : Left → PageRead) (is : read given ≡ after (all_resolved given.home given.known left) next)
-      (grows : (now : Left) → Below now.told (next now).left.told) where
-    pub below_next : Below left.told (read given).left.told
-    below_next = subst (λ r. Below left.told r.left.told) (sym is)
-        (after_below left.told (all_resolved given.home given.known left) next grows (resolved_below given.home given.known left.decoded.pending left))
+  all_brought : (of : ChunkKind) → resolved_before of home known left ≡ all_resolved home known left → IsResolved home known left it
+      → Entered home known of left it
+  all_brought of on r = record {
+    now = nothing_pending (with_files it.inherited r.reached left);
+    on = on ∙ r.is known (knows_same known);
+    waits = r.waits;
+    chunks = refl;
+    drawings = refl;
+    decisions = refl;
+    layers = refl;
+    back = refl;
+    own = refl;
+  }
 
-    at_stop : (end : Ending) (s : Stops given.home given.known left end) → read given ≡ record { left = with_files s.inherited s.reached left; end = end }
-    at_stop end s = is ∙ ap (λ x. after x next) s.is
+  entered : (of : ChunkKind) → ResolvesAt of home known left before → ResolvesBefore of home known left None before it → Entered home known of left it
+  entered kind.Dictionary r h = all_brought kind.Dictionary refl (h r)
+  entered kind.Mask r h = all_brought kind.Mask refl (h r)
+  entered kind.Info r h = none_brought kind.Info refl r h.1
+  entered kind.Include r h = none_brought kind.Include refl r h.1
+  entered kind.Front r h = none_brought kind.Front refl r h.1
+  entered kind.Back r h = none_brought kind.Back refl r h.1
+  entered kind.Refused r h = none_brought kind.Refused refl r h.1
+  entered kind.Passed r h = none_brought kind.Passed refl r h.1
 
-    pub answers_stop : (stop : PageStep) → StopsSo given.home given.known left (Some stop) new.includes
-        → (Resolves given.home given.known left new.includes → StandsBefore given rest new) → Answers given rest stop old new
-    answers_stop (step.NeedOutline file) s stands =
-        answers_end (with_files s.stops.inherited s.stops.reached left) (NeedOutline file) refl refl (at_stop (NeedOutline file) s.stops) below_next
-        (λ e. absurd (cc)) (λ p. stands s.resolves)
-    answers_stop (step.NeedFile file) s stands =
-        answers_end (with_files s.stops.inherited s.stops.reached left) (NeedFile file) refl refl (at_stop (NeedFile file) s.stops) below_next
-        (λ e. absurd (cc)) (λ p. stands s.resolves)
-    answers_stop (step.Refused fault) s stands =
-        answers_end (with_files s.inherited s.reached left) (Refused fault) refl refl (at_stop (Refused fault) s) below_next
-        (λ e. absurd (cc)) (λ p. absurd p)
-    answers_stop step.OutOfMemory s stands = answers_no_memory below_next
-    answers_stop step.Finished s stands = absurd s
-    answers_stop step.NeedBytes s stands = absurd s
-    answers_stop (step.Drew notice) s stands = absurd s
-
--- ---- the file itself
-
--- the home that the code reads by is the given one's
-pub home_known : (now given : Given) (reader : FileReader) (names : List (List ℕ)) → Within now given → IsOf now reader → given.home.names ≡ names
-    → home_of reader.role (arc_value reader.table) names reader.file ≡ given.home
-home_known now given reader names w of e =
-    let same : now.home.names ≡ names = ap (λ h. h.names) w.home ∙ e in
-    sym (of.home_is ∙ ap (λ n. home_of reader.role (arc_value reader.table) n reader.file) same) ∙ w.home
-
-pub ticks_alone : (reader : FileReader) (decisions : ℕ) → reader.chunk ≡ None → TicksExactly decisions 0 reader.decisions
-    → TicksExactly decisions 0 (decisions_in reader)
-ticks_alone reader decisions none t = ap (λ c. ticked (decisions_at_hand c) reader.decisions) none ∙ ticked_none reader.decisions ∙ t
-
--- ---- behind the FORM
-
-module _ (given : Given) (rest : List ℕ) (before : FileReader) (it : Resolving) (names : List (List ℕ)) (known : Known) (so : IsKnown names known given)
-    (f : IsFinishing given rest before) where
+module _ (given : Given) (rest : List ℕ) (head : Head) (before : FileReader) (it : Resolving) (names : List (List ℕ)) (known : Known)
+    (so : IsKnown names known given) (f : IsEntering given rest head before) where
   abbrev now : Given
   now = f.stands.now
 
   abbrev later : FileReader
   later = record before { includes = it }
 
-  at_end : IsAtEnd now before
-  at_end = subst (λ s. StandsAt now s before) f.stage_is f.stands.stands
+  abbrev here : IsBefore now head before
+  here = subst (λ s. StandsAt now s before) f.stage_is f.stands.stands
 
-  kept : Keeps at_end.left before later
+  abbrev left : Left
+  left = here.left
+
+  -- the chunk among the file's acts
+  goes : GoOnFrom here.acts (begun_at head) (acts_of (chunks_of given.bytes))
+  goes = subst (λ bytes. GoOnFrom here.acts (begun_at head) (acts_of (chunks_of bytes))) (sym f.stands.bytes_are)
+      (subst (λ x. GoOnFrom x.acts x.chunk (acts_of (chunks_of (now.bytes ++ rest)))) (sym here.walks.acts_are)
+      (acts_go_on here.walks.told (chunks_of (now.bytes ++ rest)) (here.walks.goes rest)))
+
+  abbrev last : Left → PageRead
+  last = read_from now.home now.known (close_in given.mark given.bytes) goes.2
+
+  abbrev brought : Left → Step
+  brought = at_data now.home head (data_of ([] ++ goes.0) goes.1)
+
+  reads : (home : Home) (known : Known) → now.home ≡ home → now.known ≡ known
+      → read given ≡ read_from home known (close_in given.mark given.bytes) (Reads head (data_of ([] ++ goes.0) goes.1) ∷ goes.2) left
+      → read given ≡ after (and_then (resolved_before (kind_of head.id) now.home now.known left) brought) last
+  reads home known h k is = is
+      ∙ ap (λ x. read_from x known (close_in given.mark given.bytes) (Reads head (data_of ([] ++ goes.0) goes.1) ∷ goes.2) left) (sym h)
+      ∙ ap (λ x. read_from now.home x (close_in given.mark given.bytes) (Reads head (data_of ([] ++ goes.0) goes.1) ∷ goes.2) left) (sym k)
+      ∙ ap (λ fault. after (and_then (at_header now.home now.known head fault left) brought) last) here.fine
+
+  is : read given ≡ after (and_then (resolved_before (kind_of head.id) now.home now.known left) brought) last
+  is = reads given.home given.known f.stands.within.home f.stands.known_is
+      (reads_on given here.acts (Reads head (data_of ([] ++ goes.0) goes.1) ∷ goes.2) left goes.3
+      (subst (λ k. step_through given.home k here.acts at_start ≡ On left) f.stands.known_is
+      (subst (λ h. step_through h now.known here.acts at_start ≡ On left) f.stands.within.home here.on)))
+
+  grows : (from : Left) → Below from.told (after (brought from) last).left.told
+  grows from = after_below from.told (brought from) last (from_below now.home now.known (close_in given.mark given.bytes) goes.2)
+      (data_below now.home head (data_of ([] ++ goes.0) goes.1) from)
+
+  kept : IsLeft left before later
   kept = record {
-    drawn = at_end.tallies.drawn_are;
+    drawn = here.tallies.drawn_are;
     same = refl;
-    last = at_end.tallies.last_is;
-    layers = at_end.like.layers_are;
-    decisions = ticks_alone before at_end.left.told.decisions at_end.none at_end.decisions_are;
+    layers = here.keeps.layers_are ∙ here.tallies.last_is;
+    decisions = ticks_alone before left.told.decisions here.none here.decisions_are;
   }
 
-  is : read given ≡ after (all_resolved given.home given.known at_end.left) finished
-  is = at_end.ends given f.stands.within
-
-  resolves : Resolves given.home given.known at_end.left before.includes
-  resolves = subst (λ k. Resolves given.home k at_end.left before.includes) f.stands.known_is
-      (subst (λ h. Resolves h now.known at_end.left before.includes) f.stands.within.home at_end.resolves)
-
-  stands : Resolves given.home given.known at_end.left it → StandsBefore given rest later
+  stands : ResolvesAt (kind_of head.id) now.home now.known left it → StandsBefore given rest later
   stands r = record {
     now = now;
     within = f.stands.within;
     bytes_are = f.stands.bytes_are;
     known_is = f.stands.known_is;
     stands = subst (λ s. StandsAt now s later) (sym f.stage_is) (record {
-      left = at_end.left;
-      of = record { home_is = at_end.of.home_is; is_table = at_end.of.is_table; origin_is = at_end.of.origin_is; counts = at_end.of.counts };
-      ends = at_end.ends;
-      none = at_end.none;
-      like = at_end.like;
-      resolves = subst (λ k. Resolves now.home k at_end.left it) (sym f.stands.known_is)
-          (subst (λ h. Resolves h given.known at_end.left it) (sym f.stands.within.home) r);
-      decisions_are = at_end.decisions_are;
+      acts = here.acts;
+      left = left;
+      of = record { home_is = here.of.home_is; is_table = here.of.is_table; origin_is = here.of.origin_is; counts = here.of.counts };
+      walks = here.walks;
+      on = here.on;
+      fine = here.fine;
+      none = here.none;
+      keeps = here.keeps;
+      resolves = r;
+      decisions_are = here.decisions_are;
       tallies = record {
-        chunks_are = at_end.tallies.chunks_are;
-        drawn_are = at_end.tallies.drawn_are;
-        last_is = at_end.tallies.last_is;
+        chunks_are = here.tallies.chunks_are;
+        drawn_are = here.tallies.drawn_are;
+        last_is = here.tallies.last_is;
       };
     });
   }
 
-  so_resolved : (answer : Option PageStep)
-      → ((left : Left) → HasResolved (home_of before.role (arc_value before.table) names before.file) known left answer before.includes it)
-      → StopsSo given.home given.known at_end.left answer it
-  so_resolved answer h =
-      let home = home_known now given before names f.stands.within at_end.of so.names_are in
-      let all = subst (λ k. (left : Left) → HasResolved given.home k left answer before.includes it) (sym so.known_is)
-          (subst (λ x. (left : Left) → HasResolved x known left answer before.includes it) home h) in
-      all at_end.left resolves
+  stops : (of : ChunkKind) → read given ≡ after (and_then (resolved_before of now.home now.known left) brought) last
+      → ResolvesAt of now.home now.known left before.includes → (stop : PageStep)
+      → ResolvesBefore of now.home now.known left (Some stop) before.includes it
+      → (ResolvesAt of now.home now.known left it → StandsBefore given rest later) → Answers given rest stop before later
+  stops kind.Dictionary e r stop h stands = stop_answers given rest left before later kept now.home now.known (λ from. after (brought from) last)
+      (e ∙ after_then (all_resolved now.home now.known left) brought last) grows stop (h r) stands
+  stops kind.Mask e r stop h stands = stop_answers given rest left before later kept now.home now.known (λ from. after (brought from) last)
+      (e ∙ after_then (all_resolved now.home now.known left) brought last) grows stop (h r) stands
+  stops kind.Info e r stop h stands = let wrong : Some stop ≡ None = h.0 in absurd (cc)
+  stops kind.Include e r stop h stands = let wrong : Some stop ≡ None = h.0 in absurd (cc)
+  stops kind.Front e r stop h stands = let wrong : Some stop ≡ None = h.0 in absurd (cc)
+  stops kind.Back e r stop h stands = let wrong : Some stop ≡ None = h.0 in absurd (cc)
+  stops kind.Refused e r stop h stands = let wrong : Some stop ≡ None = h.0 in absurd (cc)
+  stops kind.Passed e r stop h stands = let wrong : Some stop ≡ None = h.0 in absurd (cc)
 
-  pub finishes_stop : (stop : PageStep)
-      → ((left : Left) → HasResolved (home_of before.role (arc_value before.table) names before.file) known left (Some stop) before.includes it)
-      → Answers given rest stop before later
-  finishes_stop stop h =
-      answers_stop given rest at_end.left before later kept finished is (λ left. below_same left.told) stop (so_resolved (Some stop) h) stands
+  abbrev Brings : Option PageStep → Type 0
+  Brings answer = (left : Left) → ResolvesBefore (kind_of head.id) (home_of before.role (arc_value before.table) names before.file) known left answer
+      before.includes it
 
-  pub finishes_all : ((left : Left) → HasResolved (home_of before.role (arc_value before.table) names before.file) known left None before.includes it)
-      → Answers given rest step.Finished before later
-  finishes_all h =
-      let s = so_resolved None h in
-      answers_end given rest at_end.left before later kept (nothing_pending (with_files it.inherited s.reached at_end.left)) Finished refl refl
-      (is ∙ ap (λ x. after x finished) (s.is given.known (record { outlines = λ file outline e. e; results = λ file result e. e })))
-      (below_next given rest at_end.left before later kept finished is (λ left. below_same left.told))
-      (λ e. ap (λ own. or_else own it.inherited) (sym at_end.like.own_is)) (λ p. absurd p)
+  brings_here : (answer : Option PageStep) → Brings answer → ResolvesBefore (kind_of head.id) now.home now.known left answer before.includes it
+  brings_here answer h =
+      let same : now.home.names ≡ names = ap (λ h. h.names) f.stands.within.home ∙ so.names_are in
+      let home : home_of before.role (arc_value before.table) names before.file ≡ now.home =
+          sym (here.of.home_is ∙ ap (λ n. home_of before.role (arc_value before.table) n before.file) same) in
+      subst (λ k. ResolvesBefore (kind_of head.id) now.home k left answer before.includes it) (sym so.known_is ∙ sym f.stands.known_is)
+      (subst (λ x. ResolvesBefore (kind_of head.id) x known left answer before.includes it) home (h left))
+
+  pub enter_stops : (stop : PageStep) → Brings (Some stop) → Answers given rest stop before later
+  enter_stops stop h = stops (kind_of head.id) is here.resolves stop (brings_here (Some stop) h) stands
+
+  -- the includes are resolved
+  module _ (h : Brings None) where
+    come : Entered now.home now.known (kind_of head.id) left it
+    come = entered now.home now.known left before.includes it (kind_of head.id) here.resolves (brings_here None h)
+
+    tallied : (reader : FileReader) → reader.chunks ≡ before.chunks → reader.drawn ≡ before.drawn → Tallies come.now reader
+    tallied reader a b = record {
+      chunks_are = a ∙ here.tallies.chunks_are ∙ sym come.chunks;
+      drawn_are = b ∙ here.tallies.drawn_are ∙ ap length (sym come.drawings);
+      last_is = come.layers ∙ here.tallies.last_is ∙ ap last_layers (sym come.drawings);
+    }
+
+    -- no memory for the chunk's reader
+    pub enter_lacks : (kept_now : Keeping) → kept_now.layers ≡ before.kept.layers
+        → Answers given rest step.OutOfMemory before (record later { kept = kept_now })
+    enter_lacks kept_now e =
+        let below = subst (λ r. Below come.now.told r.left.told) (sym (is ∙ ap (λ s. after (and_then s brought) last) come.on)) (grows come.now) in
+        let ticks : TicksExactly come.now.told.decisions 0 (decisions_in later) = kept.decisions ∙ ap (λ n. ticked n 0) (sym come.decisions) in
+        memory_answer given rest before (record later { kept = kept_now }) come.now.told come.now.told.decisions below.drawings below.decisions
+        (kept.drawn ∙ ap length (sym come.drawings)) refl
+        (exact_within come.now.told.decisions come.now.told.decisions (decisions_in later) (omega arith) ticks)
+        (e ∙ kept.layers ∙ ap last_layers (sym come.drawings))
+
+    -- the chunk is at hand
+    pub enter_begins : (after_it : FileReader) → Begins head later after_it → Moves given rest before after_it
+    enter_begins after_it b =
+        let table : now.home.table ≡ arc_value before.table = ap (λ x. x.table) here.of.home_is in
+        let keeps : Keeps (arc_value before.table) come.now.decoded before.kept = record {
+          layers_are = here.keeps.layers_are ∙ sym come.layers;
+          own_is = here.keeps.own_is ∙ sym come.own;
+          background = subst (λ t. Background t come.now.decoded.layers come.now.decoded.back before.kept.back) table
+              (subst (λ l. Background now.home.table l come.now.decoded.back before.kept.back) (sym come.layers)
+              (subst (λ chunks. Background now.home.table left.decoded.layers chunks before.kept.back) (sym come.back) here.keeps.background));
+        } in
+        let so_far : ActsTold = record { acts = here.acts; chunk = begun_at head } in
+        let reader : FileReader = record later { kept = after_it.kept; chunk = Some b.chunk; stage = stage.Walking } in
+        subst (λ r. Moves given rest before r) (sym b.is) (record {
+          drawn = refl;
+          stands = record {
+            now = now;
+            within = f.stands.within;
+            bytes_are = f.stands.bytes_are;
+            known_is = f.stands.known_is;
+            stands = record {
+              so_far = so_far;
+              left = come.now;
+              of = record { home_is = here.of.home_is; is_table = here.of.is_table; origin_is = here.of.origin_is; counts = here.of.counts };
+              walks = here.walks;
+              holds = record {
+                on = ap (λ s. and_then s (λ left. at_header now.home now.known head (header_fault now.home.role left head) left)) here.on
+                    ∙ ap (λ fault. at_header now.home now.known head fault left) here.fine ∙ come.on;
+                holds_chunk = (b.head_is, subst (λ t. Opens t head come.now.decoded [] after_it.kept b.chunk.opened) (sym table)
+                    (b.opens come.now.decoded keeps (sym come.waits.inherited)));
+                waits = come.waits;
+                decisions_are = here.decisions_are ∙ ap (λ n. ticked n 0) (sym come.decisions);
+                tallies = tallied reader refl refl;
+              };
+            };
+          };
+        })
+
+    -- what the beginning of the chunk answers
+    pub enter_comes : (answer : Option PageStep) (mid new : FileReader) → mid ≡ later → MayLackMemory answer → (answer ≡ None → Begins head mid new)
+        → (answer ≢ None → new ≡ record mid { kept = new.kept }) → new.kept.layers ≡ mid.kept.layers → ComesTo given rest answer before new
+    enter_comes None mid new e m begun same layers = enter_begins new (subst (λ x. Begins head x new) e (begun refl))
+    enter_comes (Some answer) mid new e m begun same layers =
+        let some : Some answer ≢ None = λ w. let wrong : Some answer ≡ None = w in cc in
+        subst (λ a. Answers given rest a before new) (sym m)
+        (subst (λ x. Answers given rest step.OutOfMemory before x) (sym (same some ∙ ap {A = FileReader} (λ x. record x { kept = new.kept }) e))
+        (enter_lacks new.kept (layers ∙ ap {A = FileReader} (λ x. x.kept.layers) e)))

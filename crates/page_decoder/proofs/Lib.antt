@@ -77,7 +77,11 @@ mod Made
 mod FaultPlaces
 -- the resolving of includes: list_next, pass_files, go_on of Includes
 mod ResolveSteps
--- enter, finish
+-- finish; Entering
+mod Stopping
+-- enter
+mod Beginning
+-- enter
 mod Entering
 -- give_outline
 mod GivenOutlines

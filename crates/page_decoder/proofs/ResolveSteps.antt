@@ -19,7 +19,7 @@ use Rattle.page_decoder.specs.Resolving.{AtHand, Resolving, with_include, is_mar
 
 -- ---- what becomes known
 
-knows_same : (known : Known) → KnowsMore known known
+pub knows_same : (known : Known) → KnowsMore known known
 knows_same known = record { outlines = λ file outline e. e; results = λ file result e. e }
 
 knows_both : (less more most : Known) → KnowsMore less more → KnowsMore more most → KnowsMore less most

@@ -5,7 +5,7 @@ use Rattle.page_decoder.specs.declared.decoder.PageStep.TheVariants as step
 use Rattle.page_decoder.specs.Resolving.{home_of, known_of}
 use Rattle.page_decoder.specs.FileReading.{Answers}
 use Rattle.page_decoder.specs.FileSteps.{HasResolved}
-use Rattle.page_decoder.proofs.Entering.{finishes_stop, finishes_all}
+use Rattle.page_decoder.proofs.Stopping.{finishes_stop, finishes_all}
 use Rattle.page_decoder.proofs.file_reader.FileReader.finish.Goals as goal
 
 pub returns-in-Some-clause-answers : goal.returns-in-Some-clause-answers

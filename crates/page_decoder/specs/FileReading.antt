@@ -9,7 +9,6 @@ use Rattle.zp_table.specs.declared.rows.Row.{Row}
 use Rattle.zp_table.specs.Rows.{IsTable}
 use Rattle.iff_chunks.specs.Chunks.{chunks_of, FormEnd, Broken}
 use Rattle.iff_chunks.specs.Events.{Event, events_of, GoesOn, IsOpen}
-use Rattle.iff_chunks.specs.Order.{InOrder, AtForm}
 use Rattle.iff_chunks.specs.Told.{Walking, Told as WasTold, pending}
 use Rattle.iff_chunks.specs.declared.walker.WalkStep.{WalkStep}
 use Rattle.iff_chunks.specs.declared.walker.WalkStep.TheVariants as event
@@ -230,6 +229,16 @@ Settles (event.Header id offset size) told bytes rest = ⊤
 Settles event.Data told bytes rest = ⊤
 Settles event.ChunkEnd told bytes rest = ⊤
 
+-- a FORM and a header come between chunks
+abbrev pub IsInOrder : WalkStep → Option OpenChunk → Type 0
+IsInOrder (event.Form kind size) chunk = chunk ≡ None
+IsInOrder (event.Header id offset size) chunk = chunk ≡ None
+IsInOrder event.Data chunk = ⊤
+IsInOrder event.ChunkEnd chunk = ⊤
+IsInOrder event.NeedBytes chunk = ⊤
+IsInOrder event.FormEnd chunk = ⊤
+IsInOrder (event.Broken kind offset) chunk = ⊤
+
 -- the walker told one more event, for which these bytes were used. What the reader keeps is that of before
 pub record IsTold (given : Given) (rest : List ℕ) (event : WalkStep) (used : List ℕ) (reader : FileReader) : Type 0 where
   pub now : Given
@@ -243,7 +252,7 @@ pub record IsTold (given : Given) (rest : List ℕ) (event : WalkStep) (used : L
   pub holds : Holds now.home now.known so_far left reader
   pub is_walking : reader.stage ≡ stage.Walking
   pub settles : Settles event walks.told now.bytes rest
-  pub order : InOrder AtForm walks.told
+  pub order : IsInOrder event so_far.chunk
 
 abbrev pub close_of : ℕ → FileClose → Close
 close_of origin close.Waits = acts.Waits

@@ -91,3 +91,6 @@ mod Onward
 mod Entries
 -- the functions of FileReader
 mod Answering
+mod Telling
+mod Sounding
+mod Eventing

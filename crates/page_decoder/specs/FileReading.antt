@@ -9,7 +9,6 @@ use Rattle.zp_table.specs.declared.rows.Row.{Row}
 use Rattle.zp_table.specs.Rows.{IsTable}
 use Rattle.iff_chunks.specs.Chunks.{chunks_of, FormEnd, Broken}
 use Rattle.iff_chunks.specs.Events.{Event, events_of, GoesOn, IsOpen}
-use Rattle.iff_chunks.specs.Order.{InOrder, AtForm}
 use Rattle.iff_chunks.specs.Told.{Walking, Told as WasTold, pending}
 use Rattle.iff_chunks.specs.declared.walker.WalkStep.{WalkStep}
 use Rattle.iff_chunks.specs.declared.walker.WalkStep.TheVariants as event
@@ -25,7 +24,9 @@ use Rattle.page_decoder.specs.declared.decoder.PageStep.{PageStep}
 use Rattle.page_decoder.specs.declared.decoder.PageStep.TheVariants as step
 use Rattle.page_decoder.specs.Given.{Home, Known, Given, Within}
 use Rattle.page_decoder.specs.PageRead.{last_layers, Decoded, Left, or_else, in_force, at_start}
+use Rattle.iw44_image.specs.Layer.{data_of}
 use Rattle.page_decoder.specs.Headers.{Head, header_fault}
+use Rattle.page_decoder.specs.ChunkData.{came}
 use Rattle.page_decoder.specs.Acts.{Act, Close, Breaks, Over, acts_of, close_in}
 use Rattle.page_decoder.specs.Acts as acts
 use Rattle.page_decoder.specs.Read.{Step, On, and_then, after, all_resolved, at_header, at_close, finished, step_through, read}
@@ -88,10 +89,16 @@ reached home known acts None = step_through home known acts at_start
 reached home known acts (Some chunk) =
     and_then (step_through home known acts at_start) (λ left. at_header home known chunk.head (header_fault home.role left chunk.head) left)
 
+-- the chunk at hand is the one that was told, and no more decisions of it were read than its bytes so far determine
+pub record HasOpened (table : List Row) (told : OpenChunk) (chunk : ChunkAtHand) (decoded : Decoded) (kept : Keeping) : Type 0 where
+  pub head_is : chunk.head ≡ told.head
+  pub opens : Opens table told.head decoded told.bytes kept chunk.opened
+  pub few : decisions_of chunk.opened ≤ ticked (came table told.head (data_of told.bytes false) decoded).decisions 0
+
 -- what is kept of what was left, and of the chunk at hand
 abbrev pub HoldsChunk : List Row → Option OpenChunk → Option ChunkAtHand → Decoded → Keeping → Type 0
 HoldsChunk table None None decoded kept = Keeps table decoded kept
-HoldsChunk table (Some told) (Some chunk) decoded kept = (chunk.head ≡ told.head) × Opens table told.head decoded told.bytes kept chunk.opened
+HoldsChunk table (Some told) (Some chunk) decoded kept = HasOpened table told chunk decoded kept
 HoldsChunk table None (Some chunk) decoded kept = ⊥
 HoldsChunk table (Some told) None decoded kept = ⊥
 
@@ -238,6 +245,16 @@ Settles (event.Header id offset size) told bytes rest = ⊤
 Settles event.Data told bytes rest = ⊤
 Settles event.ChunkEnd told bytes rest = ⊤
 
+-- a FORM and a header come between chunks
+abbrev pub IsInOrder : WalkStep → Option OpenChunk → Type 0
+IsInOrder (event.Form kind size) chunk = chunk ≡ None
+IsInOrder (event.Header id offset size) chunk = chunk ≡ None
+IsInOrder event.Data chunk = ⊤
+IsInOrder event.ChunkEnd chunk = ⊤
+IsInOrder event.NeedBytes chunk = ⊤
+IsInOrder event.FormEnd chunk = ⊤
+IsInOrder (event.Broken kind offset) chunk = ⊤
+
 -- the walker told one more event, for which these bytes were used. What the reader keeps is that of before
 pub record IsTold (given : Given) (rest : List ℕ) (event : WalkStep) (used : List ℕ) (reader : FileReader) : Type 0 where
   pub now : Given
@@ -251,7 +268,7 @@ pub record IsTold (given : Given) (rest : List ℕ) (event : WalkStep) (used : L
   pub holds : Holds now.home now.known so_far left reader
   pub is_walking : reader.stage ≡ stage.Walking
   pub settles : Settles event walks.told now.bytes rest
-  pub order : InOrder AtForm walks.told
+  pub order : IsInOrder event so_far.chunk
 
 abbrev pub close_of : ℕ → FileClose → Close
 close_of origin close.Waits = acts.Waits

@@ -184,7 +184,7 @@ module _ (given : Given) (rest : List ℕ) (head : Head) (before : FileReader) (
   brings_here answer h =
       let same : now.home.names ≡ names = ap (λ h. h.names) f.stands.within.home ∙ so.names_are in
       let home : home_of before.role (arc_value before.table) names before.file ≡ now.home =
-          sym (here.of.home_is ∙ ap (λ n. home_of before.role (arc_value before.table) n before.file) same) in
+      sym (here.of.home_is ∙ ap (λ n. home_of before.role (arc_value before.table) n before.file) same) in
       subst (λ k. ResolvesBefore (kind_of head.id) now.home k left answer before.includes it) (sym so.known_is ∙ sym f.stands.known_is)
       (subst (λ x. ResolvesBefore (kind_of head.id) x known left answer before.includes it) home (h left))
 
@@ -242,8 +242,12 @@ module _ (given : Given) (rest : List ℕ) (head : Head) (before : FileReader) (
               holds = record {
                 on = ap (λ s. and_then s (λ left. at_header now.home now.known head (header_fault now.home.role left head) left)) here.on
                     ∙ ap (λ fault. at_header now.home now.known head fault left) here.fine ∙ come.on;
-                holds_chunk = (b.head_is, subst (λ t. Opens t head come.now.decoded [] after_it.kept b.chunk.opened) (sym table)
-                    (b.opens come.now.decoded keeps (sym come.waits.inherited)));
+                holds_chunk = record {
+                  head_is = b.head_is;
+                  opens = subst (λ t. Opens t head come.now.decoded [] after_it.kept b.chunk.opened) (sym table)
+                      (b.opens come.now.decoded keeps (sym come.waits.inherited));
+                  few = omega (arith, b.none_read);
+                };
                 waits = come.waits;
                 decisions_are = here.decisions_are ∙ ap (λ n. ticked n 0) (sym come.decisions);
                 tallies = tallied reader refl refl;

@@ -27,7 +27,7 @@ use Rattle.page_decoder.proofs.ActsByEvents.{acts_go_on}
 use Rattle.page_decoder.proofs.Answering.{exact_within, ends_answer, memory_answer}
 use Rattle.page_decoder.proofs.Further.{after_then}
 use Rattle.page_decoder.proofs.Onward.{reads_on}
-use Rattle.page_decoder.proofs.ResolveSteps.{knows_same}
+use Rattle.page_decoder.proofs.ResolveSteps.{knows_same, resolves_first}
 use Rattle.page_decoder.proofs.Retaining.{below_same, after_below, resolved_below, data_below, from_below}
 
 -- ---- where the resolving of includes stops
@@ -140,7 +140,7 @@ module _ (given : Given) (rest : List ℕ) (before : FileReader) (it : Resolving
   so_resolved answer h =
       let home = home_known now given before names f.stands.within at_end.of so.names_are in
       let all = subst (λ k. (left : Left) → HasResolved given.home k left answer before.includes it) (sym so.known_is)
-          (subst (λ x. (left : Left) → HasResolved x known left answer before.includes it) home h) in
+      (subst (λ x. (left : Left) → HasResolved x known left answer before.includes it) home h) in
       all at_end.left resolves
 
   pub finishes_stop : (stop : PageStep)
@@ -157,3 +157,17 @@ module _ (given : Given) (rest : List ℕ) (before : FileReader) (it : Resolving
       ends_answer given rest before later (nothing_pending (with_files it.inherited s.reached at_end.left)) Finished
       (is ∙ ap (λ x. after x finished) (s.is given.known (knows_same given.known)))
       kept.drawn kept.same kept.decisions kept.layers (λ e. ap (λ own. or_else own it.inherited) (sym at_end.like.own_is)) (λ p. absurd p)
+
+-- ---- at a header
+
+-- includes that wait stand so before a chunk of each kind
+pub waits_at : (of : ChunkKind) (home : Home) (known : Known) (left : Left) (it : Resolving) → Waits home known left.decoded it
+    → ResolvesAt of home known left it
+waits_at kind.Dictionary home known left it w = resolves_first home known left it w
+waits_at kind.Mask home known left it w = resolves_first home known left it w
+waits_at kind.Info home known left it w = w
+waits_at kind.Include home known left it w = w
+waits_at kind.Front home known left it w = w
+waits_at kind.Back home known left it w = w
+waits_at kind.Refused home known left it w = w
+waits_at kind.Passed home known left it w = w

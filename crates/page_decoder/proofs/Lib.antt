@@ -88,3 +88,5 @@ mod Answering
 mod Telling
 mod Sounding
 mod Eventing
+mod DataEvents
+mod Bounded

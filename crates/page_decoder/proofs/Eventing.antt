@@ -42,18 +42,18 @@ given_acts now given rest reader so_far b w =
     let goes = subst (λ bytes. GoesOn w.told (events_of (chunks_of bytes))) (sym b) (w.goes rest) in
     subst (λ x. GoOnFrom x.acts x.chunk (acts_of (chunks_of given.bytes))) (sym w.acts_are) (acts_go_on w.told (chunks_of given.bytes) goes)
 
-no_chunk : (table : _) (chunk : Option ChunkAtHand) (decoded : Decoded) (kept : Keeping) → HoldsChunk table None chunk decoded kept → chunk ≡ None
+pub no_chunk : (table : _) (chunk : Option ChunkAtHand) (decoded : Decoded) (kept : Keeping) → HoldsChunk table None chunk decoded kept → chunk ≡ None
 no_chunk table None decoded kept h = refl
 no_chunk table (Some chunk) decoded kept h = absurd h
 
-kept_so : (table : _) (chunk : Option ChunkAtHand) (decoded : Decoded) (kept : Keeping) → HoldsChunk table None chunk decoded kept → Keeps table decoded kept
+pub kept_so : (table : _) (chunk : Option ChunkAtHand) (decoded : Decoded) (kept : Keeping) → HoldsChunk table None chunk decoded kept → Keeps table decoded kept
 kept_so table None decoded kept h = h
 kept_so table (Some chunk) decoded kept h = absurd h
 
-none_more : (reader : FileReader) → reader.chunk ≡ None → decisions_in reader ≡ ticked 0 reader.decisions
+pub none_more : (reader : FileReader) → reader.chunk ≡ None → decisions_in reader ≡ ticked 0 reader.decisions
 none_more reader e = ap (λ c. ticked (decisions_at_hand c) reader.decisions) e
 
-ticked_same : (all now : ℕ) → TicksExactly all 0 now → ticked 0 now ≡ now
+pub ticked_same : (all now : ℕ) → TicksExactly all 0 now → ticked 0 now ≡ now
 ticked_same all now e = grind (arith, common_steps)
 
 -- ---- what is left, and all that is given
@@ -85,11 +85,11 @@ left_below given acts (Some chunk) left g on =
 
 -- ---- the FORM's kind
 
-all_acts : (so_far : ActsTold) → so_far.chunk ≡ None → all_told so_far ≡ so_far.acts
+pub all_acts : (so_far : ActsTold) → so_far.chunk ≡ None → all_told so_far ≡ so_far.acts
 all_acts so_far e = ap (λ c. so_far.acts ++ acts_so false c) e ∙ append-nil so_far.acts
 
 -- the home and what is known are those that are given
-home_known : (now given : Given) (acts : List Act) (left : Left) → now.home ≡ given.home → now.known ≡ given.known
+pub home_known : (now given : Given) (acts : List Act) (left : Left) → now.home ≡ given.home → now.known ≡ given.known
     → step_through now.home now.known acts at_start ≡ On left → step_through given.home given.known acts at_start ≡ On left
 home_known now given acts left h k on =
     ap (λ x. step_through x given.known acts at_start) (sym h) ∙ ap (λ x. step_through now.home x acts at_start) (sym k) ∙ on

@@ -94,3 +94,5 @@ mod Answering
 mod Telling
 mod Sounding
 mod Eventing
+mod DataEvents
+mod Bounded

@@ -85,7 +85,7 @@ reads_on given acts others left e f =
 
 -- ---- chunks are no more than acts
 
-abbrev Few : ℕ → Step → Type 0
+abbrev pub Few : ℕ → Step → Type 0
 Few chunks (On left) = left.chunks ≤ chunks
 Few chunks (Ends ended) = Unit {0}
 
@@ -146,7 +146,7 @@ module _ (home : Home) (known : Known) where
   before_few kind.Refused left = omega arith
   before_few kind.Passed left = omega arith
 
-  header_few : (head : Head) (fault : Option FaultKind) (left : Left) → Few left.chunks (at_header home known head fault left)
+  pub header_few : (head : Head) (fault : Option FaultKind) (left : Left) → Few left.chunks (at_header home known head fault left)
   header_few head (Some kind) left = tt
   header_few head None left = before_few (kind_of head.id) left
 

@@ -247,7 +247,7 @@ module _ (home : Home) (known : Known) (fine : Head → Data → Type 0) (named 
   before_holds kind.Refused at left i = i
   before_holds kind.Passed at left i = i
 
-  header_holds : (head : Head) (found : Option FaultKind) (left : Left) → header_fault home.role left head ≡ found → I None left
+  pub header_holds : (head : Head) (found : Option FaultKind) (left : Left) → header_fault home.role left head ≡ found → I None left
       → Holds I P (Some head) (at_header home known head found left)
   header_holds head (Some kind) left e i = rules.own_fault None kind head.offset left i
   header_holds head None left e i = before_holds (kind_of head.id) (Some head) left (rules.begins head left e i)

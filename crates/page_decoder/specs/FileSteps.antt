@@ -94,6 +94,7 @@ AtHeader None head answer before after = (answer ≡ None) × (after ≡ record 
 -- a chunk at hand got these data
 pub record TakesIn (piece : List ℕ) (before after : ChunkAtHand) : Type 0 where
   pub head_is : after.head ≡ before.head
+  pub same : decisions_of after.opened ≡ decisions_of before.opened
   pub opens : (table : List Row) (decoded : Decoded) (bytes : List ℕ) (kept : Keeping) → Opens table before.head decoded bytes kept before.opened
       → length piece ≤ before.opened.to_come → Opens table after.head decoded (bytes ++ piece) kept after.opened
 

@@ -34,6 +34,9 @@ impl FileReader {
         ensures stage { self.new.stage ≡ self.old.stage }
         ensures rise { RiseTogether (decisions_in self.old) (decisions_in self.new) (M.count meter.old) (M.count meter.new) }
     {
+        iff_chunks::laws::layout();
+        iff_chunks::laws::order();
+        iff_chunks::laws::bounds();
         match self.chunk.take() {
             None => None,
             Some(chunk) => self.close(chunk, meter),

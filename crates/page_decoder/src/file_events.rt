@@ -42,6 +42,9 @@ impl FileReader {
         ensures fewer { result.1 ≡ None → left_over self.new (length rest.now - result.0) < left_over self.old (length rest.now) }
         ensures rise { RiseTogether (decisions_in self.old) (decisions_in self.new) (M.count meter.old) (M.count meter.new) }
     {
+        jb2_records::laws::more_bytes_go_on();
+        iw44_image::laws::layers_grow();
+        include_graph::laws::verdicts_stay();
         let (used, event) = self.walker.feed(rest);
         let taken = first(rest, used);
         self.count(taken);
@@ -79,6 +82,11 @@ impl FileReader {
         ensures events { is_event event ≡ false → IsSome result }
         ensures rise { RiseTogether (decisions_in self.old) (decisions_in self.new) (M.count meter.old) (M.count meter.new) }
     {
+        iff_chunks::laws::layout();
+        iff_chunks::laws::order();
+        jb2_records::laws::more_bytes_go_on();
+        iw44_image::laws::layers_grow();
+        include_graph::laws::verdicts_stay();
         match event {
             WalkStep::Form { kind, .. } => self.at_form(kind),
             WalkStep::Header { id, offset, length } => self.at_header(Head {

@@ -96,3 +96,5 @@ mod Sounding
 mod Eventing
 mod DataEvents
 mod Bounded
+-- at_close, at_form_end
+mod FileEnds

@@ -282,22 +282,30 @@ pub record Pauses (given : Given) (so_far : ActsTold) (behind : Close) : Type 0 
 
 -- the reader told all events of the file
 pub record IsPaused (given : Given) (rest : List ℕ) (behind : FileClose) (reader : FileReader) : Type 0 where
+  pub now : Given
+  pub within : Within now given
+  pub bytes_are : given.bytes ≡ now.bytes ++ rest
+  pub known_is : now.known ≡ given.known
   pub so_far : ActsTold
   pub left : Left
-  pub of : IsOf given reader
+  pub of : IsOf now reader
   pub pauses : Pauses given so_far (close_of reader.origin behind)
-  pub stays : behind ≡ close.Over → (later : Given) → Within given later → Pauses later so_far (Over reader.origin)
-  pub holds : Holds given.home given.known so_far left reader
-  pub waits : behind ≡ close.Waits → (rest ≡ []) × Walks given reader.walker so_far × (reader.stage ≡ stage.Walking)
+  pub stays : behind ≡ close.Over → (later : Given) → Within now later → Pauses later so_far (Over reader.origin)
+  pub holds : Holds now.home now.known so_far left reader
+  pub waits : behind ≡ close.Waits → (rest ≡ []) × Walks now reader.walker so_far × (reader.stage ≡ stage.Walking)
 
 -- what stands behind the events is all that is left
 pub record IsClosing (given : Given) (rest : List ℕ) (behind : FileClose) (reader : FileReader) : Type 0 where
+  pub now : Given
+  pub within : Within now given
+  pub bytes_are : given.bytes ≡ now.bytes ++ rest
+  pub known_is : now.known ≡ given.known
   pub left : Left
-  pub of : IsOf given reader
-  pub reads : read given ≡ at_close given.home given.known (close_of reader.origin behind) left
-  pub stays : behind ≡ close.Over → (later : Given) → Within given later → read later ≡ at_close later.home later.known (Over reader.origin) left
+  pub of : IsOf now reader
+  pub reads : read given ≡ at_close now.home now.known (close_of reader.origin behind) left
+  pub stays : behind ≡ close.Over → (later : Given) → Within now later → read later ≡ at_close later.home later.known (Over reader.origin) left
   pub like : IsLike left.decoded reader.kept
-  pub includes_wait : Waits given.home given.known left.decoded reader.includes
+  pub includes_wait : Waits now.home now.known left.decoded reader.includes
   pub decisions_are : TicksExactly left.told.decisions 0 (decisions_in reader)
   pub tallies : Tallies left reader
-  pub waits : behind ≡ close.Waits → (rest ≡ []) × Stands given reader
+  pub waits : behind ≡ close.Waits → StandsBefore given rest reader

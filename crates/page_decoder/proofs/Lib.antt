@@ -98,3 +98,5 @@ mod DataEvents
 mod Bounded
 -- at_close, at_form_end
 mod FileEnds
+-- at_pause
+mod Pausing

@@ -49,6 +49,7 @@ impl FileReader {
         ensures rest { self.new ≡ record self.old { walker = self.new.walker } }
         ensures waits { end ≡ None → (result ≡ FileClose.Waits) × (self.new ≡ self.old) }
     {
+        iff_chunks::laws::bounds();
         match end {
             None => FileClose::Waits,
             Some(end) => close_of(self.walker.finish(end, self.arrived)),
@@ -71,6 +72,11 @@ impl FileReader {
             → IsPaused given rest behind self.old → Answers given rest result self.old self.new }
         ensures rise { RiseTogether (decisions_in self.old) (decisions_in self.new) (M.count meter.old) (M.count meter.new) }
     {
+        iff_chunks::laws::layout();
+        iff_chunks::laws::order();
+        jb2_records::laws::more_bytes_go_on();
+        iw44_image::laws::layers_grow();
+        include_graph::laws::verdicts_stay();
         match self.advance(meter) {
             Some(answer) => answer,
             None => self.at_close(names, outlines, results, behind),

@@ -226,3 +226,23 @@ module _ (given : Given) (rest : List ℕ) (behind : FileClose) (old : FileReade
     pauses_stopped (step.NeedFile file) r = stopped (step.NeedFile file) r (λ e. cc)
     pauses_stopped (step.Refused fault) r = stopped (step.Refused fault) r (λ e. cc)
     pauses_stopped (step.Drew notice) r = stopped (step.Drew notice) r (λ e. cc)
+
+  -- by the answer, and what is at hand then
+  abbrev pub Comes : Option PageStep → Option ChunkAtHand → Type 0
+  Comes None next = IsClosing given rest behind (record old { chunk = next })
+  Comes (Some stop) next = Answers given rest stop old (record old { chunk = next })
+
+  by_chunks : (answer : Option PageStep) (told : Option OpenChunk) (before next : Option ChunkAtHand) → so_far.chunk ≡ told → old.chunk ≡ before
+      → HoldsChunk now.home.table told before k.left.decoded old.kept → Advances answer old.file before next → Comes answer next
+  by_chunks None None None None t b h a =
+      subst (λ chunk. IsClosing given rest behind (record old { chunk = chunk })) b (none_closes t b h)
+  by_chunks (Some stop) None None None t b h a = let wrong : Some stop ≡ None = a in absurd (cc)
+  by_chunks answer None None (Some next) t b h a = absurd a
+  by_chunks answer None (Some before) next t b h a = absurd h
+  by_chunks answer (Some told) None next t b h a = absurd h
+  by_chunks answer (Some told) (Some before) None t b h a = absurd a
+  by_chunks None (Some told) (Some before) (Some next) t b h a = pauses_open told before next t b h a
+  by_chunks (Some stop) (Some told) (Some before) (Some next) t b h a = pauses_stopped told before next t b h stop a
+
+  pub comes_to : (answer : Option PageStep) (next : Option ChunkAtHand) → Advances answer old.file old.chunk next → Comes answer next
+  comes_to answer next a = by_chunks answer so_far.chunk old.chunk next refl refl k.holds.holds_chunk a

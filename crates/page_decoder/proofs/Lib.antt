@@ -90,3 +90,4 @@ mod Sounding
 mod Eventing
 mod DataEvents
 mod Bounded
+mod ChunkEnds

@@ -1,0 +1,165 @@
+-- What the reader of a file comes to at the end of a chunk.
+use Rattle.std.proofs.Common.{◌≡◌, ◌≢◌, ◌≤◌, ◌<◌, ◌+◌, ◌-◌, ◌^◌, ℕ, suc, min, Bool, true, false, Option, Some, None, List, [], ◌∷◌, ◌++◌, length, refl, sym, ap, ◌∙◌, subst, arith, append_assoc}
+use Rattle.std.proofs.lemmas.Bool.{true≢false}
+use Rattle.std.proofs.lemmas.List.{append-nil, length-append}
+use Rattle.std.proofs.lemmas.Grind.{common_steps}
+use Rattle.djvu_base.specs.declared.faults.FaultKind.{FaultKind}
+use Rattle.djvu_base.specs.Announced.{Announced}
+use Rattle.djvu_base.specs.Meter.{ticked, TicksExactly}
+use Rattle.layer_compose.specs.declared.layers.Layers.{Layers}
+use Rattle.zp_table.specs.declared.rows.Row.{Row}
+use Rattle.iff_chunks.specs.declared.walker.WalkStep.TheVariants as event
+use Rattle.iff_chunks.specs.Events.{ChunkEnd}
+use Rattle.iff_chunks.specs.Chunks.{chunks_of}
+use Rattle.include_graph.specs.Verdicts.{fault_at}
+use Rattle.iw44_image.specs.Layer.{Data, data_of}
+use Rattle.page_decoder.specs.declared.file_reader.FileReader.{FileReader}
+use Rattle.page_decoder.specs.declared.file_reader.ChunkAtHand.{ChunkAtHand}
+use Rattle.page_decoder.specs.declared.file_reader.Stage.TheVariants as stage
+use Rattle.page_decoder.specs.declared.decoder.PageStep.{PageStep}
+use Rattle.page_decoder.specs.declared.decoder.PageStep.TheVariants as step
+use Rattle.page_decoder.specs.declared.closing.ChunkCame.{ChunkCame}
+use Rattle.page_decoder.specs.declared.closing.ChunkCame.TheVariants as came
+use Rattle.page_decoder.specs.Kinds.{ChunkKind, kind_of, brings_drawing}
+use Rattle.page_decoder.specs.Kinds as kind
+use Rattle.page_decoder.specs.Given.{Home, Known, Given}
+use Rattle.page_decoder.specs.PageRead.{Drawing, notice_of, last_layers, Decoded, Left, at_start, PageRead}
+use Rattle.page_decoder.specs.Headers.{Head, header_fault}
+use Rattle.page_decoder.specs.ChunkData.{Outcome, Leaves, Unfinished, Fails, Came, came as data_came, with_include}
+use Rattle.page_decoder.specs.Acts.{Act, Reads, acts_of, close_in}
+use Rattle.page_decoder.specs.Read.{Step, On, Ends, and_then, after, counting, refused_at, with_chunk, drawing_of, drawing_by, at_header, at_outcome, at_data, at_act, step_through, read_from, read}
+use Rattle.page_decoder.specs.ActsTold.{OpenChunk, ActsTold, acts_so, after_event}
+use Rattle.page_decoder.specs.Resolving.{Waits}
+use Rattle.page_decoder.specs.Kept.{Keeps}
+use Rattle.page_decoder.specs.Opened.{Opens, ClosesTo, LayersStay, announced, decisions_of}
+use Rattle.page_decoder.specs.FileReading.{IsOf, Walks, Holds, HoldsChunk, HasOpened, reached, decisions_in, IsWalking, StandsAt, StandsBefore, Answers, Moves, ComesTo, IsTold}
+use Rattle.page_decoder.specs.FileSteps.{HasClosed, HasLeft, Adds, IsNoMemory}
+use Rattle.page_decoder.proofs.ResolveSteps.{waits_along, waits_with}
+use Rattle.page_decoder.proofs.Leaving.{Brings, brings}
+use Rattle.page_decoder.proofs.Retaining.{from_below, outcome_below, after_below}
+use Rattle.page_decoder.proofs.Showing.{left_shows}
+use Rattle.page_decoder.proofs.Onward.{first_on, through_last}
+use Rattle.page_decoder.proofs.Sounding.{Container, data_sound}
+use Rattle.page_decoder.proofs.Bounded.{FewChunks, few_acts, few_drawings, chunks_reached}
+use Rattle.page_decoder.proofs.Answering.{ends_answer, memory_answer, drew_answer}
+use Rattle.page_decoder.proofs.Eventing.{given_acts, reads_within, home_known}
+
+-- ---- what other chunks leave of includes
+
+same_includes : (of : ChunkKind) (table : List Row) (data_ : Data) (offset : ℕ) (before after : Decoded) → of ≢ kind.Include
+    → Brings of table data_ offset before after → (before.inherited ≡ after.inherited) × (before.pending ≡ after.pending)
+same_includes kind.Info table data_ offset before after n b = (ap (λ (d : Decoded). d.inherited) (sym b.3), ap (λ (d : Decoded). d.pending) (sym b.3))
+same_includes kind.Include table data_ offset before after n b = absurd (n refl)
+same_includes kind.Dictionary table data_ offset before after n b = (ap (λ (d : Decoded). d.inherited) (sym b.1), ap (λ (d : Decoded). d.pending) (sym b.1))
+same_includes kind.Mask table data_ offset before after n b = (ap (λ (d : Decoded). d.inherited) (sym b.3), ap (λ (d : Decoded). d.pending) (sym b.3))
+same_includes kind.Front table data_ offset before after n b = (ap (λ (d : Decoded). d.inherited) (sym b.3), ap (λ (d : Decoded). d.pending) (sym b.3))
+same_includes kind.Back table data_ offset before after n b = (ap (λ (d : Decoded). d.inherited) (sym b.4), ap (λ (d : Decoded). d.pending) (sym b.4))
+same_includes kind.Refused table data_ offset before after n b = (ap (λ (d : Decoded). d.inherited) (sym b), ap (λ (d : Decoded). d.pending) (sym b))
+same_includes kind.Passed table data_ offset before after n b = (ap (λ (d : Decoded). d.inherited) (sym b), ap (λ (d : Decoded). d.pending) (sym b))
+
+-- ---- drawings
+
+none_drawn : (of : ChunkKind) (chunks decisions : ℕ) (layers : Option Layers) → brings_drawing of ≡ false → drawing_by of chunks decisions layers ≡ []
+none_drawn kind.Info chunks decisions layers b = absurd (true≢false b)
+none_drawn kind.Include chunks decisions layers b = refl
+none_drawn kind.Dictionary chunks decisions layers b = refl
+none_drawn kind.Mask chunks decisions layers b = absurd (true≢false b)
+none_drawn kind.Front chunks decisions layers b = absurd (true≢false b)
+none_drawn kind.Back chunks decisions layers b = absurd (true≢false b)
+none_drawn kind.Refused chunks decisions layers b = refl
+none_drawn kind.Passed chunks decisions layers b = refl
+
+one_drawn : (of : ChunkKind) (chunks decisions : ℕ) (layers : Option Layers) → brings_drawing of ≡ true
+    → (drawing_by of chunks decisions layers ≡ drawing_of chunks decisions layers) × (of ≢ kind.Include)
+one_drawn kind.Info chunks decisions layers b = (refl, λ e. cc)
+one_drawn kind.Include chunks decisions layers b = absurd (true≢false (sym b))
+one_drawn kind.Dictionary chunks decisions layers b = absurd (true≢false (sym b))
+one_drawn kind.Mask chunks decisions layers b = (refl, λ e. cc)
+one_drawn kind.Front chunks decisions layers b = (refl, λ e. cc)
+one_drawn kind.Back chunks decisions layers b = (refl, λ e. cc)
+one_drawn kind.Refused chunks decisions layers b = absurd (true≢false (sym b))
+one_drawn kind.Passed chunks decisions layers b = absurd (true≢false (sym b))
+
+-- ---- counts
+
+both_ticks : (more all some before now : ℕ) → TicksExactly more 0 some → TicksExactly all 0 before → now ≡ ticked some before → TicksExactly (all + more) 0 now
+both_ticks more all some before now a b e = grind (arith, common_steps)
+
+both_within : (more all some before now : ℕ) → some ≤ ticked more 0 → TicksExactly all 0 before → now ≡ ticked some before → now ≤ ticked (all + more) 0
+both_within more all some before now a b e = grind (arith, common_steps)
+
+counted : (chunks all : ℕ) → chunks ≡ all → all < 2 ^ 31 → min (chunks + 1) (2 ^ 32 - 1) ≡ suc all
+counted chunks all e few = grind (arith, common_steps)
+
+-- ---- the chunk that ends
+
+-- a chunk whose end was told, with all its data
+record IsEnded (given : Given) (reader : FileReader) (chunk : ChunkAtHand) (now : Given) (acts : List Act) (left : Left) : Type 0 where
+  bytes : List ℕ
+  opens : Opens now.home.table chunk.head left.decoded bytes reader.kept chunk.opened
+  whole : length bytes ≡ chunk.head.size
+  others : List Act
+  all : acts_of (chunks_of given.bytes) ≡ acts ++ Reads chunk.head (data_of bytes true) ∷ others
+  on : and_then (step_through now.home now.known acts at_start)
+      (λ x. at_header now.home now.known chunk.head (header_fault now.home.role x chunk.head) x) ≡ On left
+  walks : Walks now reader.walker (record { acts = acts ++ Reads chunk.head (data_of bytes true) ∷ []; chunk = None })
+  few : left.chunks < 2 ^ 31
+  drawn : length left.told.drawings < 2 ^ 31
+
+module _ (given : Given) (rest used : List ℕ) (reader : FileReader) (law : Container) (limits : FewChunks) where
+  ended_so : (t : IsTold given rest event.ChunkEnd used reader) (chunk : ChunkAtHand) (told : Option OpenChunk) → t.so_far.chunk ≡ told
+      → Walks t.now reader.walker (record { acts = t.so_far.acts ++ acts_so true told; chunk = None })
+      → reached t.now.home t.now.known t.so_far.acts told ≡ On t.left
+      → HoldsChunk t.now.home.table told (Some chunk) t.left.decoded reader.kept → IsEnded given reader chunk t.now t.so_far.acts t.left
+  ended_so t chunk None e w on h = absurd h
+  ended_so t chunk (Some told) e w on h =
+      let g = given_acts t.now given rest reader (record { acts = t.so_far.acts ++ Reads told.head (data_of told.bytes true) ∷ []; chunk = None })
+      t.bytes_are w in
+      let all : acts_of (chunks_of given.bytes) ≡ t.so_far.acts ++ Reads told.head (data_of told.bytes true) ∷ g.0 =
+      g.1 ∙ append_assoc t.so_far.acts (Reads told.head (data_of told.bytes true) ∷ []) g.0 in
+      let count = few_acts law limits given.bytes t.so_far.acts (Reads told.head (data_of told.bytes true) ∷ g.0) all in
+      let chunks = chunks_reached t.now.home t.now.known t.so_far.acts (Some told) t.left on in
+      let drawings = few_drawings t.now.home t.now.known t.so_far.acts (Some told) t.left on in
+      record {
+        bytes = told.bytes;
+        opens = subst (λ x. Opens t.now.home.table x t.left.decoded told.bytes reader.kept chunk.opened) (sym h.head_is) h.opens;
+        whole = data_sound law given.bytes t.so_far.acts g.0 told.head (data_of told.bytes true) all ∙ ap (λ (x : Head). x.size) (sym h.head_is);
+        others = g.0;
+        all = subst (λ x. acts_of (chunks_of given.bytes) ≡ t.so_far.acts ++ Reads x (data_of told.bytes true) ∷ g.0) (sym h.head_is) all;
+        on = subst (λ x. and_then (step_through t.now.home t.now.known t.so_far.acts at_start)
+            (λ y. at_header t.now.home t.now.known x (header_fault t.now.home.role y x) y) ≡ On t.left) (sym h.head_is) on;
+        walks = subst (λ x. Walks t.now reader.walker (record { acts = t.so_far.acts ++ Reads x (data_of told.bytes true) ∷ []; chunk = None }))
+            (sym h.head_is) w;
+        few = omega (arith, count, chunks);
+        drawn = omega (arith, count, chunks, drawings);
+      }
+
+  module _ (t : IsTold given rest event.ChunkEnd used reader) (chunk : ChunkAtHand) (e : IsEnded given reader chunk t.now t.so_far.acts t.left)
+      (answer : Option PageStep) (next : FileReader) (h : HasClosed chunk answer (record reader { chunk = None }) next) (none : next.chunk ≡ None)
+      (stays : next ≡ record reader { chunk = None; kept = next.kept; includes = next.includes; chunks = next.chunks; drawn = next.drawn;
+      decisions = next.decisions }) where
+    abbrev it : Came
+    it = data_came t.now.home.table chunk.head (data_of e.bytes true) t.left.decoded
+
+    abbrev data_here : Data
+    data_here = data_of e.bytes true
+
+    closes : ClosesTo h.closed (min (reader.chunks + 1) (2 ^ 32 - 1)) t.now.home.table chunk.head t.left.decoded it next.kept
+    closes = h.closes t.now.home.table t.left.decoded e.bytes e.opens e.whole
+
+    -- all that is given is read on from the chunk's outcome
+    reads : read given ≡ after (at_outcome given.home chunk.head it.decisions it.outcome t.left)
+        (read_from given.home given.known (close_in given.mark given.bytes) e.others)
+    reads =
+        let on = subst (λ x. and_then (step_through t.now.home x t.so_far.acts at_start)
+        (λ y. at_header t.now.home x chunk.head (header_fault t.now.home.role y chunk.head) y) ≡ On t.left) t.known_is e.on in
+        let on_given = subst (λ x. and_then (step_through x given.known t.so_far.acts at_start)
+        (λ y. at_header x given.known chunk.head (header_fault x.role y chunk.head) y) ≡ On t.left) t.within.home on in
+        reads_within given t.so_far.acts e.others chunk.head data_here t.left e.all on_given
+        ∙ ap (λ (x : Home). after (at_outcome given.home chunk.head (data_came x.table chunk.head data_here t.left.decoded).decisions
+        (data_came x.table chunk.head data_here t.left.decoded).outcome t.left)
+        (read_from given.home given.known (close_in given.mark given.bytes) e.others)) (sym t.within.home)
+
+    total : next.decisions ≡ ticked h.closed.decisions reader.decisions → h.closed.came ≢ came.OutOfMemory
+        → TicksExactly (t.left.told.decisions + it.decisions) 0 next.decisions
+    total d n = both_ticks it.decisions t.left.told.decisions h.closed.decisions reader.decisions next.decisions (closes.all n) t.holds.decisions_are d

@@ -42,7 +42,7 @@ use Rattle.page_decoder.proofs.Onward.{first_on, through_last}
 use Rattle.page_decoder.proofs.Sounding.{Container, data_sound}
 use Rattle.page_decoder.proofs.Bounded.{FewChunks, few_acts, few_drawings, chunks_reached}
 use Rattle.page_decoder.proofs.Answering.{ends_answer, memory_answer, drew_answer}
-use Rattle.page_decoder.proofs.Eventing.{given_acts, reads_within, home_known}
+use Rattle.page_decoder.proofs.Eventing.{given_acts, reads_within, none_more, ticked_same}
 
 -- ---- what other chunks leave of includes
 
@@ -94,17 +94,17 @@ counted chunks all e few = grind (arith, common_steps)
 -- ---- the chunk that ends
 
 -- a chunk whose end was told, with all its data
-record IsEnded (given : Given) (reader : FileReader) (chunk : ChunkAtHand) (now : Given) (acts : List Act) (left : Left) : Type 0 where
-  bytes : List ℕ
-  opens : Opens now.home.table chunk.head left.decoded bytes reader.kept chunk.opened
-  whole : length bytes ≡ chunk.head.size
-  others : List Act
-  all : acts_of (chunks_of given.bytes) ≡ acts ++ Reads chunk.head (data_of bytes true) ∷ others
-  on : and_then (step_through now.home now.known acts at_start)
+pub record IsEnded (given : Given) (reader : FileReader) (chunk : ChunkAtHand) (now : Given) (acts : List Act) (left : Left) : Type 0 where
+  pub bytes : List ℕ
+  pub opens : Opens now.home.table chunk.head left.decoded bytes reader.kept chunk.opened
+  pub whole : length bytes ≡ chunk.head.size
+  pub others : List Act
+  pub all : acts_of (chunks_of given.bytes) ≡ acts ++ Reads chunk.head (data_of bytes true) ∷ others
+  pub on : and_then (step_through now.home now.known acts at_start)
       (λ x. at_header now.home now.known chunk.head (header_fault now.home.role x chunk.head) x) ≡ On left
-  walks : Walks now reader.walker (record { acts = acts ++ Reads chunk.head (data_of bytes true) ∷ []; chunk = None })
-  few : left.chunks < 2 ^ 31
-  drawn : length left.told.drawings < 2 ^ 31
+  pub walks : Walks now reader.walker (record { acts = acts ++ Reads chunk.head (data_of bytes true) ∷ []; chunk = None })
+  pub few : left.chunks < 2 ^ 31
+  pub drawn : length left.told.drawings < 2 ^ 31
 
 module _ (given : Given) (rest used : List ℕ) (reader : FileReader) (law : Container) (limits : FewChunks) where
   ended_so : (t : IsTold given rest event.ChunkEnd used reader) (chunk : ChunkAtHand) (told : Option OpenChunk) → t.so_far.chunk ≡ told
@@ -163,3 +163,50 @@ module _ (given : Given) (rest used : List ℕ) (reader : FileReader) (law : Con
     total : next.decisions ≡ ticked h.closed.decisions reader.decisions → h.closed.came ≢ came.OutOfMemory
         → TicksExactly (t.left.told.decisions + it.decisions) 0 next.decisions
     total d n = both_ticks it.decisions t.left.told.decisions h.closed.decisions reader.decisions next.decisions (closes.all n) t.holds.decisions_are d
+
+    -- all decisions are those of complete chunks
+    none_open : (all : ℕ) → TicksExactly all 0 next.decisions → TicksExactly all 0 (decisions_in next)
+    none_open all d = none_more next none ∙ ticked_same all next.decisions d ∙ d
+
+    abbrev here : FileReader
+    here = record reader {
+      chunk = None; kept = next.kept; includes = next.includes; chunks = next.chunks; drawn = next.drawn; decisions = next.decisions
+    }
+
+    -- the reader stands behind the chunk
+    stands_next : (decoded : Decoded) → it.outcome ≡ Leaves decoded → Keeps t.now.home.table decoded next.kept
+        → Waits t.now.home t.now.known decoded next.includes → next.chunks ≡ suc t.left.chunks
+        → next.drawn ≡ length (with_chunk chunk.head it.decisions decoded t.left).told.drawings
+        → TicksExactly (t.left.told.decisions + it.decisions) 0 next.decisions → StandsBefore given rest next
+    stands_next decoded leaves keeps waits chunks drawn count =
+        let home = t.now.home in
+        let known = t.now.known in
+        let header = λ (x : Left). at_header home known chunk.head (header_fault home.role x chunk.head) x in
+        let behind = with_chunk chunk.head it.decisions decoded t.left in
+        let parts = first_on (step_through home known t.so_far.acts at_start) header t.left e.on in
+        let act : at_act home known (Reads chunk.head data_here) parts.0 ≡ On behind =
+        ap (λ s. and_then s (at_data home chunk.head data_here)) parts.2 ∙ ap (λ o. at_outcome home chunk.head it.decisions o t.left) leaves in
+        let on : step_through home known (t.so_far.acts ++ Reads chunk.head data_here ∷ []) at_start ≡ On behind =
+        through_last home known t.so_far.acts (Reads chunk.head data_here) at_start parts.0 behind parts.1 act in
+        let walking : IsWalking t.now here = record {
+          so_far = record { acts = t.so_far.acts ++ Reads chunk.head data_here ∷ []; chunk = None };
+          left = behind;
+          of = record { home_is = t.of.home_is; is_table = t.of.is_table; origin_is = t.of.origin_is; counts = t.of.counts };
+          walks = e.walks;
+          holds = record {
+            on = on;
+            holds_chunk = keeps;
+            waits = waits;
+            decisions_are = count;
+            tallies = record {
+              chunks_are = chunks;
+              drawn_are = drawn;
+              last_is = (left_shows home known (t.so_far.acts ++ Reads chunk.head data_here ∷ []) behind on).last;
+            };
+          };
+        } in
+        let stands : StandsAt t.now here.stage here = subst (λ s. StandsAt t.now s here) (sym t.is_walking) walking in
+        record {
+          now = t.now; within = t.within; bytes_are = t.bytes_are; known_is = t.known_is;
+          stands = subst (λ r. StandsAt t.now r.stage r) (sym stays) stands;
+        }

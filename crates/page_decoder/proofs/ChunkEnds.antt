@@ -22,16 +22,17 @@ use Rattle.page_decoder.specs.declared.closing.ChunkCame.{ChunkCame}
 use Rattle.page_decoder.specs.declared.closing.ChunkCame.TheVariants as came
 use Rattle.page_decoder.specs.Kinds.{ChunkKind, kind_of, brings_drawing}
 use Rattle.page_decoder.specs.Kinds as kind
-use Rattle.page_decoder.specs.Given.{Home, Known, Given}
+use Rattle.page_decoder.specs.Given.{Home, Known, Given, Front}
 use Rattle.page_decoder.specs.PageRead.{Drawing, notice_of, last_layers, Decoded, Left, at_start, PageRead}
 use Rattle.page_decoder.specs.Headers.{Head, header_fault}
 use Rattle.page_decoder.specs.ChunkData.{Outcome, Leaves, Unfinished, Fails, Came, came as data_came, with_include}
 use Rattle.page_decoder.specs.Acts.{Act, Reads, acts_of, close_in}
 use Rattle.page_decoder.specs.Read.{Step, On, Ends, and_then, after, counting, refused_at, with_chunk, drawing_of, drawing_by, at_header, at_outcome, at_data, at_act, step_through, read_from, read}
+use Rattle.page_decoder.specs.Needs.{Below}
 use Rattle.page_decoder.specs.ActsTold.{OpenChunk, ActsTold, acts_so, after_event}
 use Rattle.page_decoder.specs.Resolving.{Waits}
 use Rattle.page_decoder.specs.Kept.{Keeps}
-use Rattle.page_decoder.specs.Opened.{Opens, ClosesTo, LayersStay, announced, decisions_of}
+use Rattle.page_decoder.specs.Opened.{Opens, ClosesTo, Draws, LayersStay, announced, decisions_of}
 use Rattle.page_decoder.specs.FileReading.{IsOf, Walks, Holds, HoldsChunk, HasOpened, reached, decisions_in, IsWalking, StandsAt, StandsBefore, Answers, Moves, ComesTo, IsTold}
 use Rattle.page_decoder.specs.FileSteps.{HasClosed, HasLeft, Adds, IsNoMemory}
 use Rattle.page_decoder.proofs.ResolveSteps.{waits_along, waits_with}
@@ -90,6 +91,9 @@ both_within more all some before now a b e = grind (arith, common_steps)
 
 counted : (chunks all : ℕ) → chunks ≡ all → all < 2 ^ 31 → min (chunks + 1) (2 ^ 32 - 1) ≡ suc all
 counted chunks all e few = grind (arith, common_steps)
+
+small : (now most : ℕ) → now ≤ ticked most 0 → ticked 0 now ≡ now
+small now most h = grind (arith, common_steps)
 
 -- ---- the chunk that ends
 
@@ -209,4 +213,94 @@ module _ (given : Given) (rest used : List ℕ) (reader : FileReader) (law : Con
         record {
           now = t.now; within = t.within; bytes_are = t.bytes_are; known_is = t.known_is;
           stands = subst (λ r. StandsAt t.now r.stage r) (sym stays) stands;
+        }
+
+    file_is : given.home.file ≡ reader.file
+    file_is = ap (λ (x : Home). x.file) (sym t.within.home ∙ t.of.home_is)
+
+    chunks_so : min (reader.chunks + 1) (2 ^ 32 - 1) ≡ suc t.left.chunks
+    chunks_so = counted reader.chunks t.left.chunks t.holds.tallies.chunks_are e.few
+
+    -- nothing was laid
+    unlaid : next.kept.layers ≡ reader.kept.layers → next.kept.layers ≡ last_layers t.left.told.drawings
+    unlaid l = l ∙ e.opens.layers_are ∙ t.holds.tallies.last_is
+
+    -- data that fail
+    fails : (wrong : FaultKind) → it.outcome ≡ Fails wrong → next.drawn ≡ reader.drawn → next.kept.layers ≡ reader.kept.layers
+        → TicksExactly (t.left.told.decisions + it.decisions) 0 next.decisions
+        → Answers given rest (step.Refused (fault_at wrong reader.file chunk.head.offset)) reader next
+    fails wrong o d l n =
+        let found : read given ≡ record { left = counting it.decisions t.left; end = refused_at given.home wrong chunk.head.offset } =
+        reads ∙ ap (λ x. after (at_outcome given.home chunk.head it.decisions x t.left)
+        (read_from given.home given.known (close_in given.mark given.bytes) e.others)) o in
+        subst (λ m. Answers given rest (step.Refused (fault_at wrong m chunk.head.offset)) reader next) file_is
+        (ends_answer given rest reader next (counting it.decisions t.left) (refused_at given.home wrong chunk.head.offset) found
+        t.holds.tallies.drawn_are d (none_open (t.left.told.decisions + it.decisions) n) (unlaid l) (λ w. absurd (cc)) (λ w. absurd w))
+
+    -- what all that is given tells is no less than the chunk's decisions
+    told_more : Below (counting it.decisions t.left).told (read given).left.told
+    told_more =
+        let close = close_in given.mark given.bytes in
+        subst (λ r. Below (counting it.decisions t.left).told r.left.told) (sym reads)
+        (after_below (counting it.decisions t.left).told (at_outcome given.home chunk.head it.decisions it.outcome t.left)
+        (read_from given.home given.known close e.others) (from_below given.home given.known close e.others)
+        (outcome_below given.home chunk.head it.decisions it.outcome t.left))
+
+    -- there was no memory
+    lacks : next.drawn ≡ reader.drawn → next.kept.layers ≡ reader.kept.layers → next.decisions ≡ ticked h.closed.decisions reader.decisions
+        → Answers given rest step.OutOfMemory reader next
+    lacks d l n =
+        let most : next.decisions ≤ ticked (t.left.told.decisions + it.decisions) 0 =
+        both_within it.decisions t.left.told.decisions h.closed.decisions reader.decisions next.decisions closes.at_most t.holds.decisions_are n in
+        let alone : decisions_in next ≡ next.decisions = none_more next none ∙ small next.decisions (t.left.told.decisions + it.decisions) most in
+        memory_answer given rest reader next t.left.told (t.left.told.decisions + it.decisions) told_more.drawings told_more.decisions
+        t.holds.tallies.drawn_are d (subst (λ k. k ≤ ticked (t.left.told.decisions + it.decisions) 0) (sym alone) most) (unlaid l)
+
+    -- the chunk brings a drawing
+    draws : (notice : Announced) → Draws notice (min (reader.chunks + 1) (2 ^ 32 - 1)) t.now.home.table chunk.head it.outcome next.kept
+        → next.chunks ≡ min (reader.chunks + 1) (2 ^ 32 - 1) → next.drawn ≡ min (reader.drawn + 1) (2 ^ 32 - 1)
+        → next.includes ≡ reader.includes → TicksExactly (t.left.told.decisions + it.decisions) 0 next.decisions
+        → Answers given rest (step.Drew notice) reader next
+    draws notice d chunks drawn includes n =
+        let all = t.left.told.decisions + it.decisions in
+        let one = one_drawn (kind_of chunk.head.id) (suc t.left.chunks) all d.decoded.layers d.brings in
+        let drawing : Drawing = record { chunks = suc t.left.chunks; decisions = all; layers = d.layers } in
+        let new : drawing_by (kind_of chunk.head.id) (suc t.left.chunks) all d.decoded.layers ≡ drawing ∷ [] =
+        one.0 ∙ ap (drawing_of (suc t.left.chunks) all) d.sized in
+        let behind = with_chunk chunk.head it.decisions d.decoded t.left in
+        let told : behind.told.drawings ≡ t.left.told.drawings ++ drawing ∷ [] = ap (λ x. t.left.told.drawings ++ x) new in
+        let close = close_in given.mark given.bytes in
+        let found : read given ≡ read_from given.home given.known close e.others behind =
+        reads ∙ ap (λ x. after (at_outcome given.home chunk.head it.decisions x t.left) (read_from given.home given.known close e.others)) d.leaves in
+        let below : Below behind.told (read given).left.told =
+        subst (λ r. Below behind.told r.left.told) (sym found) (from_below given.home given.known close e.others behind) in
+        let front = subst (λ x. Front x (read given).left.told.drawings) told below.drawings in
+        let seen : next.drawn ≡ suc reader.drawn =
+        drawn ∙ counted reader.drawn (length t.left.told.drawings) t.holds.tallies.drawn_are e.drawn ∙ ap suc (sym t.holds.tallies.drawn_are) in
+        let size : length behind.told.drawings ≡ suc (length t.left.told.drawings) =
+        let sizes = length-append t.left.told.drawings (drawing ∷ []) in let same = ap length told in omega (arith, sizes, same) in
+        let same = same_includes (kind_of chunk.head.id) t.now.home.table data_here chunk.head.offset t.left.decoded d.decoded one.1
+        (brings (kind_of chunk.head.id) t.now.home.table data_here chunk.head.offset t.left.decoded d.decoded d.leaves) in
+        let waits : Waits t.now.home t.now.known d.decoded next.includes =
+        subst (λ x. Waits t.now.home t.now.known d.decoded x) (sym includes)
+        (waits_along t.now.home t.now.known t.left.decoded d.decoded reader.includes same.0 same.1 t.holds.waits) in
+        let stands = stands_next d.decoded d.leaves d.keeps waits (chunks ∙ chunks_so)
+        (seen ∙ ap suc t.holds.tallies.drawn_are ∙ sym size) n in
+        let notice_so : notice_of drawing ≡ notice = ap (λ k. announced k d.layers) (sym chunks_so) ∙ sym d.notice_is in
+        subst (λ x. Answers given rest (step.Drew x) reader next) notice_so
+        (drew_answer given rest reader next t.left.told.drawings drawing front below.decisions t.holds.tallies.drawn_are seen (none_open all n)
+        (d.keeps.layers_are ∙ d.sized) stands)
+
+    -- the chunk brings none
+    moves : (decoded : Decoded) → it.outcome ≡ Leaves decoded → Keeps t.now.home.table decoded next.kept → brings_drawing (kind_of chunk.head.id) ≡ false
+        → Waits t.now.home t.now.known decoded next.includes → next.chunks ≡ min (reader.chunks + 1) (2 ^ 32 - 1) → next.drawn ≡ reader.drawn
+        → TicksExactly (t.left.told.decisions + it.decisions) 0 next.decisions → Moves given rest reader next
+    moves decoded leaves keeps brings_none waits chunks drawn n =
+        let all = t.left.told.decisions + it.decisions in
+        let new = none_drawn (kind_of chunk.head.id) (suc t.left.chunks) all decoded.layers brings_none in
+        let told : (with_chunk chunk.head it.decisions decoded t.left).told.drawings ≡ t.left.told.drawings =
+        ap (λ x. t.left.told.drawings ++ x) new ∙ append-nil t.left.told.drawings in
+        record {
+          drawn = drawn;
+          stands = stands_next decoded leaves keeps waits (chunks ∙ chunks_so) (drawn ∙ t.holds.tallies.drawn_are ∙ sym (ap length told)) n;
         }

@@ -75,3 +75,7 @@ mod Drawable
 mod Made
 -- law faults_stand_in_files of page_laws
 mod FaultPlaces
+-- LayerReader::read, read_on; Tallying
+mod Layering
+-- LayerReader::push, advance
+mod Tallying

@@ -79,3 +79,5 @@ mod FaultPlaces
 mod Layering
 -- LayerReader::push, advance
 mod Tallying
+-- ChunkReader::advance
+mod Opening

@@ -81,3 +81,5 @@ mod Layering
 mod Tallying
 -- ChunkReader::advance
 mod Opening
+-- Kept::close and what it calls
+mod Laying

@@ -4,6 +4,7 @@ use Rattle.djvu_base.specs.Announced.{Announced}
 use Rattle.djvu_base.specs.Meter.{ticked, TicksExactly}
 use Rattle.djvu_base.specs.declared.faults.FaultKind.TheVariants as fault
 use Rattle.zp_table.specs.declared.rows.Row.{Row}
+use Rattle.zp_table.specs.Rows.{IsTable}
 use Rattle.jb2_records.specs.declared.purpose.Purpose.{Purpose}
 use Rattle.jb2_records.specs.declared.purpose.Purpose.TheVariants as purpose
 use Rattle.jb2_records.specs.declared.reader.Jb2Step.{Jb2Step}
@@ -69,6 +70,7 @@ pub record ReadsName (of : ChunkKind) (bytes name : List ℕ) : Type 0 where
 
 -- the records of a chunk, over the dictionary in force
 pub record ReadsRecords (purpose : Purpose) (table : List Row) (decoded : Decoded) (bytes : List ℕ) (it : ReaderState) : Type 0 where
+  pub rows : IsTable table
   pub table_is : it.source.table ≡ table
   pub inherited_is : it.source.inherited ≡ unwrap_or (in_force decoded) []
   pub purpose_is : it.source.purpose ≡ purpose

@@ -72,7 +72,12 @@ pub(crate) enum PageLayer {
 
 /// The page of an `INFO` of this size, of which these are the first bytes.
 fn page_of(size: Size, first: &[u8]) -> Layers
-    ensures { (bytes : List ℕ) → size ≡ size_in bytes → first.now ≡ take 10 bytes → result ≡ page_of bytes }
+    ensures page { (bytes : List ℕ) → size ≡ size_in bytes → first.now ≡ take 10 bytes → result ≡ page_of bytes }
+    ensures width { result.width ≡ size.width }
+    ensures height { result.height ≡ size.height }
+    ensures mask { result.mask ≡ None }
+    ensures front { result.front ≡ None }
+    ensures back { result.back ≡ None }
 {
     Layers {
         width: u32::from(size.width),
@@ -93,10 +98,14 @@ fn notice_of(alloc: Global, layers: &Layers, chunks: u32) -> Result<Notice, Allo
     Notice::new(alloc, chunks, layers.sum(), preview)
 }
 
-/// The page with another layer, and the layer whose place it takes.
+/// The page with another layer, and the layer whose place it takes. Both can be drawn.
 fn exchanged(layers: Layers, layer: PageLayer) -> (Layers, PageLayer)
+    requires drawable { CanDraw layers }
+    requires fits { FitsOn layers layer }
     ensures laid { result.0 ≡ with_layer layer layers }
     ensures before { with_layer result.1 result.0 ≡ layers }
+    ensures drawable { CanDraw result.0 }
+    ensures fits { FitsOn result.0 result.1 }
 {
     match layer {
         PageLayer::Mask(mask) => {
@@ -208,6 +217,7 @@ impl Kept {
         ensures counts { CountsOn reader.decisions result.decisions (M.count meter.old) (M.count meter.new) }
         ensures layers { self.new.layers ≡ self.old.layers }
     {
+        jb2_records::laws::records_end();
         reader.end();
         match reader.advance(meter) {
             Jb2Step::Finished => {
@@ -250,6 +260,7 @@ impl Kept {
         ensures counts { CountsOn reader.decisions result.decisions (M.count meter.old) (M.count meter.new) }
         ensures layers { LayersStay result.came self.old.layers self.new.layers }
     {
+        jb2_records::laws::records_end();
         reader.end();
         match reader.advance(meter) {
             Jb2Step::Finished => {
@@ -281,17 +292,32 @@ impl Kept {
         ensures counts { CountsOn reader.decisions result.decisions (M.count meter.old) (M.count meter.new) }
         ensures layers { LayersStay result.came self.old.layers self.new.layers }
     {
+        let came = self.front_came(alloc, &mut reader, chunks, meter);
+        Closed::of(came, reader.decisions())
+    }
+
+    fn front_came<M: Meter>(
+        &mut self,
+        alloc: Global,
+        reader: &mut LayerReader,
+        chunks: u32,
+        meter: &mut M,
+    ) -> ChunkCame
+        requires { IsSome reader.old.image.to_come }
+        ensures closes { (table : List Row) (head : Head) (decoded : Decoded) (bytes : List ℕ) → Keeps table decoded self.old →
+            ReadsLayer kind.Front (kind_of head.id) front_limit [] table decoded bytes 0 reader.old →
+            ClosesTo (record { came = result; decisions = reader.new.decisions }) chunks table head decoded
+            (front_came decoded.layers table (data_of bytes true) decoded) self.new }
+        ensures counts { CountsOn reader.old.decisions reader.new.decisions (M.count meter.old) (M.count meter.new) }
+        ensures layers { LayersStay result self.old.layers self.new.layers }
+    {
+        iw44_image::laws::layers_go_on();
+        iw44_image::laws::complete_chunks_are_answered();
         match reader.advance(meter) {
-            LayerStep::ChunkDone => Closed::of(
-                self.lay_front(alloc, &reader, chunks),
-                reader.decisions(),
-            ),
-            LayerStep::NeedBytes => Closed::of(
-                ChunkCame::Refused(FaultKind::Truncated),
-                reader.decisions(),
-            ),
-            LayerStep::Refused(kind) => Closed::of(ChunkCame::Refused(kind), reader.decisions()),
-            LayerStep::OutOfMemory => Closed::of(ChunkCame::OutOfMemory, reader.decisions()),
+            LayerStep::ChunkDone => self.lay_front(alloc, &*reader, chunks),
+            LayerStep::NeedBytes => ChunkCame::Refused(FaultKind::Truncated),
+            LayerStep::Refused(kind) => ChunkCame::Refused(kind),
+            LayerStep::OutOfMemory => ChunkCame::OutOfMemory,
         }
     }
 
@@ -321,6 +347,8 @@ impl Kept {
         ensures counts { CountsOn reader.decisions result.decisions (M.count meter.old) (M.count meter.new) }
         ensures layers { LayersStay result.came self.old.layers self.new.layers }
     {
+        iw44_image::laws::layers_go_on();
+        iw44_image::laws::complete_chunks_are_answered();
         match reader.advance(meter) {
             LayerStep::ChunkDone => {
                 let decisions = reader.decisions();

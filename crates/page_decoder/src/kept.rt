@@ -215,6 +215,7 @@ impl Kept {
         ensures open_end { IfOk result (λ reader. reader.ended ≡ false) }
         ensures decisions { IfOk result (λ reader. reader.decisions ≡ 0) }
     {
+        table.len();
         let shapes = self.in_force(inherited)?;
         DictReader::new(alloc, Arc::try_clone(table)?, shapes)
     }
@@ -235,6 +236,7 @@ impl Kept {
         let Some(layers) = &self.page else {
             unreachable!()
         };
+        table.len();
         let shapes = self.in_force(inherited)?;
         MaskReader::new(
             alloc,

@@ -128,9 +128,10 @@ module _ (laws : Laws) where
         known = ap (λ (r : LayerReading). r.layer.header) all;
         fits = fits_same o n a.page h st.fits;
         holds = subst (λ (r : LayerReading). Holds r.layer [] r.layer.decisions n.image) (sym all) holds;
-      } in
-      ((ap (λ (r : LayerReading). r.answer) is, ap (λ (r : LayerReading). r.layer.decisions) is),
-      (rests, ap (λ (r : LayerReading). picture_in r.layer) is))
+      } in (
+        (ap (λ (r : LayerReading). r.answer) is, ap (λ (r : LayerReading). r.layer.decisions) is),
+        (rests, ap (λ (r : LayerReading). picture_in r.layer) is),
+      )
 
   -- a size that was told first
   module _ (o n : LayerState) (width height total now : ℕ) (chunks : List Data) (bytes : List ℕ) (st : Stands total chunks bytes o)
@@ -180,9 +181,10 @@ pub reads_same : (result : LayerStep) (o m n : LayerState) (now : ℕ) (chunks :
     → m.image.to_come ≡ o.image.to_come → Reads result now chunks bytes m n → Reads result now chunks bytes o n
 reads_same step.ChunkDone o m n now chunks bytes a t reads =
     let all : reading_with m chunks bytes ≡ reading_with o chunks bytes = with_same o m chunks bytes a t in
-    let given : open_data m bytes ≡ open_data o bytes = ap (λ c. data_of bytes (is_whole c)) t in
-    (subst (λ r. ReadsAll now r iw44.Done) all reads.0,
-    (subst (λ (d : Data). Rests (chunks ++ d ∷ []) n) given reads.1.0, ap (λ (r : LayerReading). picture_in r.layer) (sym all) ∙ reads.1.1))
+    let given : open_data m bytes ≡ open_data o bytes = ap (λ c. data_of bytes (is_whole c)) t in (
+      subst (λ r. ReadsAll now r iw44.Done) all reads.0,
+      (subst (λ (d : Data). Rests (chunks ++ d ∷ []) n) given reads.1.0, ap (λ (r : LayerReading). picture_in r.layer) (sym all) ∙ reads.1.1),
+    )
 reads_same step.NeedBytes o m n now chunks bytes a t reads =
     (subst (λ r. ReadsAll now r iw44.Need) (with_same o m chunks bytes a t) reads.0, reads.1)
 reads_same (step.Refused kind) o m n now chunks bytes a t reads = subst (λ r. ReadsAll now r (iw44.Fault kind)) (with_same o m chunks bytes a t) reads
@@ -253,9 +255,13 @@ module _ (laws : Laws) where
   image_reads iw.OutOfMemory o n a b adv un total chunks bytes st =
       let m = adv.memory refl in
       let holds : Holds (reading_of o chunks).layer bytes total n.image =
-      subst (λ (i : Image). Holds (reading_of o chunks).layer bytes total i) (sym m.0) st.holds in
-      (total, (stands_on o n total total chunks bytes st adv.alike (adv.header un) adv.to_come (omega arith) st.within holds,
-      subst (λ (count : ℕ). TicksTo total total a count) (sym m.1) (ticks_still total a)))
+      subst (λ (i : Image). Holds (reading_of o chunks).layer bytes total i) (sym m.0) st.holds in (
+        total,
+        (
+          stands_on o n total total chunks bytes st adv.alike (adv.header un) adv.to_come (omega arith) st.within holds,
+          subst (λ (count : ℕ). TicksTo total total a count) (sym m.1) (ticks_still total a),
+        ),
+      )
 
   pub misfit_on : (width height : ℕ) (o n : LayerState) (a b : ℕ) → Advanced (iw.Sized width height) o n a b
       → HasSize width height o.image.header n.image.header → is_some (reduction_of o.page (width, height)) ≡ false

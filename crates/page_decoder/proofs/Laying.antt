@@ -2,6 +2,7 @@
 use Rattle.std.proofs.Common.{◌≡◌, ◌≢◌, ℕ, ◌-◌, ◌≤◌, Bool, true, false, Option, Some, None, List, [], ◌∷◌, ◌++◌, is_some, unwrap_or, refl, sym, ap, ◌∙◌, subst, arith}
 use Rattle.std.specs.Prelude.{IsSome, IsTrue}
 use Rattle.djvu_base.specs.Announced.{Announced}
+use Rattle.djvu_base.specs.declared.faults.FaultKind.{FaultKind}
 use Rattle.djvu_base.specs.Picture.{Picture}
 use Rattle.zp_table.specs.declared.rows.Row.{Row}
 use Rattle.zp_table.specs.Rows.{IsTable}
@@ -27,7 +28,7 @@ use Rattle.iw44_image.specs.Image.{is_whole, picture_of}
 use Rattle.page_decoder.specs.Kinds.{ChunkKind, kind_of, brings_drawing}
 use Rattle.page_decoder.specs.Headers.{Head}
 use Rattle.page_decoder.specs.PageRead.{Decoded, in_force}
-use Rattle.page_decoder.specs.ChunkData.{Outcome, Leaves, records_in, back_limit, front_limit, allowed_on, picture_in, layer_outcome, with_front, with_back, front_came, back_came}
+use Rattle.page_decoder.specs.ChunkData.{Outcome, Leaves, Fails, records_in, back_limit, front_limit, allowed_on, picture_in, layer_outcome, with_front, with_back, front_came, back_came}
 use Rattle.page_decoder.specs.LayerState.{LayerState, FitsPage, Rests, KeepsOpen, reading_of, open_data, reading_with, decisions_with, Answers as LayerAnswers}
 use Rattle.page_decoder.proofs.Opening.{reading_so, with_so}
 use Rattle.page_decoder.specs.Kept.{Keeping, IsBehind, Background, KeepsOf, Keeps}
@@ -185,6 +186,18 @@ front_closes o n result count old new table head decoded bytes reads keeps told 
     (λ notice e now. keeps_beside table decoded old new layers (record layers { front = Some pic }) keeps stays reads.sized refl refl now)
     (ap brings_drawing reads.is_kind)
 
+pub front_fails : (fault : FaultKind) (o : LayerState) (table : List Row) (head : Head) (decoded : Decoded) (bytes : List ℕ)
+    → ReadsLayer kind.Front (kind_of head.id) front_limit [] table decoded bytes 0 o → (reading_with o [] bytes).answer ≡ iw44.Fault fault
+    → (front_came decoded.layers table (data_of bytes true) decoded).outcome ≡ Fails fault
+front_fails fault o table head decoded bytes reads e =
+    let layers : Layers = reads.layers in
+    let given : Data = data_of bytes true in
+    let r : LayerReading = read_layer table (allowed_on layers front_limit) (given ∷ []) in
+    let is : r.answer ≡ iw44.Fault fault =
+    sym (ap (λ (x : LayerReading). x.answer) (whole_reading kind.Front front_limit [] table head decoded bytes o reads)) ∙ e in
+    ap (λ l. (front_came l table given decoded).outcome) reads.sized
+    ∙ ap (λ a. layer_outcome a given (with_front layers decoded (picture_in r.layer))) is
+
 -- a chunk of the background
 pub back_closes : (o n : LayerState) (result : ChunkCame) (count : ℕ) (old new : Keeping) (table : List Row) (head : Head) (decoded : Decoded)
     (bytes : List ℕ) → ReadsLayer kind.Back (kind_of head.id) back_limit decoded.back table decoded bytes 0 o → old.layers ≡ decoded.layers
@@ -221,3 +234,7 @@ back_closes o n result count old new table head decoded bytes reads layers_are o
       background = subst (λ b. Background table (Some (record layers { back = Some pic })) (decoded.back ++ given ∷ []) b) (sym (back notice e)) behind;
     })
     (ap brings_drawing reads.is_kind)
+
+pub some_of : {A : Type 0} (found : Option A) → IsSome found → (a : A) × (found ≡ Some a)
+some_of (Some a) some = (a, refl)
+some_of None some = absurd (let wrong : false ≡ true = some in cc)

@@ -120,7 +120,7 @@ grown table allowed chunks bytes piece zero to_come next is law t n le =
     let same : bytes ++ piece ≡ bytes = ap (λ p. bytes ++ p) none ∙ append-nil bytes in
     let still : next ≡ to_come = n ∙ ap Some (omega arith) ∙ sym t in
     let equal : (read_layer table allowed (chunks ++ data_of (bytes ++ piece) (is_whole next) ∷ [])).layer.decisions
-        ≡ (read_layer table allowed (chunks ++ data_of bytes (is_whole to_come) ∷ [])).layer.decisions =
+    ≡ (read_layer table allowed (chunks ++ data_of bytes (is_whole to_come) ∷ [])).layer.decisions =
     ap (λ b. (read_layer table allowed (chunks ++ data_of b (is_whole next) ∷ [])).layer.decisions) same
     ∙ ap (λ w. (read_layer table allowed (chunks ++ data_of bytes (is_whole w) ∷ [])).layer.decisions) still in
     omega (arith, equal)
@@ -128,7 +128,7 @@ grown table allowed chunks bytes piece (suc left) to_come next is law t n le =
     let some : nat_eq (suc left) 0 ≡ false = grind (arith, common_steps) in
     let part : is_whole to_come ≡ false = ap is_whole t ∙ some in
     subst (λ w. (read_layer table allowed (chunks ++ data_of bytes w ∷ [])).layer.decisions
-        ≤ (read_layer table allowed (chunks ++ data_of (bytes ++ piece) (is_whole next) ∷ [])).layer.decisions) (sym part)
+    ≤ (read_layer table allowed (chunks ++ data_of (bytes ++ piece) (is_whole next) ∷ [])).layer.decisions) (sym part)
     (law table allowed chunks bytes piece (is_whole next) is)
 
 -- the image took more bytes of the open chunk

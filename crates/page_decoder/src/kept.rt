@@ -180,6 +180,7 @@ impl Kept {
         ensures running { IfOk result (λ reader. IsRunning head.size reader) }
         ensures decisions { IfOk result (λ reader. decisions_by reader ≡ 0) }
         ensures layers { self.new.layers ≡ self.old.layers }
+        ensures own { self.new.own ≡ self.old.own }
     {
         match ChunkKind::of(head.id) {
             ChunkKind::Info => Ok(ChunkReader::Info(Vec::new(alloc))),

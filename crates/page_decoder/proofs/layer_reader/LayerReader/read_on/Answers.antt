@@ -43,16 +43,16 @@ returns-clause-answers c =
     } in
     subst (λ (it : LayerState). ReadsOn c.match-advance.result it n c.args.meter.now c.advance.new.meter) c.self.view_is
     (elim c.match-advance.branch as (λ b. ReadsOn c.match-advance.result o n c.args.meter.now c.advance.new.meter) [
-      in-ChunkDone w ↦ subst (λ (r : LayerStep). ReadsOn r o n c.args.meter.now c.advance.new.meter) (sym w.result-is)
-        (subst (λ (r : IwStep). ReadsOn (step_of r) o n c.args.meter.now c.advance.new.meter) w.in-ChunkDone.is
-        (image_reads laws c.advance.result o n c.args.meter.now c.advance.new.meter adv (λ width height is. let wrong = sym is ∙ w.in-ChunkDone.is in cc)))
-    | in-NeedBytes w ↦ subst (λ (r : LayerStep). ReadsOn r o n c.args.meter.now c.advance.new.meter) (sym w.result-is)
-        (subst (λ (r : IwStep). ReadsOn (step_of r) o n c.args.meter.now c.advance.new.meter) w.in-NeedBytes.is
-        (image_reads laws c.advance.result o n c.args.meter.now c.advance.new.meter adv (λ width height is. let wrong = sym is ∙ w.in-NeedBytes.is in cc)))
-    | in-Refused w ↦ subst (λ (r : LayerStep). ReadsOn r o n c.args.meter.now c.advance.new.meter) (sym w.result-is)
-        (subst (λ (r : IwStep). ReadsOn (step_of r) o n c.args.meter.now c.advance.new.meter) w.in-Refused.is
-        (image_reads laws c.advance.result o n c.args.meter.now c.advance.new.meter adv (λ width height is. let wrong = sym is ∙ w.in-Refused.is in cc)))
-    | in-OutOfMemory w ↦ subst (λ (r : LayerStep). ReadsOn r o n c.args.meter.now c.advance.new.meter) (sym w.result-is)
-        (subst (λ (r : IwStep). ReadsOn (step_of r) o n c.args.meter.now c.advance.new.meter) w.in-OutOfMemory.is
-        (image_reads laws c.advance.result o n c.args.meter.now c.advance.new.meter adv (λ width height is. let wrong = sym is ∙ w.in-OutOfMemory.is in cc)))
+      | in-ChunkDone w ↦ subst (λ (r : LayerStep). ReadsOn r o n c.args.meter.now c.advance.new.meter) (sym w.result-is)
+          (subst (λ (r : IwStep). ReadsOn (step_of r) o n c.args.meter.now c.advance.new.meter) w.in-ChunkDone.is
+          (image_reads laws c.advance.result o n c.args.meter.now c.advance.new.meter adv (λ width height is. let wrong = sym is ∙ w.in-ChunkDone.is in cc)))
+      | in-NeedBytes w ↦ subst (λ (r : LayerStep). ReadsOn r o n c.args.meter.now c.advance.new.meter) (sym w.result-is)
+          (subst (λ (r : IwStep). ReadsOn (step_of r) o n c.args.meter.now c.advance.new.meter) w.in-NeedBytes.is
+          (image_reads laws c.advance.result o n c.args.meter.now c.advance.new.meter adv (λ width height is. let wrong = sym is ∙ w.in-NeedBytes.is in cc)))
+      | in-Refused w ↦ subst (λ (r : LayerStep). ReadsOn r o n c.args.meter.now c.advance.new.meter) (sym w.result-is)
+          (subst (λ (r : IwStep). ReadsOn (step_of r) o n c.args.meter.now c.advance.new.meter) w.in-Refused.is
+          (image_reads laws c.advance.result o n c.args.meter.now c.advance.new.meter adv (λ width height is. let wrong = sym is ∙ w.in-Refused.is in cc)))
+      | in-OutOfMemory w ↦ subst (λ (r : LayerStep). ReadsOn r o n c.args.meter.now c.advance.new.meter) (sym w.result-is)
+          (subst (λ (r : IwStep). ReadsOn (step_of r) o n c.args.meter.now c.advance.new.meter) w.in-OutOfMemory.is
+          (image_reads laws c.advance.result o n c.args.meter.now c.advance.new.meter adv (λ width height is. let wrong = sym is ∙ w.in-OutOfMemory.is in cc)))
     ])

@@ -2,7 +2,7 @@
 use Rattle.std.proofs.Common.{◌≡◌, ◌≢◌, ℕ, ◌+◌, ◌-◌, ◌≤◌, Bool, true, false, Option, Some, None, List, [], ◌∷◌, ◌++◌, is_some, refl, sym, ap, ◌∙◌, subst, arith}
 use Rattle.djvu_base.specs.declared.faults.FaultKind.{FaultKind}
 use Rattle.djvu_base.specs.declared.faults.FaultKind.TheVariants as fault
-use Rattle.djvu_base.specs.Meter.{ticked, TicksExactly}
+use Rattle.djvu_base.specs.Meter.{TicksExactly}
 use Rattle.djvu_base.proofs.Ticks.{ticks_both, ticks_none}
 use Rattle.zp_table.specs.declared.rows.Row.{Row}
 use Rattle.zp_table.specs.Rows.{IsTable}
@@ -11,7 +11,7 @@ use Rattle.iw44_image.specs.Layer.{Data, Layer, LayerReading, Answer, Allowed, e
 use Rattle.iw44_image.specs.Layer as iw44
 use Rattle.iw44_image.specs.declared.steps.IwStep.{IwStep}
 use Rattle.iw44_image.specs.declared.steps.IwStep.TheVariants as iw
-use Rattle.iw44_image.specs.Image.{Image, Holds, TellsSize, HasSize, TicksTo, is_whole, layer_of, picture_of, open_after, Answers as IwAnswers}
+use Rattle.iw44_image.specs.Image.{Image, Holds, TellsSize, HasSize, TicksTo, is_whole, layer_of, open_after, Answers as IwAnswers}
 use Rattle.layer_compose.specs.Reduction.{reduction_of}
 use Rattle.page_decoder.specs.declared.layer_reader.LayerStep.{LayerStep}
 use Rattle.page_decoder.specs.declared.layer_reader.LayerStep.TheVariants as step

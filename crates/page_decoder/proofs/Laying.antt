@@ -1,15 +1,13 @@
 -- The end of a chunk: what is laid on the page, and what its records and its layer come to.
-use Rattle.std.proofs.Common.{◌≡◌, ◌≢◌, ℕ, ◌-◌, ◌≤◌, Bool, true, false, Option, Some, None, List, [], ◌∷◌, ◌++◌, is_some, unwrap_or, refl, sym, ap, ◌∙◌, subst, arith}
-use Rattle.std.specs.Prelude.{IsSome, IsTrue}
+use Rattle.std.proofs.Common.{◌≡◌, ◌≢◌, ℕ, ◌-◌, true, false, Option, Some, None, List, [], ◌∷◌, ◌++◌, is_some, unwrap_or, refl, sym, ap, ◌∙◌, subst}
+use Rattle.std.specs.Prelude.{IsSome}
 use Rattle.djvu_base.specs.Announced.{Announced}
 use Rattle.djvu_base.specs.declared.faults.FaultKind.{FaultKind}
 use Rattle.djvu_base.specs.Picture.{Picture}
 use Rattle.zp_table.specs.declared.rows.Row.{Row}
 use Rattle.zp_table.specs.Rows.{IsTable}
 use Rattle.zp_decoder.specs.Chunk.{chunk}
-use Rattle.bit_plane.specs.Pixels.{Pixels}
 use Rattle.jb2_records.specs.declared.purpose.Purpose.{Purpose}
-use Rattle.jb2_records.specs.declared.reader.Jb2Step.{Jb2Step}
 use Rattle.jb2_records.specs.declared.reader.Jb2Step.TheVariants as records
 use Rattle.jb2_records.specs.Reading as jb2
 use Rattle.jb2_records.specs.ReaderState.{ReaderState, Source, input_of}
@@ -20,8 +18,8 @@ use Rattle.layer_compose.specs.declared.layers.Layers.{Layers}
 use Rattle.layer_compose.specs.Reduction.{reduction_of}
 use Rattle.page_decoder.specs.declared.closing.ChunkCame.{ChunkCame}
 use Rattle.page_decoder.specs.declared.closing.ChunkCame.TheVariants as came
-use Rattle.page_decoder.specs.declared.closing.PageLayer.{PageLayer}
-use Rattle.page_decoder.specs.declared.closing.PageLayer.TheVariants as layer
+use Rattle.page_decoder.specs.declared.page_layers.PageLayer.{PageLayer}
+use Rattle.page_decoder.specs.declared.page_layers.PageLayer.TheVariants as layer
 use Rattle.page_decoder.specs.declared.layer_reader.LayerStep.TheVariants as step
 use Rattle.page_decoder.specs.Kinds as kind
 use Rattle.iw44_image.specs.Image.{is_whole, picture_of}

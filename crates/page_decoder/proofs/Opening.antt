@@ -1,5 +1,5 @@
 -- Layers in an open chunk: what the reader answers is what the chunk's data come to.
-use Rattle.std.proofs.Common.{◌≡◌, ◌≢◌, ℕ, zero, suc, ◌+◌, ◌-◌, ◌<◌, ◌≤◌, Bool, true, false, nat_eq, Option, Some, None, List, [], ◌∷◌, ◌++◌, refl, sym, ap, ◌∙◌, subst, arith}
+use Rattle.std.proofs.Common.{◌≡◌, ◌≢◌, ℕ, zero, suc, ◌-◌, ◌<◌, ◌≤◌, Bool, false, nat_eq, Some, List, [], ◌∷◌, ◌++◌, refl, sym, ap, ◌∙◌, subst, arith}
 use Rattle.std.proofs.lemmas.Grind.{common_steps}
 use Rattle.djvu_base.specs.Meter.{ticked, TicksExactly}
 use Rattle.djvu_base.specs.Picture.{Picture}
@@ -13,7 +13,7 @@ use Rattle.page_decoder.specs.declared.open_chunks.OpenStep.TheVariants as step
 use Rattle.page_decoder.specs.Kinds.{ChunkKind}
 use Rattle.page_decoder.specs.Kinds as kind
 use Rattle.page_decoder.specs.PageRead.{Decoded}
-use Rattle.page_decoder.specs.ChunkData.{Unfinished, Fails, Came, back_limit, front_limit, allowed_by, allowed_on, picture_in, layer_outcome, layer_by, with_front, with_back, front_came, back_came, back_before, came_by}
+use Rattle.page_decoder.specs.ChunkData.{front_limit, allowed_by, allowed_on, picture_in, layer_outcome, layer_by, with_front, front_came, came_by}
 use Rattle.page_decoder.specs.LayerState.{LayerState, Lays, reading_of, reading_with, decisions_with}
 use Rattle.page_decoder.specs.Opened.{ReadsLayer, Answers, AdvancesTo, LayerAnswers}
 

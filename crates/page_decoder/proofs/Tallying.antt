@@ -1,5 +1,5 @@
 -- Decisions of the open chunk of a layer, and more bytes of it.
-use Rattle.std.proofs.Common.{◌≡◌, ◌≢◌, ℕ, zero, suc, ◌+◌, ◌-◌, ◌≤◌, min, Bool, true, false, eqb, Option, Some, None, List, [], ◌∷◌, ◌++◌, length, refl, sym, ap, ◌∙◌, subst, append-nil, nat_eq, arith}
+use Rattle.std.proofs.Common.{◌≡◌, ◌≢◌, ℕ, zero, suc, ◌+◌, ◌-◌, ◌≤◌, min, Bool, false, Option, Some, None, List, [], ◌∷◌, ◌++◌, length, refl, sym, ap, ◌∙◌, subst, append-nil, nat_eq, arith}
 use Rattle.std.proofs.lemmas.Grind.{common_steps}
 use Rattle.std.specs.Prelude.{Result, Ok, Err, OnOk}
 use Rattle.djvu_base.specs.Meter.{ticked, TicksExactly}
@@ -7,13 +7,12 @@ use Rattle.djvu_base.proofs.Ticks.{ticked_more}
 use Rattle.zp_table.specs.declared.rows.Row.{Row}
 use Rattle.zp_table.specs.Rows.{IsTable}
 use Rattle.iw44_image.specs.Layer.{Data, Layer, LayerReading, Allowed, data_of, read_layer}
-use Rattle.iw44_image.specs.Layer as iw44
-use Rattle.iw44_image.specs.Image.{Image, Holds, TicksTo, is_whole}
+use Rattle.iw44_image.specs.Image.{Holds, TicksTo, is_whole}
 use Rattle.iw44_image.specs.Keeping.{HasRoom}
 use Rattle.page_decoder.specs.declared.layer_reader.LayerStep.{LayerStep}
 use Rattle.page_decoder.specs.declared.layer_reader.LayerStep.TheVariants as step
 use Rattle.page_decoder.specs.ChunkData.{allowed_by}
-use Rattle.page_decoder.specs.LayerState.{LayerState, reading_of, open_data, reading_with, decisions_with, FitsPage, Rests, StaysKnown, Stands, Lays, Reads, Answers, KeepsOpen}
+use Rattle.page_decoder.specs.LayerState.{LayerState, reading_of, open_data, reading_with, decisions_with, FitsPage, StaysKnown, Stands, Lays, Reads, Answers, KeepsOpen}
 use Rattle.page_decoder.proofs.Layering.{Alike, reading_same, with_same}
 
 alike : (result : LayerStep) (o n : LayerState) → KeepsOpen result o n → Alike o n

@@ -1,5 +1,5 @@
 -- A chunk between its header and its end: how what is kept of it stands to the bytes of its data that came.
-use Rattle.std.specs.Prelude.{◌≡◌, ◌≢◌, ℕ, ◌+◌, ◌-◌, ◌≤◌, Bool, true, false, List, [], ◌∷◌, ◌++◌, length, take, Option, Some, None, ⊤, ◌⊎◌, unwrap_or, IfSome}
+use Rattle.std.specs.Prelude.{◌≡◌, ◌≢◌, ℕ, ◌+◌, ◌-◌, ◌≤◌, true, false, List, [], length, take, Option, Some, None, ⊤, ◌⊎◌, unwrap_or, IfSome}
 use Rattle.djvu_base.specs.Announced.{Announced}
 use Rattle.djvu_base.specs.Meter.{ticked, TicksExactly}
 use Rattle.djvu_base.specs.declared.faults.FaultKind.TheVariants as fault
@@ -24,8 +24,8 @@ use Rattle.page_decoder.specs.declared.open_chunks.OpenStep.TheVariants as step
 use Rattle.page_decoder.specs.declared.closing.Closed.{Closed}
 use Rattle.page_decoder.specs.declared.closing.ChunkCame.{ChunkCame}
 use Rattle.page_decoder.specs.declared.closing.ChunkCame.TheVariants as came
-use Rattle.page_decoder.specs.declared.closing.PageLayer.{PageLayer}
-use Rattle.page_decoder.specs.declared.closing.PageLayer.TheVariants as layer
+use Rattle.page_decoder.specs.declared.page_layers.PageLayer.{PageLayer}
+use Rattle.page_decoder.specs.declared.page_layers.PageLayer.TheVariants as layer
 use Rattle.page_decoder.specs.Kinds.{ChunkKind, kind_of, brings_drawing}
 use Rattle.page_decoder.specs.Kinds as kind
 use Rattle.page_decoder.specs.Headers.{Head}

@@ -1,6 +1,5 @@
-use Rattle.std.proofs.Common.{◌≡◌, sym, ap, ◌∙◌}
+use Rattle.std.proofs.Common.{sym, ◌∙◌}
 use Rattle.jb2_records.specs.declared.purpose.Purpose.TheVariants as purpose
-use Rattle.jb2_records.specs.declared.reader.Jb2Step.TheVariants as records
 use Rattle.page_decoder.proofs.Laying.{never_waits}
 use Rattle.page_decoder.proofs.kept.Kept.close_dictionary.Goals as goal
 

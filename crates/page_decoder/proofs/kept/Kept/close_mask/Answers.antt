@@ -1,6 +1,5 @@
-use Rattle.std.proofs.Common.{◌≡◌, ◌≢◌, ℕ, ◌≤◌, true, Option, Some, None, List, refl, sym, ap, ◌∙◌, subst}
+use Rattle.std.proofs.Common.{◌≡◌, ◌≢◌, ◌≤◌, true, Some, refl, sym, ap, ◌∙◌, subst}
 use Rattle.djvu_base.specs.Meter.{ticked, TicksExactly}
-use Rattle.bit_plane.specs.Pixels.{Pixels}
 use Rattle.jb2_records.specs.declared.purpose.Purpose.TheVariants as purpose
 use Rattle.jb2_records.specs.declared.reader.Jb2Step.TheVariants as records
 use Rattle.jb2_records.specs.Reading.{Input, records_of}
@@ -9,11 +8,11 @@ use Rattle.jb2_records.specs.Mask.{mask_drawn}
 use Rattle.iw44_image.specs.Layer.{data_of}
 use Rattle.layer_compose.specs.declared.layers.Layers.{Layers}
 use Rattle.page_decoder.specs.declared.closing.Closed.{Closed}
-use Rattle.page_decoder.specs.declared.closing.PageLayer.TheVariants as layer
-use Rattle.page_decoder.specs.Kinds.{kind_of, brings_drawing}
+use Rattle.page_decoder.specs.declared.page_layers.PageLayer.TheVariants as layer
+use Rattle.page_decoder.specs.Kinds.{brings_drawing}
 use Rattle.page_decoder.specs.Reading.{with_mask}
-use Rattle.page_decoder.specs.ChunkData.{Came, Outcome, Leaves, records_in, records_outcome, with_layers, mask_by, mask_came}
-use Rattle.page_decoder.specs.Opened.{ClosesTo, HasLaid}
+use Rattle.page_decoder.specs.ChunkData.{Came, Leaves, records_in, records_outcome, with_layers, mask_by, mask_came}
+use Rattle.page_decoder.specs.Opened.{ClosesTo}
 use Rattle.page_decoder.proofs.Laying.{laid_closes, keeps_beside, input_so, never_waits}
 use Rattle.page_decoder.proofs.kept.Kept.close_mask.Goals as goal
 
@@ -24,7 +23,8 @@ returns-in-Finished-clause-closes g c table head decoded bytes keeps reads =
     let e = c.advance.ensures in
     let fed = c.end.ensures.fed bytes reads.records.fed in
     let same : input_of c.end.new.self bytes ≡ input =
-    input_so (purpose.Mask layers.width layers.height) table decoded bytes c.args.reader c.end.new.self reads.records c.end.ensures.source c.end.ensures.ended in
+    input_so (purpose.Mask layers.width layers.height) table decoded bytes c.args.reader c.end.new.self reads.records c.end.ensures.source
+    c.end.ensures.ended in
     let last : input_of c.advance.new.self bytes ≡ input =
     input_so (purpose.Mask layers.width layers.height) table decoded bytes c.args.reader c.advance.new.self reads.records (e.source ∙ c.end.ensures.source)
     (e.ended ∙ c.end.ensures.ended) in

@@ -1,15 +1,12 @@
-use Rattle.std.proofs.Common.{◌≡◌, ◌≢◌, ℕ, ◌≤◌, true, Option, Some, None, List, [], refl, sym, ap, ◌∙◌, subst}
+use Rattle.std.proofs.Common.{◌≡◌, ◌≤◌, true, [], refl, sym, ap, ◌∙◌, subst}
 use Rattle.djvu_base.specs.Meter.{ticked, TicksExactly}
 use Rattle.iw44_image.specs.Layer.{data_of}
-use Rattle.layer_compose.specs.declared.layers.Layers.{Layers}
 use Rattle.page_decoder.specs.declared.layer_reader.LayerStep.{LayerStep}
 use Rattle.page_decoder.specs.declared.layer_reader.LayerStep.TheVariants as step
-use Rattle.page_decoder.specs.declared.closing.Closed.{Closed}
 use Rattle.page_decoder.specs.Kinds.{kind_of}
 use Rattle.page_decoder.specs.Kinds as kind
-use Rattle.page_decoder.specs.ChunkData.{Came, back_limit, front_limit, front_came, back_came}
+use Rattle.page_decoder.specs.ChunkData.{Came, front_limit, front_came}
 use Rattle.page_decoder.specs.LayerState.{LayerState, Answers, KeepsOpen, decisions_with}
-use Rattle.page_decoder.specs.Opened.{ClosesTo}
 use Rattle.page_decoder.proofs.Laying.{whole_count, layer_never_waits, front_closes, front_fails}
 use Rattle.page_decoder.proofs.kept.Kept.front_came.Goals as goal
 

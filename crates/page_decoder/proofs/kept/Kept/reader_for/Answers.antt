@@ -1,7 +1,6 @@
-use Rattle.std.proofs.Common.{◌≡◌, ℕ, Option, Some, List, [], sym, ◌∙◌, subst}
+use Rattle.std.proofs.Common.{◌≡◌, Some, [], sym, ◌∙◌, subst}
 use Rattle.std.specs.Prelude.{IsSome}
 use Rattle.std.specs.Arc.{arc_value}
-use Rattle.layer_compose.specs.declared.layers.Layers.{Layers}
 use Rattle.page_decoder.specs.Kinds.{ChunkKind, kind_of}
 use Rattle.page_decoder.specs.Kinds as kind
 use Rattle.page_decoder.specs.Kept.{IsReady, IsBehind}

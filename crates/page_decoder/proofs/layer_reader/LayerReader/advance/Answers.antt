@@ -1,7 +1,6 @@
-use Rattle.std.proofs.Common.{◌≡◌, ℕ, ◌+◌, ◌-◌, List, min, sym, ap, ◌∙◌, subst}
+use Rattle.std.proofs.Common.{◌≡◌, ℕ, ◌+◌, ◌-◌, min, sym, ap, ◌∙◌, subst}
 use Rattle.djvu_base.specs.Meter.{TicksExactly}
-use Rattle.iw44_image.specs.Layer.{Data}
-use Rattle.page_decoder.specs.LayerState.{LayerState, Lays, Reads, KeepsOpen}
+use Rattle.page_decoder.specs.LayerState.{LayerState, Reads, KeepsOpen}
 use Rattle.page_decoder.proofs.Tallying.{Tallied, tallied}
 use Rattle.page_decoder.proofs.layer_reader.LayerReader.advance.Goals as goal
 

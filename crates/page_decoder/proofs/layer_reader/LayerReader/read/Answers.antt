@@ -1,4 +1,4 @@
-use Rattle.std.proofs.Common.{◌≡◌, ℕ, List, Option, Some, None, is_some, not, true, false, refl, sym, ap, ◌∙◌, subst}
+use Rattle.std.proofs.Common.{◌≡◌, ℕ, Option, is_some, not, true, false, refl, sym, ap, ◌∙◌, subst}
 use Rattle.djvu_base.specs.declared.faults.FaultKind.TheVariants as fault
 use Rattle.iw44_image.specs.declared.headers.Header.{Header}
 use Rattle.iw44_image.specs.declared.steps.IwStep.{IwStep}
@@ -6,7 +6,6 @@ use Rattle.iw44_image.specs.declared.steps.IwStep.TheVariants as iw
 use Rattle.std.specs.Prelude.{IsSome}
 use Rattle.iw44_image.specs.Image.{HasSize}
 use Rattle.layer_compose.specs.Reduction.{reduction_of}
-use Rattle.page_decoder.specs.declared.layer_reader.LayerStep.{LayerStep}
 use Rattle.page_decoder.specs.declared.layer_reader.LayerStep.TheVariants as step
 use Rattle.page_decoder.specs.LayerState.{LayerState, KeepsOpen}
 use Rattle.page_decoder.proofs.Layering.{Laws, Advanced, ReadsOn, step_of, image_reads, misfit_on, sized_on, keeps_both}

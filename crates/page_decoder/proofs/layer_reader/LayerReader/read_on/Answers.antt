@@ -1,13 +1,10 @@
-use Rattle.std.proofs.Common.{◌≡◌, ℕ, List, Option, Some, None, refl, sym, ap, ◌∙◌, subst}
-use Rattle.djvu_base.specs.declared.faults.FaultKind.TheVariants as fault
+use Rattle.std.proofs.Common.{Option, None, refl, sym, ◌∙◌, subst}
 use Rattle.iw44_image.specs.declared.headers.Header.{Header}
 use Rattle.iw44_image.specs.declared.steps.IwStep.{IwStep}
-use Rattle.iw44_image.specs.declared.steps.IwStep.TheVariants as iw
 use Rattle.std.specs.Prelude.{IsSome}
 use Rattle.iw44_image.specs.Image.{HasSize}
 use Rattle.page_decoder.specs.declared.layer_reader.LayerStep.{LayerStep}
-use Rattle.page_decoder.specs.declared.layer_reader.LayerStep.TheVariants as step
-use Rattle.page_decoder.specs.LayerState.{LayerState, KeepsOpen}
+use Rattle.page_decoder.specs.LayerState.{LayerState}
 use Rattle.page_decoder.proofs.Layering.{Laws, Advanced, ReadsOn, step_of, image_reads}
 use Rattle.page_decoder.proofs.layer_reader.LayerReader.read_on.Goals as goal
 use Rattle.page_decoder.proofs.layer_reader.LayerReader.read_on.Goals.{in-ChunkDone, in-NeedBytes, in-Refused, in-OutOfMemory}

@@ -160,6 +160,7 @@ pub record LeavesKept (table : List Row) (head : Head) (outcome : Outcome) (kept
   pub leaves : outcome ≡ Leaves decoded
   pub keeps : Keeps table decoded kept
   pub brings : brings_drawing (kind_of head.id) ≡ false
+  pub others : kind_of head.id ≢ kind.Include
 
 -- the chunk holds the name of a file
 pub record LeavesInclude (name : List ℕ) (table : List Row) (head : Head) (before : Decoded) (outcome : Outcome) (kept : Keeping) : Type 0 where

@@ -75,6 +75,14 @@ mod Drawable
 mod Made
 -- law faults_stand_in_files of page_laws
 mod FaultPlaces
+-- LayerReader::read, read_on; Tallying
+mod Layering
+-- LayerReader::push, advance
+mod Tallying
+-- ChunkReader::advance
+mod Opening
+-- Kept::close and what it calls
+mod Laying
 -- the resolving of includes: list_next, pass_files, go_on of Includes
 mod ResolveSteps
 -- give_outline

@@ -38,7 +38,8 @@ use Rattle.page_decoder.specs.FileSteps.{HasClosed, HasLeft, Adds, IsNoMemory}
 use Rattle.page_decoder.proofs.ResolveSteps.{waits_along, waits_with}
 use Rattle.page_decoder.proofs.Leaving.{Brings, brings}
 use Rattle.page_decoder.proofs.Retaining.{from_below, outcome_below, after_below}
-use Rattle.page_decoder.proofs.Showing.{left_shows}
+use Rattle.page_decoder.proofs.Numbering.{number_below}
+use Rattle.page_decoder.proofs.Showing.{shows_on}
 use Rattle.page_decoder.proofs.Onward.{first_on, through_last}
 use Rattle.page_decoder.proofs.Sounding.{Container, data_sound}
 use Rattle.page_decoder.proofs.Bounded.{FewChunks, few_acts, few_drawings, chunks_reached}
@@ -210,7 +211,7 @@ module _ (given : Given) (rest used : List ℕ) (reader : FileReader) (law : Con
             tallies = record {
               chunks_are = chunks;
               drawn_are = drawn;
-              last_is = (left_shows home known (t.so_far.acts ++ Reads chunk.head data_here ∷ []) behind on).last;
+              last_is = (shows_on home known (number_below home.names) (t.so_far.acts ++ Reads chunk.head data_here ∷ []) behind on).last;
             };
           };
         } in

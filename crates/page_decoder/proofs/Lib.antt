@@ -85,6 +85,12 @@ mod Opening
 mod Laying
 -- the resolving of includes: list_next, pass_files, go_on of Includes
 mod ResolveSteps
+-- finish; Entering
+mod Stopping
+-- enter
+mod Beginning
+-- enter
+mod Entering
 -- give_outline
 mod GivenOutlines
 -- the decoder: acts by events, what stays of first acts, entries
@@ -98,4 +104,6 @@ mod Sounding
 mod Eventing
 mod DataEvents
 mod Bounded
+-- at_close, at_form_end
+mod FileEnds
 mod ChunkEnds

@@ -100,6 +100,7 @@ mod Entries
 -- the functions of FileReader
 mod Answering
 mod Telling
+mod Lifting
 mod Sounding
 mod Eventing
 mod DataEvents

@@ -75,6 +75,14 @@ mod Drawable
 mod Made
 -- law faults_stand_in_files of page_laws
 mod FaultPlaces
+-- LayerReader::read, read_on; Tallying
+mod Layering
+-- LayerReader::push, advance
+mod Tallying
+-- ChunkReader::advance
+mod Opening
+-- Kept::close and what it calls
+mod Laying
 -- the resolving of includes: list_next, pass_files, go_on of Includes
 mod ResolveSteps
 -- finish; Entering
@@ -92,11 +100,13 @@ mod Entries
 -- the functions of FileReader
 mod Answering
 mod Telling
+mod Lifting
 mod Sounding
 mod Eventing
 mod DataEvents
 mod Bounded
 -- at_close, at_form_end
 mod FileEnds
+mod ChunkEnds
 -- at_pause
 mod Pausing

@@ -1,8 +1,8 @@
 -- What contracts see of the reader of a layer of colour, and how it stands to the chunks of its layer.
-use Rattle.std.specs.Prelude.{◌≡◌, ◌≢◌, ℕ, ◌-◌, ◌≤◌, List, [], ◌∷◌, ◌++◌, Option, Some, None, ⊤, IsSome}
+use Rattle.std.specs.Prelude.{◌≡◌, ◌≢◌, ℕ, ◌-◌, ◌≤◌, List, [], ◌∷◌, ◌++◌, Option, Some, None, is_some, ⊤, IsSome, true}
 use Rattle.djvu_base.specs.Meter.{TicksExactly}
 use Rattle.iw44_image.specs.declared.headers.Header.{Header}
-use Rattle.iw44_image.specs.Layer.{Data, LayerReading, Answer, data_of, any_size, read_chunk, read_layer}
+use Rattle.iw44_image.specs.Layer.{Data, LayerReading, Answer, data_of, read_layer}
 use Rattle.iw44_image.specs.Layer as iw44
 use Rattle.iw44_image.specs.Image.{Image, Holds, is_whole, picture_of}
 use Rattle.layer_compose.specs.Reduction.{reduction_of}
@@ -35,7 +35,7 @@ decisions_with it chunks bytes = (reading_with it chunks bytes).layer.decisions 
 -- a size that was told lies on the page
 abbrev pub FitsPage : ℕ × ℕ → Option Header → Type 0
 FitsPage page None = ⊤
-FitsPage page (Some header) = IsSome (reduction_of page (header.width, header.height))
+FitsPage page (Some header) = is_some (reduction_of page (header.width, header.height)) ≡ true
 
 -- these chunks of the layer were read, and none is open
 pub record Rests (chunks : List Data) (it : LayerState) : Type 0 where
@@ -94,15 +94,3 @@ Reads step.ChunkDone now chunks bytes old new = ReadsAll now (reading_with old c
 Reads step.NeedBytes now chunks bytes old new = ReadsAll now (reading_with old chunks bytes) iw44.Need × Stands now chunks bytes new
 Reads (step.Refused kind) now chunks bytes old new = ReadsAll now (reading_with old chunks bytes) (iw44.Fault kind)
 Reads step.OutOfMemory now chunks bytes old new = Stands now chunks bytes new
-
--- the first header of the layer told this size, and nothing behind it was read
-pub record IsSized (width height total : ℕ) (chunks : List Data) (bytes : List ℕ) (it : LayerState) : Type 0 where
-  pub done : (reading_of it chunks).answer ≡ iw44.Done
-  pub first : (reading_of it chunks).layer.header ≡ None
-  pub header : Header
-  pub told : it.image.header ≡ Some header
-  pub width_is : header.width ≡ width
-  pub height_is : header.height ≡ height
-  pub unchecked : (read_chunk it.image.zp.table (any_size it.image.limit) (open_data it bytes) (reading_of it chunks).layer).layer.header ≡ Some header
-  pub none_read : total ≡ (reading_of it chunks).layer.decisions
-  pub holds : Holds (reading_of it chunks).layer bytes total it.image

@@ -1,9 +1,10 @@
 -- A chunk between its header and its end: how what is kept of it stands to the bytes of its data that came.
-use Rattle.std.specs.Prelude.{◌≡◌, ◌≢◌, ℕ, ◌+◌, ◌-◌, ◌≤◌, Bool, true, false, List, [], ◌∷◌, ◌++◌, length, take, Option, Some, None, ⊤, ◌⊎◌, unwrap_or, IfSome}
+use Rattle.std.specs.Prelude.{◌≡◌, ◌≢◌, ℕ, ◌+◌, ◌-◌, ◌≤◌, true, false, List, [], length, take, Option, Some, None, ⊤, ◌⊎◌, unwrap_or, IfSome}
 use Rattle.djvu_base.specs.Announced.{Announced}
 use Rattle.djvu_base.specs.Meter.{ticked, TicksExactly}
 use Rattle.djvu_base.specs.declared.faults.FaultKind.TheVariants as fault
 use Rattle.zp_table.specs.declared.rows.Row.{Row}
+use Rattle.zp_table.specs.Rows.{IsTable}
 use Rattle.jb2_records.specs.declared.purpose.Purpose.{Purpose}
 use Rattle.jb2_records.specs.declared.purpose.Purpose.TheVariants as purpose
 use Rattle.jb2_records.specs.declared.reader.Jb2Step.{Jb2Step}
@@ -23,8 +24,8 @@ use Rattle.page_decoder.specs.declared.open_chunks.OpenStep.TheVariants as step
 use Rattle.page_decoder.specs.declared.closing.Closed.{Closed}
 use Rattle.page_decoder.specs.declared.closing.ChunkCame.{ChunkCame}
 use Rattle.page_decoder.specs.declared.closing.ChunkCame.TheVariants as came
-use Rattle.page_decoder.specs.declared.closing.PageLayer.{PageLayer}
-use Rattle.page_decoder.specs.declared.closing.PageLayer.TheVariants as layer
+use Rattle.page_decoder.specs.declared.page_layers.PageLayer.{PageLayer}
+use Rattle.page_decoder.specs.declared.page_layers.PageLayer.TheVariants as layer
 use Rattle.page_decoder.specs.Kinds.{ChunkKind, kind_of, brings_drawing}
 use Rattle.page_decoder.specs.Kinds as kind
 use Rattle.page_decoder.specs.Headers.{Head}
@@ -69,6 +70,7 @@ pub record ReadsName (of : ChunkKind) (bytes name : List ℕ) : Type 0 where
 
 -- the records of a chunk, over the dictionary in force
 pub record ReadsRecords (purpose : Purpose) (table : List Row) (decoded : Decoded) (bytes : List ℕ) (it : ReaderState) : Type 0 where
+  pub rows : IsTable table
   pub table_is : it.source.table ≡ table
   pub inherited_is : it.source.inherited ≡ unwrap_or (in_force decoded) []
   pub purpose_is : it.source.purpose ≡ purpose
@@ -158,6 +160,7 @@ pub record LeavesKept (table : List Row) (head : Head) (outcome : Outcome) (kept
   pub leaves : outcome ≡ Leaves decoded
   pub keeps : Keeps table decoded kept
   pub brings : brings_drawing (kind_of head.id) ≡ false
+  pub others : kind_of head.id ≢ kind.Include
 
 -- the chunk holds the name of a file
 pub record LeavesInclude (name : List ℕ) (table : List Row) (head : Head) (before : Decoded) (outcome : Outcome) (kept : Keeping) : Type 0 where

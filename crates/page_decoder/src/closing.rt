@@ -1,29 +1,27 @@
 //! The end of a chunk: what it leaves.
-ghost use Rattle.std.specs.Prelude.{◌≡◌, ℕ, List, [], length, take, true, Some, None, IsSome, IfOk};
+ghost use Rattle.std.specs.Prelude.{◌≡◌, ℕ, List, [], true, Some, None, IsSome};
 ghost use Rattle.djvu_base.specs.Announced.{Announced};
 ghost use Rattle.zp_table.specs.declared.rows.Row.{Row};
 ghost use Rattle.iw44_image.specs.Layer.{data_of};
 ghost use Rattle.iw44_image.specs.Image.{picture_of};
-ghost use Rattle.layer_compose.specs.Drawing.{ColourFits};
 ghost use Rattle.page_decoder.specs.Kinds.{kind_of};
 ghost use Rattle.page_decoder.specs.Kinds as kind;
 ghost use Rattle.page_decoder.specs.Headers.{Head};
 ghost use Rattle.page_decoder.specs.PageRead.{Decoded};
-ghost use Rattle.page_decoder.specs.Reading.{size_in};
-ghost use Rattle.page_decoder.specs.ChunkData.{back_limit, front_limit, page_of, info_outcome, dictionary_came, mask_came, front_came, back_came};
+ghost use Rattle.page_decoder.specs.ChunkData.{back_limit, front_limit, info_outcome, dictionary_came, mask_came, front_came, back_came};
 ghost use Rattle.page_decoder.specs.Found.{CanDraw};
 ghost use Rattle.page_decoder.specs.Kept.{Keeps};
-ghost use Rattle.page_decoder.specs.Opened.{Closes, ClosesTo, CountsOn, ReadsInfo, ReadsDictionary, ReadsMask, ReadsLayer, LayersStay, FitsOn, HasLaid, HasPage, HasDictionary, NameCame, StaysBeside, announced, with_layer};
+ghost use Rattle.page_decoder.specs.Opened.{Closes, ClosesTo, CountsOn, ReadsInfo, ReadsDictionary, ReadsMask, ReadsLayer, LayersStay, HasLaid, HasPage, HasDictionary, NameCame, StaysBeside};
 
 use crate::kept::Kept;
 use crate::layer_reader::{LayerReader, LayerStep};
-use crate::page::{Size, size_fault, size_in};
-use bit_plane::Plane;
-use djvu_base::{FaultKind, Meter, Name, Notice, Raster, Turn};
+use crate::page::{size_fault, size_in};
+use crate::page_layers::{PageLayer, exchanged, layer_fault, notice_of, page_of};
+use djvu_base::{FaultKind, Meter, Name, Notice};
 use include_graph::include_name;
 use jb2_records::{DictReader, Jb2Step, MaskReader, SharedDictionary};
-use layer_compose::{Layers, reduction};
-use std::alloc::{AllocError, Global};
+use layer_compose::Layers;
+use std::alloc::Global;
 
 /// What a complete chunk came to.
 #[derive(Drop)]
@@ -59,96 +57,6 @@ impl Closed {
         ensures { result ≡ record { came = came; decisions = decisions } }
     {
         Closed { came, decisions }
-    }
-}
-
-/// A layer of a page, or none in its place.
-#[derive(Drop)]
-pub(crate) enum PageLayer {
-    Mask(Option<Plane>),
-    Front(Option<Raster>),
-    Back(Option<Raster>),
-}
-
-/// The page of an `INFO` of this size, of which these are the first bytes.
-fn page_of(size: Size, first: &[u8]) -> Layers
-    ensures { (bytes : List ℕ) → size ≡ size_in bytes → first.now ≡ take 10 bytes → result ≡ page_of bytes }
-{
-    Layers {
-        width: u32::from(size.width),
-        height: u32::from(size.height),
-        turn: Turn::of(first.get(9).copied()),
-        mask: None,
-        front: None,
-        back: None,
-    }
-}
-
-/// The notice of the drawing of these layers, behind so many chunks.
-fn notice_of(alloc: Global, layers: &Layers, chunks: u32) -> Result<Notice, AllocError>
-    requires { CanDraw layers.now }
-    ensures { IfOk result (λ notice. notice ≡ announced chunks layers.now) }
-{
-    let preview = layers.preview(alloc)?;
-    Notice::new(alloc, chunks, layers.sum(), preview)
-}
-
-/// The page with another layer, and the layer whose place it takes.
-fn exchanged(layers: Layers, layer: PageLayer) -> (Layers, PageLayer)
-    ensures laid { result.0 ≡ with_layer layer layers }
-    ensures before { with_layer result.1 result.0 ≡ layers }
-{
-    match layer {
-        PageLayer::Mask(mask) => {
-            let before = layers.mask;
-            (Layers { mask, ..layers }, PageLayer::Mask(before))
-        }
-        PageLayer::Front(front) => {
-            let before = layers.front;
-            (Layers { front, ..layers }, PageLayer::Front(before))
-        }
-        PageLayer::Back(back) => {
-            let before = layers.back;
-            (Layers { back, ..layers }, PageLayer::Back(before))
-        }
-    }
-}
-
-/// Why a layer can't be laid on the page.
-fn layer_fault(layers: &Layers, layer: &PageLayer) -> Option<FaultKind>
-    ensures none { result ≡ None → FitsOn layers.now layer.now }
-    ensures fits { FitsOn layers.now layer.now → result ≡ None }
-{
-    match layer {
-        PageLayer::Mask(mask) => mask_fault(layers, mask),
-        PageLayer::Front(front) => colour_fault(layers, front),
-        PageLayer::Back(back) => colour_fault(layers, back),
-    }
-}
-
-fn mask_fault(layers: &Layers, mask: &Option<Plane>) -> Option<FaultKind>
-    ensures none { result ≡ None → FitsOn layers.now (PageLayer.Mask mask.now) }
-    ensures fits { FitsOn layers.now (PageLayer.Mask mask.now) → result ≡ None }
-{
-    match mask {
-        Some(mask) if mask.width() != layers.width || mask.height() != layers.height => Some(
-            FaultKind::MaskSize,
-        ),
-        _ => None,
-    }
-}
-
-fn colour_fault(layers: &Layers, colour: &Option<Raster>) -> Option<FaultKind>
-    ensures none { result ≡ None → ColourFits layers.now colour.now }
-    ensures fits { ColourFits layers.now colour.now → result ≡ None }
-{
-    let Some(raster) = colour else {
-        return None;
-    };
-    let page = (layers.width, layers.height);
-    match reduction(page, (raster.width(), raster.height())) {
-        Some(_) => None,
-        None => Some(FaultKind::LayerSize),
     }
 }
 
@@ -208,6 +116,7 @@ impl Kept {
         ensures counts { CountsOn reader.decisions result.decisions (M.count meter.old) (M.count meter.new) }
         ensures layers { self.new.layers ≡ self.old.layers }
     {
+        jb2_records::laws::records_end();
         reader.end();
         match reader.advance(meter) {
             Jb2Step::Finished => {
@@ -250,6 +159,7 @@ impl Kept {
         ensures counts { CountsOn reader.decisions result.decisions (M.count meter.old) (M.count meter.new) }
         ensures layers { LayersStay result.came self.old.layers self.new.layers }
     {
+        jb2_records::laws::records_end();
         reader.end();
         match reader.advance(meter) {
             Jb2Step::Finished => {
@@ -281,17 +191,32 @@ impl Kept {
         ensures counts { CountsOn reader.decisions result.decisions (M.count meter.old) (M.count meter.new) }
         ensures layers { LayersStay result.came self.old.layers self.new.layers }
     {
+        let came = self.front_came(alloc, &mut reader, chunks, meter);
+        Closed::of(came, reader.decisions())
+    }
+
+    fn front_came<M: Meter>(
+        &mut self,
+        alloc: Global,
+        reader: &mut LayerReader,
+        chunks: u32,
+        meter: &mut M,
+    ) -> ChunkCame
+        requires { IsSome reader.old.image.to_come }
+        ensures closes { (table : List Row) (head : Head) (decoded : Decoded) (bytes : List ℕ) → Keeps table decoded self.old →
+            ReadsLayer kind.Front (kind_of head.id) front_limit [] table decoded bytes 0 reader.old →
+            ClosesTo (record { came = result; decisions = reader.new.decisions }) chunks table head decoded
+            (front_came decoded.layers table (data_of bytes true) decoded) self.new }
+        ensures counts { CountsOn reader.old.decisions reader.new.decisions (M.count meter.old) (M.count meter.new) }
+        ensures layers { LayersStay result self.old.layers self.new.layers }
+    {
+        iw44_image::laws::layers_go_on();
+        iw44_image::laws::complete_chunks_are_answered();
         match reader.advance(meter) {
-            LayerStep::ChunkDone => Closed::of(
-                self.lay_front(alloc, &reader, chunks),
-                reader.decisions(),
-            ),
-            LayerStep::NeedBytes => Closed::of(
-                ChunkCame::Refused(FaultKind::Truncated),
-                reader.decisions(),
-            ),
-            LayerStep::Refused(kind) => Closed::of(ChunkCame::Refused(kind), reader.decisions()),
-            LayerStep::OutOfMemory => Closed::of(ChunkCame::OutOfMemory, reader.decisions()),
+            LayerStep::ChunkDone => self.lay_front(alloc, &*reader, chunks),
+            LayerStep::NeedBytes => ChunkCame::Refused(FaultKind::Truncated),
+            LayerStep::Refused(kind) => ChunkCame::Refused(kind),
+            LayerStep::OutOfMemory => ChunkCame::OutOfMemory,
         }
     }
 
@@ -321,6 +246,8 @@ impl Kept {
         ensures counts { CountsOn reader.decisions result.decisions (M.count meter.old) (M.count meter.new) }
         ensures layers { LayersStay result.came self.old.layers self.new.layers }
     {
+        iw44_image::laws::layers_go_on();
+        iw44_image::laws::complete_chunks_are_answered();
         match reader.advance(meter) {
             LayerStep::ChunkDone => {
                 let decisions = reader.decisions();

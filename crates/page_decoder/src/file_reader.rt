@@ -158,6 +158,9 @@ impl FileReader {
         ensures fewer { result.1 ≡ None → left_over self.new (length rest.now - result.0) < left_over self.old (length rest.now) }
         ensures rise { RiseTogether (decisions_in self.old) (decisions_in self.new) (M.count meter.old) (M.count meter.new) }
     {
+        jb2_records::laws::more_bytes_go_on();
+        iw44_image::laws::layers_grow();
+        include_graph::laws::verdicts_stay();
         match self.stage {
             Stage::Walking => self.walk(names, outlines, results, rest, end, meter),
             Stage::Before(head) => (0, self.enter(names, outlines, results, head)),

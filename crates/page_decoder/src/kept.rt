@@ -180,6 +180,7 @@ impl Kept {
         ensures running { IfOk result (λ reader. IsRunning head.size reader) }
         ensures decisions { IfOk result (λ reader. decisions_by reader ≡ 0) }
         ensures layers { self.new.layers ≡ self.old.layers }
+        ensures own { self.new.own ≡ self.old.own }
     {
         match ChunkKind::of(head.id) {
             ChunkKind::Info => Ok(ChunkReader::Info(Vec::new(alloc))),
@@ -215,6 +216,7 @@ impl Kept {
         ensures open_end { IfOk result (λ reader. reader.ended ≡ false) }
         ensures decisions { IfOk result (λ reader. reader.decisions ≡ 0) }
     {
+        table.len();
         let shapes = self.in_force(inherited)?;
         DictReader::new(alloc, Arc::try_clone(table)?, shapes)
     }
@@ -235,6 +237,7 @@ impl Kept {
         let Some(layers) = &self.page else {
             unreachable!()
         };
+        table.len();
         let shapes = self.in_force(inherited)?;
         MaskReader::new(
             alloc,

@@ -1,6 +1,6 @@
 //! Kinds of chunks.
 ghost use Rattle.std.specs.Prelude.{◌≡◌};
-ghost use Rattle.page_decoder.specs.Kinds.{kind_of, brings_drawing};
+ghost use Rattle.page_decoder.specs.Kinds.{kind_of};
 
 use crate::page::{is_info, is_mask};
 use iff_chunks::is_refused;
@@ -49,15 +49,5 @@ impl ChunkKind {
         } else {
             ChunkKind::Passed
         }
-    }
-
-    /// Whether the end of a chunk of this kind brings a drawing.
-    pub fn brings_drawing(self) -> bool
-        ensures { result ≡ brings_drawing self }
-    {
-        matches!(
-            self,
-            ChunkKind::Info | ChunkKind::Mask | ChunkKind::Front | ChunkKind::Back
-        )
     }
 }

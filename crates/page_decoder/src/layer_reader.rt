@@ -6,7 +6,7 @@ ghost use Rattle.iw44_image.specs.Layer.{Data};
 ghost use Rattle.iw44_image.specs.Image.{picture_of};
 ghost use Rattle.iw44_image.specs.Keeping.{HasRoom};
 ghost use Rattle.iw44_image.specs.Image.{TicksTo};
-ghost use Rattle.page_decoder.specs.LayerState.{Rests, Stands, Lays, IsSized, Reads, Answers, KeepsOpen, decisions_with};
+ghost use Rattle.page_decoder.specs.LayerState.{Rests, Stands, Lays, Reads, Answers, KeepsOpen, decisions_with};
 
 use djvu_base::{CountMeter, FaultKind, Meter, Raster};
 use iw44_image::{IwImage, IwStep};
@@ -81,6 +81,7 @@ impl LayerReader {
         ensures limit { self.new.image.limit ≡ self.old.image.limit }
         ensures page { self.new.page ≡ self.old.page }
     {
+        iw44_image::laws::layers_go_on();
         self.iw.chunk_begin(size);
         self.count = 0;
     }
@@ -96,6 +97,7 @@ impl LayerReader {
         ensures limit { self.new.image.limit ≡ self.old.image.limit }
         ensures page { self.new.page ≡ self.old.page }
     {
+        iw44_image::laws::layers_grow();
         self.iw.push(piece)
     }
 
@@ -141,9 +143,19 @@ impl LayerReader {
         ensures answers { (total : ℕ) (chunks : List Data) (bytes : List ℕ) → Stands total chunks bytes self.old →
             (now : ℕ) × (Reads result now chunks bytes self.old self.new × TicksTo total now meter.old meter.new) }
         ensures kept { KeepsOpen result self.old self.new }
+        ensures count { self.new.decisions ≡ self.old.decisions }
     {
+        iw44_image::laws::layers_go_on();
+        iw44_image::laws::sizes_are_checked_first();
+        iw44_image::laws::told_sizes_are_checked();
         match self.iw.advance(meter) {
-            IwStep::Sized { width, height } => self.read_sized(width, height, meter),
+            IwStep::Sized { width, height } => {
+                if reduction(self.page_size, (width, height)).is_none() {
+                    LayerStep::Refused(FaultKind::LayerSize)
+                } else {
+                    self.read_on(meter)
+                }
+            }
             IwStep::ChunkDone => LayerStep::ChunkDone,
             IwStep::NeedBytes => LayerStep::NeedBytes,
             IwStep::Refused(kind) => LayerStep::Refused(kind),
@@ -151,17 +163,18 @@ impl LayerReader {
         }
     }
 
-    /// Reads the open chunk on behind its header, which told the layer's size, in pixels.
-    fn read_sized(&mut self, width: u32, height: u32, meter: &mut CountMeter) -> LayerStep
+    /// Reads the open chunk on behind the header that told the layer's size.
+    fn read_on(&mut self, meter: &mut CountMeter) -> LayerStep
         requires running { IsSome self.old.image.to_come }
         requires told { IsSome self.old.image.header }
-        ensures answers { (total : ℕ) (chunks : List Data) (bytes : List ℕ) → IsSized width height total chunks bytes self.old →
+        ensures answers { (total : ℕ) (chunks : List Data) (bytes : List ℕ) → Stands total chunks bytes self.old →
             (now : ℕ) × (Reads result now chunks bytes self.old self.new × TicksTo total now meter.old meter.new) }
         ensures kept { KeepsOpen result self.old self.new }
+        ensures count { self.new.decisions ≡ self.old.decisions }
     {
-        if reduction(self.page_size, (width, height)).is_none() {
-            return LayerStep::Refused(FaultKind::LayerSize);
-        }
+        iw44_image::laws::layers_go_on();
+        iw44_image::laws::sizes_are_checked_first();
+        iw44_image::laws::told_sizes_are_checked();
         match self.iw.advance(meter) {
             IwStep::Sized { .. } => unreachable!(),
             IwStep::ChunkDone => LayerStep::ChunkDone,

@@ -105,6 +105,7 @@ mod Sounding
 mod Eventing
 mod DataEvents
 mod Bounded
+mod Origins
 -- at_close, at_form_end
 mod FileEnds
 mod ChunkEnds

@@ -83,3 +83,7 @@ mod GivenOutlines
 mod ActsByEvents
 mod Onward
 mod Entries
+-- PageDecoder
+mod Decoding
+-- read_on
+mod Reached

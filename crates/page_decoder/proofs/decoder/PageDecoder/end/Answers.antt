@@ -1,0 +1,14 @@
+use Rattle.std.proofs.Common.{◌≡◌, refl, sym, ap, ◌∙◌, subst}
+use Rattle.djvu_base.specs.Library.{Open, mark_of}
+use Rattle.page_decoder.specs.Given.{Given}
+use Rattle.page_decoder.specs.PageFed.{Fed, IsFed, Decoding, decoding_of}
+use Rattle.page_decoder.proofs.Decoding.{GrowthLaws, with_mark, ended_fed, some_closed}
+use Rattle.page_decoder.proofs.decoder.PageDecoder.end.Goals as goal
+
+pub returns-then-is_none-clause-fed : goal.returns-then-is_none-clause-fed
+unfolding Fed
+returns-then-is_none-clause-fed c open_ given f =
+    let laws : GrowthLaws =
+    record { told = c.growth.ensures.told; unmet = c.growth.ensures.unmet; outline = c.needs.ensures.outline; file = c.needs.ensures.file } in
+    rw (c.without_bytes-self-inside.ensures)
+    (ended_fed laws _ given c.args.end (ap (λ (d : Decoding). d.mark) c.self.view_is ∙ open_) (subst (IsFed given) (sym c.self.view_is) f))

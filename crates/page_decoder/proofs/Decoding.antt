@@ -253,6 +253,16 @@ pub mark_within : (given : Given) (mark : Mark) → given.mark ≡ Open → With
 mark_within given mark open_ =
     record { home = refl; known = record { outlines = λ file it e. e; results = λ file it e. e }; bytes = inl (open_, ([], sym (append-nil given.bytes))) }
 
+-- a page whose reading is over, or that failed: more bytes change nothing
+abbrev pub IsSettled : Standing → Type 0
+IsSettled standing.Going = ⊥
+IsSettled standing.NeedBytes = ⊥
+IsSettled (standing.NeedOutline file) = ⊥
+IsSettled (standing.NeedFile file) = ⊥
+IsSettled standing.Finished = Unit {0}
+IsSettled (standing.Refused fault) = Unit {0}
+IsSettled standing.Failed = Unit {0}
+
 module _ (laws : GrowthLaws) (kept : Kept) where
   abbrev Now : Decoding
   Now = decoding_of kept
@@ -286,16 +296,6 @@ module _ (laws : GrowthLaws) (kept : Kept) where
   failing_fed given later within mark fed =
       fed_more laws given later Now (decoding_of (failing kept)) fed within
       (record { home_is = refl; drawn_is = refl; decisions_are = refl; layers_are = refl }) (mark ∙ fed.mark_is) tt
-
-  -- a page whose reading is over, or that failed: more bytes change nothing
-  abbrev IsSettled : Standing → Type 0
-  IsSettled standing.Going = ⊥
-  IsSettled standing.NeedBytes = ⊥
-  IsSettled (standing.NeedOutline file) = ⊥
-  IsSettled (standing.NeedFile file) = ⊥
-  IsSettled standing.Finished = Unit {0}
-  IsSettled (standing.Refused fault) = Unit {0}
-  IsSettled standing.Failed = Unit {0}
 
   settled_by : (given later : Given) → IsTable given.home.table → Within given later → (at : Standing) → IsSettled at → FedBy at given kept
       → FedBy at later kept

@@ -284,7 +284,9 @@ impl PageDecoder {
         ensures fed { (given : Given) → Fed given self.old → Fed given self.new }
         ensures rise { RiseTogether self.old.decisions self.new.decisions (M.count meter.old) (M.count meter.new) }
         ensures drawn { self.new.drawn ≡ drawn_with result self.old.drawn }
-        ensures standing { self.new.kept.standing ≡ standing_at result }
+        ensures stands { self.new.stands ≡ end_with result }
+        ensures failed { result ≡ PageStep.OutOfMemory → self.new.failed ≡ true }
+        ensures reads { result ≢ PageStep.OutOfMemory → self.new.failed ≡ false }
         ensures home { self.new.home ≡ self.old.home }
         ensures mark { self.new.mark ≡ self.old.mark }
     {

@@ -85,5 +85,7 @@ mod Onward
 mod Entries
 -- PageDecoder
 mod Decoding
+-- give_outline, give_file, end
+mod Gifting
 -- read_on
 mod Reached

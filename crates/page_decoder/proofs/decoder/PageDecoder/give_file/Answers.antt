@@ -2,7 +2,8 @@ use Rattle.std.proofs.Common.{◌≡◌, ◌<◌, length, refl, sym, ap, ◌∙�
 use Rattle.std.specs.Arc.{arc_value}
 use Rattle.page_decoder.specs.Resolving.{result_in}
 use Rattle.page_decoder.specs.PageFed.{Fed, IsFed, Decoding, with_known}
-use Rattle.page_decoder.proofs.Decoding.{GrowthLaws, file_lacks, resulted_too, knows_result, file_gifted}
+use Rattle.page_decoder.proofs.Decoding.{GrowthLaws, file_lacks}
+use Rattle.page_decoder.proofs.Gifting.{resulted_too, knows_result, file_gifted}
 use Rattle.page_decoder.proofs.decoder.PageDecoder.give_file.Goals as goal
 
 pub give_file-given-requires-clause-place : goal.give_file-given-requires-clause-place

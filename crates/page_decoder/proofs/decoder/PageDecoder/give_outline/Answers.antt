@@ -2,7 +2,8 @@ use Rattle.std.proofs.Common.{◌≡◌, ◌<◌, length, refl, sym, ap, ◌∙�
 use Rattle.std.specs.Arc.{arc_value}
 use Rattle.page_decoder.specs.Resolving.{result_in}
 use Rattle.page_decoder.specs.PageFed.{Fed, IsFed, Decoding, with_known}
-use Rattle.page_decoder.proofs.Decoding.{GrowthLaws, outline_lacks, outlined_too, knows_outline, outline_gifted}
+use Rattle.page_decoder.proofs.Decoding.{GrowthLaws, outline_lacks}
+use Rattle.page_decoder.proofs.Gifting.{outlined_too, knows_outline, outline_gifted}
 use Rattle.page_decoder.proofs.decoder.PageDecoder.give_outline.Goals as goal
 
 pub give_outline-given-requires-clause-place : goal.give_outline-given-requires-clause-place

@@ -107,11 +107,12 @@ mod Reached
 mod Answering
 mod Telling
 mod Lifting
+mod Looping
 mod Sounding
 mod Eventing
 mod DataEvents
 mod Bounded
-mod Origins
+mod FormEnds
 -- at_close, at_form_end
 mod FileEnds
 mod ChunkEnds

@@ -10,7 +10,7 @@ use Rattle.page_decoder.proofs.Further.{Grows}
 use Rattle.page_decoder.proofs.Coming.{data_on}
 use Rattle.page_decoder.proofs.Lifting.{rise_none}
 use Rattle.page_decoder.proofs.Eventing.{kept_so, form_comes, header_comes}
-use Rattle.page_decoder.proofs.Origins.{form_end_pauses, broken_pauses_so}
+use Rattle.page_decoder.proofs.FormEnds.{form_end_pauses, broken_pauses_so}
 use Rattle.page_decoder.proofs.DataEvents.{data_comes}
 use Rattle.page_decoder.proofs.file_reader.FileReader.at_event.Goals as goal
 
@@ -68,6 +68,6 @@ returns-in-FormEnd-clause-comes g c given rest known mark t =
 
 pub returns-in-Broken-clause-comes : goal.returns-in-Broken-clause-comes
 returns-in-Broken-clause-comes g c given rest known mark t =
-    c.at_pause.ensures.answers given rest known (broken_pauses_so (record { laid = c.layout.ensures.laid; order = c.order.ensures }) given rest
+    c.at_pause-in-Broken.ensures.answers given rest known (broken_pauses_so (record { laid = c.layout.ensures.laid; order = c.order.ensures }) given rest
     c.args.taken.now c.args.self.now c.never_cut.ensures c.in-Broken.kind c.in-Broken.offset
     (subst (λ a. IsTold given rest a c.args.taken.now c.args.self.now) c.in-Broken.is t))

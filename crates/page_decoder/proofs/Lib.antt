@@ -110,3 +110,5 @@ mod FileEnds
 mod ChunkEnds
 -- at_pause
 mod Pausing
+-- at_bytes_end
+mod Origins

@@ -112,3 +112,5 @@ mod ChunkEnds
 mod Pausing
 -- at_bytes_end
 mod Origins
+-- at_bytes_end
+mod ByteEnds

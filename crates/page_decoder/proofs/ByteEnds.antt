@@ -1,12 +1,15 @@
 -- The reader of a file that told all events of its bytes so far, at their end.
-use Rattle.std.proofs.Common.{◌≡◌, ◌≢◌, Option, Some, None, List, [], ◌∷◌, ◌++◌, ◌⊎◌, inl, inr, ℕ, refl, sym, ap, ◌∙◌, subst}
+use Rattle.std.proofs.Common.{◌≡◌, ◌≢◌, Option, Some, None, List, [], ◌∷◌, ◌++◌, ◌⊎◌, inl, inr, ℕ, Bool, true, false, cond, length, refl, sym, ap, ◌∙◌, subst}
 use Rattle.std.proofs.lemmas.List.{append-nil}
 use Rattle.std.specs.Arc.{arc_value}
-use Rattle.djvu_base.specs.Library.{Mark, Open, mark_of}
+use Rattle.djvu_base.specs.Library.{Mark, Open, Whole, mark_of}
+use Rattle.djvu_base.specs.Library as library
+use Rattle.djvu_base.specs.declared.faults.FaultKind.{FaultKind}
 use Rattle.djvu_base.specs.declared.ends.FileEnd.{FileEnd}
 use Rattle.djvu_base.specs.declared.ends.FileEnd.TheVariants as file_end
 use Rattle.zp_table.specs.Rows.{IsTable}
-use Rattle.iff_chunks.specs.Chunks.{Tail, InHead, InHeader, InData, InPad, FormEnd, Broken, chunks_of}
+use Rattle.iff_chunks.specs.Chunks.{Form, Chunk, Tail, InHead, InHeader, InData, InPad, FormEnd, Broken, chunks_of}
+use Rattle.iff_chunks.specs.Ends.{closed, is_cut}
 use Rattle.iff_chunks.specs.Events.{GoesOn, IsOpen, events_of}
 use Rattle.iff_chunks.specs.Told.{Walking, Told}
 use Rattle.iff_chunks.specs.declared.walker.WalkStep.TheVariants as event
@@ -22,8 +25,38 @@ use Rattle.page_decoder.specs.FileReading.{IsOf, IsTold, IsPaused, Pauses, Walks
 use Rattle.page_decoder.specs.FileSteps.{IsBehind}
 use Rattle.page_decoder.proofs.ActsByEvents.{acts_by_events}
 use Rattle.page_decoder.proofs.Needing.{known_end}
-use Rattle.page_decoder.proofs.Origins.{close_by_origin}
+use Rattle.page_decoder.proofs.Origins.{Headless, headless, origin_at}
 use Rattle.page_decoder.proofs.ResolveSteps.{knows_same}
+use Rattle.page_decoder.proofs.Sounding.{Container}
+
+not_over : (b : Bool) (origin : ℕ) (a c : FaultKind) (x y : ℕ) → acts.close_of origin (cond b (Broken a x) (Broken c y)) ≡ Over origin → ⊥
+not_over true origin a c x y e = cc
+not_over false origin a c x y e = cc
+
+never_over : (mark : Mark) (all origin : ℕ) (whole : List Chunk) (tail : Tail) → Headless tail
+    → acts.close_of origin (closed mark all whole tail) ≡ Over origin → ⊥
+never_over Open all origin whole InHead f e = cc
+never_over Open all origin whole (Broken kind offset) f e = cc
+never_over Whole all origin [] InHead f e = cc
+never_over Whole all origin (chunk ∷ whole) InHead f e = cc
+never_over Whole all origin [] (Broken kind offset) f e = cc
+never_over Whole all origin (chunk ∷ whole) (Broken kind offset) f e = cc
+never_over library.Broken all origin [] InHead f e = cc
+never_over library.Broken all origin (chunk ∷ whole) InHead f e = cc
+never_over library.Broken all origin [] (Broken kind offset) f e = not_over (is_cut kind) origin _ kind all offset e
+never_over library.Broken all origin (chunk ∷ whole) (Broken kind offset) f e = not_over (is_cut kind) origin _ kind all offset e
+never_over mark all origin whole (InHeader offset bytes) f e = absurd f
+never_over mark all origin whole (InData chunk) f e = absurd f
+never_over mark all origin whole (InPad offset is_last) f e = absurd f
+never_over mark all origin whole FormEnd f e = absurd f
+
+same_origin : (law : Container) (mark : Mark) (bytes : List ℕ) (behind : FileClose) (form : Option Form) → (chunks_of bytes).form ≡ form
+    → close_in mark bytes ≡ close_of (origin_of (chunks_of bytes).form) behind → close_in mark bytes ≡ close_of (origin_by bytes) behind
+same_origin law mark bytes close.Waits form f e = e
+same_origin law mark bytes (close.Breaks kind offset) form f e = e
+same_origin law mark bytes close.Over None f e =
+    absurd (never_over mark (length bytes) (origin_of (chunks_of bytes).form) (chunks_of bytes).whole (chunks_of bytes).tail (headless bytes f) e)
+same_origin law mark bytes close.Over (Some form) f e = e ∙ ap Over (ap origin_of f ∙ origin_at law bytes form f)
 
 closed_mark : (end : FileEnd) → mark_of end ≢ Open
 closed_mark file_end.Whole e = cc
@@ -42,7 +75,7 @@ within_same given = record { home = refl; known = knows_same given.known; bytes 
 
 module _ (given : Given) (rest taken : List ℕ) (old : FileReader) (end : Option FileEnd) (behind : FileClose) (walker : Walking)
     (t : IsTold given rest event.NeedBytes taken old) (m : given.mark ≡ mark_by end) (b : IsBehind (mark_by end) t.now.bytes behind)
-    (w : end ≡ None → walker ≡ old.walker) where
+    (w : end ≡ None → walker ≡ old.walker) (law : Container) where
   abbrev now : Given
   now = t.now
 
@@ -65,7 +98,7 @@ module _ (given : Given) (rest taken : List ℕ) (old : FileReader) (end : Optio
     acts_are = ap (λ all. acts_of (chunks_of all)) bytes ∙ acts_by_events (chunks_of now.bytes)
         ∙ ap (λ events. all_told (after_events nothing_told events)) t.settles.1 ∙ ap all_told (sym t.walks.acts_are);
     close_is = ap (λ k. close_in k given.bytes) m ∙ ap (λ all. close_in (mark_by end) all) bytes
-        ∙ close_by_origin (mark_by end) now.bytes behind b ∙ ap (λ o. close_of o behind) (sym t.of.origin_is);
+        ∙ same_origin law (mark_by end) now.bytes behind (chunks_of now.bytes).form refl b ∙ ap (λ o. close_of o behind) (sym t.of.origin_is);
   }
 
   holds_given : Holds given.home given.known t.so_far t.left new

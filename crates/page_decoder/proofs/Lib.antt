@@ -105,12 +105,11 @@ mod Sounding
 mod Eventing
 mod DataEvents
 mod Bounded
+mod Origins
 -- at_close, at_form_end
 mod FileEnds
 mod ChunkEnds
 -- at_pause
 mod Pausing
--- at_bytes_end
-mod Origins
 -- at_bytes_end
 mod ByteEnds

@@ -9,10 +9,12 @@ use Rattle.page_decoder.specs.declared.file_reader.FileReader.{FileReader}
 use Rattle.page_decoder.specs.declared.file_reader.Stage.{Stage}
 use Rattle.page_decoder.specs.declared.file_reader.Stage.TheVariants as stage
 use Rattle.page_decoder.specs.Given.{Known, Given, KnowsMore, Within}
-use Rattle.page_decoder.specs.PageRead.{at_start}
+use Rattle.page_decoder.specs.PageRead.{Left, at_start}
+use Rattle.page_decoder.specs.Kinds.{ChunkKind, kind_of}
+use Rattle.page_decoder.specs.Kinds as kind
 use Rattle.page_decoder.specs.Decoder.{RiseTogether}
-use Rattle.page_decoder.specs.FileReading.{IsOf, Walks, IsWalking, IsBefore, IsAtEnd, StandsAt, Stands, IsGiven, StandsBefore}
-use Rattle.page_decoder.proofs.ResolveSteps.{resolves_on}
+use Rattle.page_decoder.specs.FileReading.{IsOf, Walks, IsWalking, IsBefore, IsAtEnd, ResolvesAt, StandsAt, Stands, IsGiven, StandsBefore}
+use Rattle.page_decoder.proofs.ResolveSteps.{resolves_on, waits_on}
 use Rattle.page_decoder.proofs.Further.{Grows}
 use Rattle.page_decoder.proofs.Onward.{through_on}
 use Rattle.page_decoder.proofs.Telling.{holds_on}
@@ -33,6 +35,16 @@ module _ (before : Given) (more : Known) (on : KnowsMore before.known more) (gro
   of_so : IsOf before reader → IsOf lifted reader
   of_so o = record { home_is = o.home_is; is_table = o.is_table; origin_is = o.origin_is; counts = o.counts }
 
+  at_on : (of : ChunkKind) (left : Left) → ResolvesAt of before.home before.known left reader.includes → ResolvesAt of before.home more left reader.includes
+  at_on kind.Info left r = waits_on before.home before.known more left.decoded reader.includes on r
+  at_on kind.Include left r = waits_on before.home before.known more left.decoded reader.includes on r
+  at_on kind.Dictionary left r = resolves_on before.home before.known more left reader.includes on r
+  at_on kind.Mask left r = resolves_on before.home before.known more left reader.includes on r
+  at_on kind.Front left r = waits_on before.home before.known more left.decoded reader.includes on r
+  at_on kind.Back left r = waits_on before.home before.known more left.decoded reader.includes on r
+  at_on kind.Refused left r = waits_on before.home before.known more left.decoded reader.includes on r
+  at_on kind.Passed left r = waits_on before.home before.known more left.decoded reader.includes on r
+
   -- with more known the reader stands where it stood
   pub lifts : (at : Stage) → StandsAt before at reader → StandsAt lifted at reader
   lifts stage.Walking s = record {
@@ -51,7 +63,7 @@ module _ (before : Given) (more : Known) (on : KnowsMore before.known more) (gro
     fine = s.fine;
     none = s.none;
     keeps = s.keeps;
-    resolves = resolves_on before.home before.known more s.left reader.includes on s.resolves;
+    resolves = at_on (kind_of head.id) s.left s.resolves;
     decisions_are = s.decisions_are;
     tallies = s.tallies;
   }

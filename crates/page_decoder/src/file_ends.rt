@@ -38,6 +38,8 @@ impl FileReader {
             → IsTold given rest WalkStep.NeedBytes taken self.old → Answers given rest result self.old self.new }
         ensures rise { RiseTogether (decisions_in self.old) (decisions_in self.new) (M.count meter.old) (M.count meter.new) }
     {
+        iff_chunks::laws::layout();
+        iff_chunks::laws::order();
         let behind = self.behind_bytes(end);
         self.at_pause(names, outlines, results, behind, meter)
     }

@@ -84,6 +84,7 @@ impl FileReader {
     {
         iff_chunks::laws::layout();
         iff_chunks::laws::order();
+        iff_chunks::laws::never_cut();
         jb2_records::laws::more_bytes_go_on();
         iw44_image::laws::layers_grow();
         include_graph::laws::verdicts_stay();

@@ -10,6 +10,7 @@ use Rattle.page_decoder.proofs.Further.{Grows}
 use Rattle.page_decoder.proofs.Coming.{data_on}
 use Rattle.page_decoder.proofs.Lifting.{rise_none}
 use Rattle.page_decoder.proofs.Eventing.{kept_so, form_comes, header_comes}
+use Rattle.page_decoder.proofs.Origins.{form_end_pauses, broken_pauses_so}
 use Rattle.page_decoder.proofs.DataEvents.{data_comes}
 use Rattle.page_decoder.proofs.file_reader.FileReader.at_event.Goals as goal
 
@@ -59,3 +60,14 @@ pub returns-in-NeedBytes-clause-comes : goal.returns-in-NeedBytes-clause-comes
 returns-in-NeedBytes-clause-comes g c given rest known mark t =
     c.at_bytes_end.ensures.answers given rest c.args.taken.now known mark
     (subst (λ a. IsTold given rest a c.args.taken.now c.args.self.now) c.in-NeedBytes.is t)
+
+pub returns-in-FormEnd-clause-comes : goal.returns-in-FormEnd-clause-comes
+returns-in-FormEnd-clause-comes g c given rest known mark t =
+    c.at_pause.ensures.answers given rest known (form_end_pauses (record { laid = c.layout.ensures.laid; order = c.order.ensures }) given rest
+    c.args.taken.now c.args.self.now (subst (λ a. IsTold given rest a c.args.taken.now c.args.self.now) c.in-FormEnd.is t))
+
+pub returns-in-Broken-clause-comes : goal.returns-in-Broken-clause-comes
+returns-in-Broken-clause-comes g c given rest known mark t =
+    c.at_pause.ensures.answers given rest known (broken_pauses_so (record { laid = c.layout.ensures.laid; order = c.order.ensures }) given rest
+    c.args.taken.now c.args.self.now c.never_cut.ensures c.in-Broken.kind c.in-Broken.offset
+    (subst (λ a. IsTold given rest a c.args.taken.now c.args.self.now) c.in-Broken.is t))

@@ -97,6 +97,12 @@ mod GivenOutlines
 mod ActsByEvents
 mod Onward
 mod Entries
+-- PageDecoder
+mod Decoding
+-- give_outline, give_file, end
+mod Gifting
+-- read_on
+mod Reached
 -- the functions of FileReader
 mod Answering
 mod Telling

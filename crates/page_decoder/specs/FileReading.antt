@@ -55,6 +55,11 @@ decisions_at_hand (Some chunk) = decisions_of chunk.opened
 abbrev pub decisions_in : FileReader → ℕ
 decisions_in reader = ticked (decisions_at_hand reader.chunk) reader.decisions
 
+-- it is the reader of the same file
+abbrev pub SameFile : FileReader → FileReader → Type 0
+SameFile before after = (names : List (List ℕ))
+    → home_of after.role (arc_value after.table) names after.file ≡ home_of before.role (arc_value before.table) names before.file
+
 -- ---- what is kept
 
 -- the layers and the dictionary that chunks left

@@ -8,7 +8,7 @@ ghost use Rattle.include_graph.specs.Verdicts.{outline_in};
 ghost use Rattle.page_decoder.specs.Given.{Given};
 ghost use Rattle.page_decoder.specs.Decoder.{RiseTogether};
 ghost use Rattle.page_decoder.specs.Resolving.{IsPlaced, known_of, role_of};
-ghost use Rattle.page_decoder.specs.FileReading.{Answers, Counts, IsTold, IsPaused, IsClosing, mark_by, decisions_in};
+ghost use Rattle.page_decoder.specs.FileReading.{SameFile, Answers, Counts, IsTold, IsPaused, IsClosing, mark_by, decisions_in};
 ghost use Rattle.page_decoder.specs.FileSteps.{IsKnown, IsFinishing, IsBehind, Advances, close_by, lacks_info};
 
 use crate::decoder::PageStep;
@@ -37,6 +37,7 @@ impl FileReader {
         ensures answers { (given : Given) (rest taken : List ℕ) → IsKnown names.now (known_of (map outline_in outlines.now) results.now) given → given.mark ≡ mark_by end
             → IsTold given rest WalkStep.NeedBytes taken self.old → Answers given rest result self.old self.new }
         ensures rise { RiseTogether (decisions_in self.old) (decisions_in self.new) (M.count meter.old) (M.count meter.new) }
+        ensures home { SameFile self.old self.new }
     {
         iff_chunks::laws::layout();
         iff_chunks::laws::order();
@@ -73,6 +74,7 @@ impl FileReader {
         ensures answers { (given : Given) (rest : List ℕ) → IsKnown names.now (known_of (map outline_in outlines.now) results.now) given
             → IsPaused given rest behind self.old → Answers given rest result self.old self.new }
         ensures rise { RiseTogether (decisions_in self.old) (decisions_in self.new) (M.count meter.old) (M.count meter.new) }
+        ensures home { SameFile self.old self.new }
     {
         iff_chunks::laws::layout();
         iff_chunks::laws::order();
@@ -118,6 +120,7 @@ impl FileReader {
         ensures answers { (given : Given) (rest : List ℕ) → IsKnown names.now (known_of (map outline_in outlines.now) results.now) given
             → IsClosing given rest behind self.old → Answers given rest result self.old self.new }
         ensures rise { decisions_in self.new ≡ decisions_in self.old }
+        ensures home { SameFile self.old self.new }
     {
         match behind {
             FileClose::Waits => PageStep::NeedBytes,
@@ -139,6 +142,7 @@ impl FileReader {
         ensures answers { (given : Given) (rest : List ℕ) → IsKnown names.now (known_of (map outline_in outlines.now) results.now) given
             → IsClosing given rest FileClose.Over self.old → Answers given rest result self.old self.new }
         ensures rise { decisions_in self.new ≡ decisions_in self.old }
+        ensures home { SameFile self.old self.new }
     {
         self.drop_chunk();
         if lacks_info(self.role, self.chunks) {
@@ -170,6 +174,7 @@ impl FileReader {
         ensures answers { (given : Given) (rest : List ℕ) → IsKnown names.now (known_of (map outline_in outlines.now) results.now) given
             → IsFinishing given rest self.old → Answers given rest result self.old self.new }
         ensures rise { decisions_in self.new ≡ decisions_in self.old }
+        ensures home { SameFile self.old self.new }
     {
         match self.resolve(names, outlines, results) {
             None => PageStep::Finished,

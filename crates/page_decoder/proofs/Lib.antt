@@ -118,3 +118,5 @@ mod FileEnds
 mod ChunkEnds
 -- at_pause
 mod Pausing
+-- at_bytes_end
+mod ByteEnds

@@ -39,6 +39,8 @@ impl FileReader {
         ensures rise { RiseTogether (decisions_in self.old) (decisions_in self.new) (M.count meter.old) (M.count meter.new) }
         ensures home { SameFile self.old self.new }
     {
+        iff_chunks::laws::layout();
+        iff_chunks::laws::order();
         let behind = self.behind_bytes(end);
         self.at_pause(names, outlines, results, behind, meter)
     }

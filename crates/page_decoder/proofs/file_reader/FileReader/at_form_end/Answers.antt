@@ -9,6 +9,10 @@ use Rattle.page_decoder.specs.FileReading.{Answers}
 use Rattle.page_decoder.specs.FileSteps.{IsFinishing, lacks_info}
 use Rattle.page_decoder.proofs.Answering.{comes_same}
 use Rattle.page_decoder.proofs.FileEnds.{lacks_here, finishes_here}
+use Rattle.std.proofs.Common.{ap, ◌∙◌}
+use Rattle.std.specs.Arc.{arc_value}
+use Rattle.page_decoder.specs.Resolving.{home_of}
+use Rattle.page_decoder.specs.declared.file_reader.FileReader.{FileReader}
 use Rattle.page_decoder.proofs.file_reader.FileReader.at_form_end.Goals as goal
 
 pub returns-then-lacks_info-clause-answers : goal.returns-then-lacks_info-clause-answers
@@ -31,3 +35,6 @@ returns-clause-answers c = λ given rest so k.
     (c.finish.ensures.answers given rest so
     (subst (λ d. IsFinishing given rest (record d { stage = stage.AtEnd })) (sym c.drop_chunk.ensures)
     (finishes_here given rest close.Over reader k refl goes)))
+
+pub returns-clause-home : goal.returns-clause-home
+returns-clause-home c names = c.finish.ensures.home names ∙ ap (λ (r : FileReader). home_of r.role (arc_value r.table) names r.file) c.drop_chunk.ensures

@@ -1,4 +1,4 @@
-use Rattle.std.proofs.Common.{List, None, Some, sym, ap, subst}
+use Rattle.std.proofs.Common.{List, None, Some, sym, ap, subst, ◌∙◌}
 use Rattle.zp_table.specs.declared.rows.Row.{Row}
 use Rattle.zp_table.specs.Rows.{IsTable}
 use Rattle.page_decoder.specs.FileReading.{Answers, IsClosing}
@@ -8,6 +8,9 @@ use Rattle.page_decoder.proofs.Coming.{data_on}
 use Rattle.page_decoder.proofs.Further.{Grows}
 use Rattle.page_decoder.proofs.Pausing.{comes_to}
 use Rattle.page_decoder.proofs.Sounding.{Container}
+use Rattle.std.specs.Arc.{arc_value}
+use Rattle.page_decoder.specs.Resolving.{home_of}
+use Rattle.page_decoder.specs.declared.file_reader.FileReader.{FileReader}
 use Rattle.page_decoder.proofs.file_reader.FileReader.at_pause.Goals as goal
 
 pub returns-in-Some-clause-answers : goal.returns-in-Some-clause-answers
@@ -43,3 +46,6 @@ returns-in-None-clause-answers g c = λ given rest so k.
         (subst (λ answer. Advances answer old.file old.chunk next) c.in-None.is c.advance.ensures.advances)) in
     comes_same given rest (Some c.at_close.result) c.advance.new.self old c.at_close.new.self (ap (λ r. r.drawn) c.advance.ensures.rest)
     (c.at_close.ensures.answers given rest so closing)
+
+pub returns-in-None-clause-home : goal.returns-in-None-clause-home
+returns-in-None-clause-home g c names = c.at_close.ensures.home names ∙ ap (λ (r : FileReader). home_of r.role (arc_value r.table) names r.file) c.advance.ensures.rest

@@ -7,6 +7,8 @@ use Rattle.page_decoder.proofs.Further.{Grows}
 use Rattle.page_decoder.proofs.Coming.{data_on}
 use Rattle.page_decoder.proofs.Telling.{told_next}
 use Rattle.page_decoder.proofs.Answering.{comes_same}
+use Rattle.std.specs.Arc.{arc_value}
+use Rattle.page_decoder.specs.Resolving.{home_of}
 use Rattle.page_decoder.proofs.file_reader.FileReader.walk.Goals as goal
 
 abbrev counted_so : Walking → FileReader → List ℕ → FileReader
@@ -33,3 +35,6 @@ returns-clause-comes g c before given is stands =
     (sym (c.count.ensures ∙ ap (counted_so c.feed-used.new.self reader) c.first-taken.ensures)) told) in
     comes_same given rest c.at_event-answer.result c.count.new.self reader c.at_event-answer.new.self (ap (λ (r : FileReader). r.drawn) c.count.ensures)
     (c.at_event-answer.ensures.comes given rest (record { names_are = is.names_are; known_is = is.known_is }) is.mark_is here)
+
+pub returns-clause-home : goal.returns-clause-home
+returns-clause-home g c names = c.at_event-answer.ensures.home names ∙ ap (λ (r : FileReader). home_of r.role (arc_value r.table) names r.file) c.count.ensures

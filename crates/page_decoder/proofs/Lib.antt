@@ -119,4 +119,5 @@ mod ChunkEnds
 -- at_pause
 mod Pausing
 -- at_bytes_end
+mod Origins
 mod ByteEnds

@@ -112,12 +112,11 @@ mod Sounding
 mod Eventing
 mod DataEvents
 mod Bounded
-mod FormEnds
+mod Origins
 -- at_close, at_form_end
 mod FileEnds
 mod ChunkEnds
 -- at_pause
 mod Pausing
 -- at_bytes_end
-mod Origins
 mod ByteEnds

@@ -10,7 +10,7 @@ use Rattle.page_decoder.proofs.Further.{Grows}
 use Rattle.page_decoder.proofs.Coming.{data_on}
 use Rattle.page_decoder.proofs.Lifting.{rise_none}
 use Rattle.page_decoder.proofs.Eventing.{kept_so, form_comes, header_comes}
-use Rattle.page_decoder.proofs.FormEnds.{form_end_pauses, broken_pauses_so}
+use Rattle.page_decoder.proofs.Origins.{form_end_pauses, broken_pauses_so}
 use Rattle.page_decoder.proofs.DataEvents.{data_comes}
 use Rattle.page_decoder.proofs.file_reader.FileReader.at_event.Goals as goal
 

@@ -78,6 +78,12 @@ module _ (before : Given) (more : Known) (on : KnowsMore before.known more) (gro
     tallies = s.tallies;
   }
 
+-- the file that it reads
+pub of_at : (given : Given) (at : Stage) (reader : FileReader) → StandsAt given at reader → IsOf given reader
+of_at given stage.Walking reader s = s.of
+of_at given (stage.Before head) reader s = s.of
+of_at given stage.AtEnd reader s = s.of
+
 -- in front of the rest of the bytes that are given
 pub stands_before : (names : List (List ℕ)) (outlines : List (Option Outline)) (results : List (Option FileResult)) (rest : List ℕ) (end : Option FileEnd)
     (before given : Given) (reader : FileReader) → IsGiven names outlines results rest end before given → Grows before.home.table → Stands before reader

@@ -1,5 +1,9 @@
 -- The reader of a file, step after step.
-use Rattle.std.proofs.Common.{◌≡◌, ℕ, List, Option, Some, None, drop, refl, sym, ap, ◌∙◌, subst}
+use Rattle.std.proofs.Common.{◌≡◌, ◌≤◌, ◌+◌, ◌-◌, ℕ, List, Option, Some, None, length, drop, refl, sym, ap, ◌∙◌, subst, arith}
+use Rattle.std.proofs.lemmas.List.{length-drop, drop-drop}
+use Rattle.std.proofs.lemmas.Grind.{common_steps}
+use Rattle.djvu_base.specs.Meter.{ticked, TicksExactly}
+use Rattle.page_decoder.specs.Decoder.{RiseTogether}
 use Rattle.djvu_base.specs.declared.ends.FileEnd.{FileEnd}
 use Rattle.include_graph.specs.declared.outline.Outline.{Outline}
 use Rattle.jb2_records.specs.declared.results.FileResult.{FileResult}
@@ -40,3 +44,22 @@ module _ (names : List (List ℕ)) (outlines : List (Option Outline)) (results :
         is_given = given_on rest (drop used rest) r.before r.given new r.is_given m.stands;
         stands = m.stands.stands;
       }
+
+-- ---- the rest of the bytes
+
+pub rest_on : (piece rest next : List ℕ) (used : ℕ) → rest ≡ drop (length piece - length rest) piece → length rest ≤ length piece → used ≤ length rest
+    → next ≡ drop used rest → (length next ≤ length piece) × (next ≡ drop (length piece - length next) piece)
+rest_on piece rest next used is within most e =
+    let size : length next ≡ length rest - used = ap length e ∙ length-drop used rest in
+    let count : length piece - length rest + used ≡ length piece - length next = omega (arith, size, within, most) in
+    (omega (arith, size, within),
+    e ∙ ap (drop used) is ∙ drop-drop used (length piece - length rest) piece ∙ ap (λ n. drop n piece) count)
+
+pub none_used : (piece : List ℕ) → piece ≡ drop (length piece - length piece) piece
+none_used piece = let none : length piece - length piece ≡ 0 = omega arith in sym (ap (λ n. drop n piece) none)
+
+pub rise_both : (a b c m n o : ℕ) → RiseTogether a b m n → RiseTogether b c n o → RiseTogether a c m o
+rise_both a b c m n o f g = (f.0 + g.0, twice f.0 g.0 a b c f.1 g.1, twice f.0 g.0 m n o f.2 g.2)
+  where
+    twice : (t u x y z : ℕ) → TicksExactly t x y → TicksExactly u y z → TicksExactly (t + u) x z
+    twice t u x y z e f = grind (arith, common_steps)

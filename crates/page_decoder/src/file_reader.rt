@@ -129,6 +129,9 @@ impl FileReader {
         ensures rise { RiseTogether (decisions_in self.old) (decisions_in self.new) (M.count meter.old) (M.count meter.new) }
         ensures home { SameFile self.old self.new }
     {
+        jb2_records::laws::more_bytes_go_on();
+        iw44_image::laws::layers_grow();
+        include_graph::laws::verdicts_stay();
         let mut rest = piece;
         'events: loop {
             let (used, answer) = self.go_on(names, outlines, results, rest, end, meter);

@@ -1,18 +1,8 @@
 use Rattle.std.proofs.Common.{◌≡◌, refl, sym, ap, ◌∙◌, subst}
-use Rattle.page_decoder.specs.Given.{Given}
-use Rattle.page_decoder.specs.FileReading.{Stands, IsOf, StandsAt}
-use Rattle.page_decoder.specs.declared.file_reader.Stage.{Stage}
-use Rattle.page_decoder.specs.declared.file_reader.Stage.TheVariants as stage
-use Rattle.page_decoder.specs.declared.file_reader.FileReader.{FileReader}
 use Rattle.page_decoder.proofs.Further.{Grows}
 use Rattle.page_decoder.proofs.Coming.{data_on}
-use Rattle.page_decoder.proofs.Lifting.{stands_before, rise_none}
+use Rattle.page_decoder.proofs.Lifting.{of_at, stands_before, rise_none}
 use Rattle.page_decoder.proofs.file_reader.FileReader.go_on.Goals as goal
-
-of_at : (given : Given) (at : Stage) (reader : FileReader) → StandsAt given at reader → IsOf given reader
-of_at given stage.Walking reader s = s.of
-of_at given (stage.Before head) reader s = s.of
-of_at given stage.AtEnd reader s = s.of
 
 pub returns-in-Before-clause-comes : goal.returns-in-Before-clause-comes
 returns-in-Before-clause-comes g c before given is stands =

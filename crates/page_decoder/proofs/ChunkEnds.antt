@@ -373,7 +373,7 @@ module _ (given : Given) (rest used : List ℕ) (reader : FileReader) (law : Con
       by came.Left c l d s =
           let stays = stays_so next reader.includes n reader.drawn l.1 in
           let none : next.chunk ≡ None = ap (λ (r : FileReader). r.chunk) l.1 in
-          let same = same_includes (kind_of chunk.head.id) t.now.home.table (data_of e.bytes true) chunk.head.offset t.left.decoded d.decoded (h.plain c)
+          let same = same_includes (kind_of chunk.head.id) t.now.home.table (data_of e.bytes true) chunk.head.offset t.left.decoded d.decoded d.others
           (brings (kind_of chunk.head.id) t.now.home.table (data_of e.bytes true) chunk.head.offset t.left.decoded d.decoded d.leaves) in
           let waits : Waits t.now.home t.now.known d.decoded next.includes =
           subst (λ x. Waits t.now.home t.now.known d.decoded x) (sym (ap (λ (r : FileReader). r.includes) l.1))

@@ -116,6 +116,7 @@ mod Origins
 -- at_close, at_form_end
 mod FileEnds
 mod ChunkEnds
+mod Shutting
 -- at_pause
 mod Pausing
 -- at_bytes_end

@@ -148,8 +148,6 @@ pub record HasClosed (chunk : ChunkAtHand) (answer : Option PageStep) (before af
   pub closes : (table : List Row) (decoded : Decoded) (bytes : List ℕ) → Opens table chunk.head decoded bytes before.kept chunk.opened
       → length bytes ≡ chunk.head.size
       → ClosesTo closed (min (before.chunks + 1) (2 ^ 32 - 1)) table chunk.head decoded (data_came table chunk.head (data_of bytes true) decoded) after.kept
-  -- the name of an include is told
-  pub plain : closed.came ≡ came.Left → kind_of chunk.head.id ≢ kind.Include
   pub decisions_are : after.decisions ≡ ticked closed.decisions before.decisions
   pub has_left : HasLeft chunk.head (min (before.chunks + 1) (2 ^ 32 - 1)) closed.came answer
       (record before { kept = after.kept; decisions = after.decisions }) after

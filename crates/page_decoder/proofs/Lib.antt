@@ -78,3 +78,49 @@ mod Drawable
 mod Made
 -- law faults_stand_in_files of page_laws
 mod FaultPlaces
+-- LayerReader::read, read_on; Tallying
+mod Layering
+-- LayerReader::push, advance
+mod Tallying
+-- ChunkReader::advance
+mod Opening
+-- Kept::close and what it calls
+mod Laying
+-- the resolving of includes: list_next, pass_files, go_on of Includes
+mod ResolveSteps
+-- finish; Entering
+mod Stopping
+-- enter
+mod Beginning
+-- enter
+mod Entering
+-- give_outline
+mod GivenOutlines
+-- the decoder: acts by events, what stays of first acts, entries
+mod ActsByEvents
+mod Onward
+mod Entries
+-- PageDecoder
+mod Decoding
+-- give_outline, give_file, end
+mod Gifting
+-- read_on
+mod Reached
+-- the functions of FileReader
+mod Answering
+mod Telling
+mod Lifting
+mod Looping
+mod Sounding
+mod Eventing
+mod DataEvents
+mod Bounded
+mod Origins
+-- at_close, at_form_end
+mod FileEnds
+mod ChunkEnds
+mod Shutting
+-- at_pause
+mod Pausing
+-- at_bytes_end
+mod ByteEnds

@@ -72,10 +72,14 @@ info_outcome given decoded = if nat_le 4 (length given.bytes) then sized (size_f
 
 -- ---- the name of an included file
 
+-- an include with this name, whose chunk begins there, is to be resolved
+abbrev pub with_include : List ℕ → ℕ → Decoded → Decoded
+with_include name offset decoded = record decoded { pending = decoded.pending ++ record { name = name; offset = offset } ∷ [] }
+
 -- an include by the name that its data hold, and where its chunk begins
 abbrev pub named : Option (List ℕ) → ℕ → Decoded → Outcome
 named None offset decoded = Fails fault.BadIncludeName
-named (Some name) offset decoded = Leaves (record decoded { pending = decoded.pending ++ record { name = name; offset = offset } ∷ [] })
+named (Some name) offset decoded = Leaves (with_include name offset decoded)
 
 -- a name is judged once all data are there
 abbrev pub include_outcome : Data → ℕ → Decoded → Outcome
@@ -123,12 +127,12 @@ mask_came (Some layers) table given decoded = mask_by layers (records_in table (
 
 -- ---- layers of colour
 
--- a layer of at most so many pixels lies on its page by a reduction. No decision is read before its size is judged
+-- a layer of at most so many pixels lies on a page of this size by a reduction. No decision is read before its size is judged
+abbrev pub allowed_by : ℕ × ℕ → ℕ → Allowed
+allowed_by page limit = record { area = limit; fits = λ width height. is_some (reduction_of page (width, height)) }
+
 abbrev pub allowed_on : Layers → ℕ → Allowed
-allowed_on layers limit = record {
-  area = limit;
-  fits = λ width height. is_some (reduction_of (layers.width, layers.height) (width, height));
-}
+allowed_on layers limit = allowed_by (layers.width, layers.height) limit
 
 -- the picture of what was read of a layer
 abbrev pub picture_in : Layer → Picture

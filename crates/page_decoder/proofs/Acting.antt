@@ -29,7 +29,7 @@ same_longer more close [] = at_last refl
 same_longer more close (act ∷ acts) = behind act acts acts (same_longer more close acts)
 
 -- before the FORM's kind is there no act
-none_before : (whole : List Chunk) (tail : Tail) → InOrder AtForm (events_of (record { form = None; whole = whole; tail = tail }))
+pub none_before : (whole : List Chunk) (tail : Tail) → InOrder AtForm (events_of (record { form = None; whole = whole; tail = tail }))
     → complete_acts whole ++ tail_acts tail ≡ []
 none_before [] InHead order = refl
 none_before [] (InHeader offset bytes) order = refl

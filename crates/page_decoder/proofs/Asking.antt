@@ -36,7 +36,7 @@ listed_below home known order Included target file before others below e =
     subst (λ f. f < length home.names) (alone target file before others (same_list (target ∷ []) (before ++ file ∷ others) e)) below
 
 pub next_below : (home : Home) (known : Known) (pending : List Include) → Order → (file : ℕ) → IsNext home known pending file → file < length home.names
-next_below home known pending order file next = listed_below home known order home.role next.target file next.before next.others next.below next.list
+next_below home known pending order file next = listed_below home known order home.role next.target file next.before next.others next.of_include.below next.list
 
 module _ (home : Home) (known : Known)
     (asks : (graph : Graph) (target file : ℕ) → target < length graph.names → verdict_of graph target ≡ verdict.NeedOutline file → graph.outlines file ≡ None)
@@ -49,4 +49,4 @@ module _ (home : Home) (known : Known)
 
   pub unknown_lacking : (pending : List Include) (file : ℕ) → IsUnknown home known pending file
       → (known.outlines file ≡ None) × (file < length home.names)
-  unknown_lacking pending file it = lacking_by home.role it.target file it.below it.list
+  unknown_lacking pending file it = lacking_by home.role it.target file it.of_include.below it.list

@@ -11,9 +11,10 @@ use Rattle.zp_table.specs.declared.rows.Row.{Row}
 use Rattle.bit_plane.specs.Pixels.{area_limit}
 use Rattle.iw44_image.specs.Layer.{Data}
 use Rattle.layer_compose.specs.declared.layers.Layers.{Layers}
+use Rattle.layer_compose.specs.Drawing.{IsDrawable}
 use Rattle.include_graph.specs.Verdicts.{number_of}
 use Rattle.page_decoder.specs.Found.{CanDraw, CanDrawLast}
-use Rattle.page_decoder.specs.Reading.{size_in, size_fault}
+use Rattle.page_decoder.specs.Reading.{size_in, size_fault, with_mask}
 use Rattle.page_decoder.specs.Kinds.{ChunkKind, kind_of}
 use Rattle.page_decoder.specs.Kinds as kind
 use Rattle.page_decoder.specs.Given.{Home, Known, Given}
@@ -80,6 +81,16 @@ layers_now before layers e i = subst CanDrawLast e i
 kept_drawable : (before after : Decoded) → after.layers ≡ before.layers → CanDrawLast before.layers → CanDrawLast after.layers
 kept_drawable before after e i = subst CanDrawLast (sym e) i
 
+-- a page of the same sides
+same_sides : (before after : Layers) → after.width ≡ before.width → after.height ≡ before.height → CanDraw before → IsDrawable after → CanDraw after
+same_sides before after w h can it = record {
+  wide = subst (λ n. 0 < n) (sym w) can.wide;
+  high = subst (λ n. 0 < n) (sym h) can.high;
+  most_columns = subst (λ n. n ≤ 65535) (sym w) can.most_columns;
+  most_rows = subst (λ n. n ≤ 65535) (sym h) can.most_rows;
+  drawable = it;
+}
+
 chunk_drawable : (of : ChunkKind) (table : List Row) (given : Data) (offset : ℕ) (before after : Decoded)
     → (given.ended ≡ true → are_bytes given.bytes ≡ true) → Brings of table given offset before after → CanDrawLast before.layers
     → CanDrawLast after.layers
@@ -89,31 +100,16 @@ chunk_drawable kind.Include table given offset before after f b i = kept_drawabl
 chunk_drawable kind.Dictionary table given offset before after f b i = kept_drawable before after (ap (λ (d : Decoded). d.layers) b.1) i
 chunk_drawable kind.Mask table given offset before after f b i =
     let can = layers_now before b.0 b.2 i in
-    subst (λ (d : Decoded). CanDrawLast d.layers) (sym b.3) (record {
-      wide = can.wide;
-      high = can.high;
-      most_columns = can.most_columns;
-      most_rows = can.most_rows;
-      drawable = record { area = can.drawable.area; mask = b.4; front = can.drawable.front; back = can.drawable.back };
-    })
+    subst (λ (d : Decoded). CanDrawLast d.layers) (sym b.3) (same_sides b.0 (with_mask b.0 b.1) refl refl can
+    (record { area = can.drawable.area; mask = b.4; front = can.drawable.front; back = can.drawable.back }))
 chunk_drawable kind.Front table given offset before after f b i =
     let can = layers_now before b.0 b.2 i in
-    subst (λ (d : Decoded). CanDrawLast d.layers) (sym b.3) (record {
-      wide = can.wide;
-      high = can.high;
-      most_columns = can.most_columns;
-      most_rows = can.most_rows;
-      drawable = record { area = can.drawable.area; mask = can.drawable.mask; front = b.4; back = can.drawable.back };
-    })
+    subst (λ (d : Decoded). CanDrawLast d.layers) (sym b.3) (same_sides b.0 (record b.0 { front = Some b.1 }) refl refl can
+    (record { area = can.drawable.area; mask = can.drawable.mask; front = b.4; back = can.drawable.back }))
 chunk_drawable kind.Back table given offset before after f b i =
     let can = layers_now before b.0 b.2 i in
-    subst (λ (d : Decoded). CanDrawLast d.layers) (sym b.4) (record {
-      wide = can.wide;
-      high = can.high;
-      most_columns = can.most_columns;
-      most_rows = can.most_rows;
-      drawable = record { area = can.drawable.area; mask = can.drawable.mask; front = can.drawable.front; back = b.6 };
-    })
+    subst (λ (d : Decoded). CanDrawLast d.layers) (sym b.4) (same_sides b.0 (record b.0 { back = Some b.1 }) refl refl can
+    (record { area = can.drawable.area; mask = can.drawable.mask; front = can.drawable.front; back = b.6 }))
 chunk_drawable kind.Refused table given offset before after f b i = kept_drawable before after (ap (λ (d : Decoded). d.layers) b) i
 chunk_drawable kind.Passed table given offset before after f b i = kept_drawable before after (ap (λ (d : Decoded). d.layers) b) i
 

@@ -54,7 +54,7 @@ pub record Grows (table : List Row) : Type 0 where
   pub more_data : (head : Head) (bytes more : List ℕ) (ended : Bool) (decoded : Decoded)
       → CameOn (came table head (data_of bytes false) decoded) (came table head (data_of (bytes ++ more) ended) decoded)
 
-then_later : (more : Bool) (known : Known) (a b : Step) (next other : Left → Step) → ((left : Left) → Later more known (next left) (other left))
+pub then_later : (more : Bool) (known : Known) (a b : Step) (next other : Left → Step) → ((left : Left) → Later more known (next left) (other left))
     → ((left : Left) → Below left.told (told_by (other left))) → Later more known a b → Later more known (and_then a next) (and_then b other)
 then_later more known (On left) b next other all below (alike e) = subst (λ s. Later more known (next left) (and_then s other)) e (all left)
 then_later more known (Ends read) b next other all below (alike e) = alike (ap (λ s. and_then s other) e)
@@ -132,11 +132,11 @@ module _ (more : Bool) (home : Home) (a b : Known) (on : KnowsMore a b) (grows :
   before_later kind.Refused left = alike refl
   before_later kind.Passed left = alike refl
 
-  header_later : (head : Head) (fault : Option FaultKind) (left : Left) → Later more b (at_header home a head fault left) (at_header home b head fault left)
+  pub header_later : (head : Head) (fault : Option FaultKind) (left : Left) → Later more b (at_header home a head fault left) (at_header home b head fault left)
   header_later head (Some kind) left = alike refl
   header_later head None left = before_later (kind_of head.id) left
 
-  act_later : (act : Act) (left : Left) → Later more b (at_act home a act left) (at_act home b act left)
+  pub act_later : (act : Act) (left : Left) → Later more b (at_act home a act left) (at_act home b act left)
   act_later (Kind kind) left = alike refl
   act_later (Reads head given) left =
       let fault = header_fault home.role left head in

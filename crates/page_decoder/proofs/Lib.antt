@@ -83,3 +83,19 @@ mod Tallying
 mod Opening
 -- Kept::close and what it calls
 mod Laying
+-- the resolving of includes: list_next, pass_files, go_on of Includes
+mod ResolveSteps
+-- give_outline
+mod GivenOutlines
+-- the decoder: acts by events, what stays of first acts, entries
+mod ActsByEvents
+mod Onward
+mod Entries
+-- the functions of FileReader
+mod Answering
+mod Telling
+mod Sounding
+mod Eventing
+mod DataEvents
+mod Bounded
+mod ChunkEnds

@@ -23,7 +23,7 @@ use Rattle.page_decoder.specs.Headers.{Head, head_of, form_fault, header_fault}
 use Rattle.page_decoder.specs.ChunkData.{Outcome, Leaves, Unfinished, Fails, came}
 use Rattle.page_decoder.specs.Acts.{Act, Kind, Reads, Close, Waits, Breaks, Over, form_acts, complete_acts, tail_acts, acts_of}
 use Rattle.page_decoder.specs.Read.{Step, On, Ends, and_then, after, reaching, counting, inheriting, nothing_pending, with_chunk, refused_at, at_result, in_files, at_verdict, listing, at_target, at_include, resolved, all_resolved, resolved_before, at_form, at_header, at_outcome, at_data, at_act, finished, at_over, at_close, read_from, step_through}
-use Rattle.page_decoder.specs.Needs.{IsGood, IsNext, IsUnknown}
+use Rattle.page_decoder.specs.Needs.{IsGood, IsTarget, IsNext, IsUnknown}
 
 -- of the file's chunks this is known, by their headers and data
 abbrev pub IsFine : (Head → Data → Type 0) → Act → Type 0
@@ -48,7 +48,7 @@ pub record Rules (home : Home) (known : Known) (fine : Head → Data → Type 0)
   pub inherits : (at : Option Head) (found : Option (List Pixels)) (left : Left) → I at left → I at (inheriting found left)
   pub none_left : (at : Option Head) (left : Left) → I at left → I at (nothing_pending left)
   pub unknown : (at : Option Head) (left : Left) (file : ℕ) → IsUnknown home known left.decoded.pending file → I at left → P left (NeedOutline file)
-  pub lacks : (at : Option Head) (left : Left) (file : ℕ) (next : IsNext home known left.decoded.pending file) → named next.include → I at left
+  pub lacks : (at : Option Head) (left : Left) (file : ℕ) (next : IsNext home known left.decoded.pending file) → named next.of_include.include → I at left
       → P (reaching file left) (NeedFile file)
   pub graph_fault : (at : Option Head) (left : Left) (target : ℕ) (fault : Fault) → target < length home.names
       → listing home.role home known target ≡ verdict.Refused fault → I at left → P left (Refused fault)
@@ -174,15 +174,22 @@ module _ (home : Home) (known : Known) (fine : Head → Data → Type 0) (named 
   with_holds pending at now (On left) next all h = all left h.0 h.1
   with_holds pending at now (Ends read) next all h = h
 
+  -- a target of an include, of which this is known
+  abbrev Asked : List Include → ℕ → Type 0
+  Asked pending target = (it : IsTarget home.names pending target) × named it.include
+
+  asked_now : (pending : List Include) (target : ℕ) (left : Left) → left.decoded.pending ≡ pending → Asked pending target → Asked left.decoded.pending target
+  asked_now pending target left p asked = subst (λ l. Asked l target) (sym p) asked
+
   -- the files of a target's list, behind those that aren't refused
-  files_hold : (pending : List Include) (at : Option Head) (include : Include) (target : ℕ) → Contains pending include → named include
-      → number_of include.name home.names ≡ Some target → (before files : List ℕ) (found : Option (List Pixels)) (left : Left)
-      → listing home.role home known target ≡ verdict.Files (before ++ files) → ((other : ℕ) → is_among other before ≡ true → IsGood known.results other)
-      → left.decoded.pending ≡ pending → I at left → HoldsWith pending at (in_files known files found left)
-  files_hold pending at include target has n m before [] found left v good p i = (rules.inherits at found left i, p)
-  files_hold pending at include target has n m before (file ∷ files) found left v good p i =
+  files_hold : (pending : List Include) (at : Option Head) (target : ℕ) → Asked pending target → (before files : List ℕ) (found : Option (List Pixels))
+      (left : Left) → listing home.role home known target ≡ verdict.Files (before ++ files)
+      → ((other : ℕ) → is_among other before ≡ true → IsGood known.results other) → left.decoded.pending ≡ pending → I at left
+      → HoldsWith pending at (in_files known files found left)
+  files_hold pending at target asked before [] found left v good p i = (rules.inherits at found left i, p)
+  files_hold pending at target asked before (file ∷ files) found left v good p i =
       by (known.results file) refl
-      (λ it e fine now. files_hold pending at include target has n m (before ++ file ∷ []) files now (reaching file left)
+      (λ it e fine now. files_hold pending at target asked (before ++ file ∷ []) files now (reaching file left)
       (v ∙ ap verdict.Files (sym (append_assoc before (file ∷ []) files)))
       (good_last known.results before file good (record { result = it; known = e; good = fine })) p (rules.reaches at left file it e i))
     where
@@ -191,47 +198,28 @@ module _ (home : Home) (known : Known) (fine : Head → Data → Type 0) (named 
           → HoldsWith pending at (in_files known files now (reaching file left)))
           → HoldsWith pending at (at_result (in_files known files) file there left)
       by None e next =
+          let now = asked_now pending target left p asked in
           rules.lacks at left file
-          (record {
-            include = include;
-            is_pending = subst (λ l. Contains l include) (sym p) has;
-            target = target;
-            number = m;
-            below = number_below include.name target m;
-            before = before;
-            others = files;
-            list = v;
-            good = good;
-            lacking = e;
-          }) n i
+          (record { target = target; of_include = now.0; before = before; others = files; list = v; good = good; lacking = e }) now.1 i
       by (Some (Dictionary shapes)) e next = next (Dictionary shapes) e (λ fault w. cc) (Some shapes)
       by (Some Nothing) e next = next Nothing e (λ fault w. cc) None
-      by (Some (result.Refused fault)) e next = rules.file_fault at left file fault target before files (number_below include.name target m) v e i
+      by (Some (result.Refused fault)) e next = rules.file_fault at left file fault target before files asked.0.below v e i
 
-  verdict_holds : (pending : List Include) (at : Option Head) (include : Include) (target : ℕ) → Contains pending include → named include
-      → number_of include.name home.names ≡ Some target → (it : Verdict) (left : Left) → listing home.role home known target ≡ it
-      → left.decoded.pending ≡ pending → I at left → HoldsWith pending at (at_verdict known it left)
-  verdict_holds pending at include target has n m (verdict.Files files) left v p i =
-      files_hold pending at include target has n m [] files None left v (λ other m. absurd (true≢false (sym m))) p i
-  verdict_holds pending at include target has n m (verdict.NeedOutline file) left v p i =
-      rules.unknown at left file
-      (record {
-        include = include;
-        is_pending = subst (λ l. Contains l include) (sym p) has;
-        target = target;
-        number = m;
-        below = number_below include.name target m;
-        list = v;
-      }) i
-  verdict_holds pending at include target has n m (verdict.Refused fault) left v p i =
-      rules.graph_fault at left target fault (number_below include.name target m) v i
+  verdict_holds : (pending : List Include) (at : Option Head) (target : ℕ) → Asked pending target → (it : Verdict) (left : Left)
+      → listing home.role home known target ≡ it → left.decoded.pending ≡ pending → I at left → HoldsWith pending at (at_verdict known it left)
+  verdict_holds pending at target asked (verdict.Files files) left v p i =
+      files_hold pending at target asked [] files None left v (λ other m. absurd (true≢false (sym m))) p i
+  verdict_holds pending at target asked (verdict.NeedOutline file) left v p i =
+      rules.unknown at left file (record { target = target; of_include = (asked_now pending target left p asked).0; list = v }) i
+  verdict_holds pending at target asked (verdict.Refused fault) left v p i = rules.graph_fault at left target fault asked.0.below v i
 
   target_holds : (pending : List Include) (at : Option Head) (include : Include) (target : Option ℕ) (left : Left) → Contains pending include
       → named include → number_of include.name home.names ≡ target → left.decoded.pending ≡ pending → I at left
       → HoldsWith pending at (at_target home known include.offset target left)
   target_holds pending at include None left has n m p i = rules.own_fault at fault.MissingInclude include.offset left i
   target_holds pending at include (Some target) left has n m p i =
-      verdict_holds pending at include target has n m (listing home.role home known target) left refl p i
+      verdict_holds pending at target (record { include = include; is_pending = has; number = m; below = number_below include.name target m }, n)
+      (listing home.role home known target) left refl p i
 
   resolved_holds : (pending : List Include) (at : Option Head) (includes : List Include) (left : Left) → AllByRecursion named includes
       → ((include : Include) → Contains includes include → Contains pending include) → left.decoded.pending ≡ pending → I at left
@@ -259,7 +247,7 @@ module _ (home : Home) (known : Known) (fine : Head → Data → Type 0) (named 
   before_holds kind.Refused at left i = i
   before_holds kind.Passed at left i = i
 
-  header_holds : (head : Head) (found : Option FaultKind) (left : Left) → header_fault home.role left head ≡ found → I None left
+  pub header_holds : (head : Head) (found : Option FaultKind) (left : Left) → header_fault home.role left head ≡ found → I None left
       → Holds I P (Some head) (at_header home known head found left)
   header_holds head (Some kind) left e i = rules.own_fault None kind head.offset left i
   header_holds head None left e i = before_holds (kind_of head.id) (Some head) left (rules.begins head left e i)

@@ -90,14 +90,19 @@ module _ (outline : Outline) where
   abbrev NeedsIncluded : Home → Left → Ending → Type 0
   NeedsIncluded home left end = (file : ℕ) → end ≡ NeedFile file → home.role ≡ Included → IncludesFile home.names outline file
 
-  lacks_included : (home : Home) (known : Known) (pending : List Include) (file other : ℕ) (next : IsNext home known pending file) → Named next.include
-      → NeedFile file ≡ NeedFile other → home.role ≡ Included → IncludesFile home.names outline other
+  lacks_included : (home : Home) (known : Known) (pending : List Include) (file other : ℕ) (next : IsNext home known pending file)
+      → Named next.of_include.include → NeedFile file ≡ NeedFile other → home.role ≡ Included → IncludesFile home.names outline other
   lacks_included home known pending file other next n e role =
       let list : verdict.Files (next.target ∷ []) ≡ verdict.Files (next.before ++ file ∷ next.others) =
       subst (λ r. listing r home known next.target ≡ verdict.Files (next.before ++ file ∷ next.others)) role next.list in
       let it : next.target ≡ file = alone next.target file next.before next.others (same_list (next.target ∷ []) (next.before ++ file ∷ next.others) list) in
       let same : file ≡ other = cc in
-      record { name = next.include.name; offset = next.include.offset; has = n; number = next.number ∙ ap Some (it ∙ same) }
+      record {
+        name = next.of_include.include.name;
+        offset = next.of_include.include.offset;
+        has = n;
+        number = next.of_include.number ∙ ap Some (it ∙ same);
+      }
 
   rules : (home : Home) (known : Known) → Rules home known Fine Named AllNamed (NeedsIncluded home)
   rules home known = record {

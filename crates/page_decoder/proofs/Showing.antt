@@ -16,11 +16,12 @@ use Rattle.page_decoder.specs.Given.{Role, Page, Included, Home, Known, Given}
 use Rattle.page_decoder.specs.PageRead.{Drawing, last_layers, Ending, Finished, Refused, Decoded, Left, at_start}
 use Rattle.page_decoder.specs.Headers.{Head, first_fault, page_fault, header_fault}
 use Rattle.page_decoder.specs.ChunkData.{Leaves, came, came_by}
-use Rattle.page_decoder.specs.Acts.{acts_of, close_in}
-use Rattle.page_decoder.specs.Read.{drawing_by, drawing_of, refused_at, listing, read}
+use Rattle.page_decoder.specs.Acts.{Act, acts_of, close_in}
+use Rattle.page_decoder.specs.Read.{drawing_by, drawing_of, refused_at, listing, On, step_through, read}
 use Rattle.page_decoder.proofs.Asking.{Order, listed_below}
+use Rattle.page_decoder.proofs.Numbering.{number_below}
 use Rattle.page_decoder.proofs.Leaving.{Brings, brings}
-use Rattle.page_decoder.proofs.Ruling.{Rules, from_holds, any_chunk, any_include, any_acts, any_includes}
+use Rattle.page_decoder.proofs.Ruling.{Rules, Holds, from_holds, through_holds, any_chunk, any_include, any_acts, any_includes}
 
 -- the first chunk of a page is an INFO
 first_kind : (of : ChunkKind) (size : ℕ) → first_fault of size ≡ None → of ≡ kind.Info
@@ -125,7 +126,7 @@ begun home head left e other s page none =
 end_of_refused : (fault : Fault) → Refused fault ≡ Finished → ⊥
 end_of_refused fault e = cc
 
-rules : (home : Home) (known : Known) → Rules home known any_chunk any_include (Shows home) (Shown home)
+pub rules : (home : Home) (known : Known) → Rules home known any_chunk any_include (Shows home) (Shown home)
 rules home known = record {
   begins = λ head left e i. record { some = i.some; first = begun home head left e; last = i.last };
   chunk = λ head given decoded left f e i. record {
@@ -150,6 +151,13 @@ rules home known = record {
   own_fault = λ at kind offset left i. record { drawn = λ e. absurd (end_of_refused _ e); layers = i.last };
   finishes = λ left some i. record { drawn = λ e page. i.some page (some page); layers = i.last };
 }
+
+-- behind acts that went on
+pub left_shows : (home : Home) (known : Known) (acts : List Act) (left : Left) → step_through home known acts at_start ≡ On left → Shows home None left
+left_shows home known acts left e =
+    subst (λ s. Holds (Shows home) (Shown home) None s) e
+    (through_holds home known any_chunk any_include (Shows home) (Shown home) (rules home known) (number_below home.names) acts at_start (any_acts acts)
+    (record { some = λ page n. absurd (n refl); first = λ head none. absurd (cc); last = refl }))
 
 pub shown : (given : Given) → ((name : List ℕ) (target : ℕ) → number_of name given.home.names ≡ Some target → target < length given.home.names)
     → Shown given.home (read given).left (read given).end

@@ -57,7 +57,7 @@ listed_result table library file it (verdict.Refused fault) v e = let wrong : No
 pub never_lacks : Listed → (table : List Row) (library : Library) (page file : ℕ)
     → (pending : List Include) → IsNext (run_given table library page).home (run_given table library page).known pending file → ⊥
 never_lacks listed table library page file pending next =
-    let list = listed (graph_of library) next.target file (next.before ++ file ∷ next.others) next.below next.list
+    let list = listed (graph_of library) next.target file (next.before ++ file ∷ next.others) next.of_include.below next.list
     (among_behind file next.before next.others) in
     let wrong : None ≡ Some (res_of table library file).result = sym next.lacking ∙ result_there table library file list.0 list.1 in cc
 

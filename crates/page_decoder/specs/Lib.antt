@@ -29,8 +29,16 @@ pub mod Acts
 pub mod Read
 pub mod Libraries
 pub mod Needs
+pub mod Resolving
 pub mod WorkedPages
 -- how what the code keeps of a file that is read stands to that
 pub mod LayerState
 pub mod Kept
 pub mod Opened
+-- the decoder of a page
+pub mod ActsTold
+pub mod Decoder
+pub mod FileReading
+pub mod FileSteps
+pub mod PageFed
+pub mod FileDecoding

@@ -45,13 +45,17 @@ pub record IsGood (results : ℕ → Option Result) (file : ℕ) : Type 0 where
   pub known : results file ≡ Some result
   pub good : (fault : Fault) → result ≢ RefusedFile fault
 
--- what a file gives isn't known. It stands in the list of the target of an include that is pending, behind files that aren't refused
-pub record IsNext (home : Home) (known : Known) (pending : List Include) (file : ℕ) : Type 0 where
+-- a file is the target of an include that is pending
+pub record IsTarget (names : List (List ℕ)) (pending : List Include) (target : ℕ) : Type 0 where
   pub include : Include
   pub is_pending : Contains pending include
+  pub number : number_of include.name names ≡ Some target
+  pub below : target < length names
+
+-- what a file gives isn't known. It stands in the list of the target of an include that is pending, behind files that aren't refused
+pub record IsNext (home : Home) (known : Known) (pending : List Include) (file : ℕ) : Type 0 where
   pub target : ℕ
-  pub number : number_of include.name home.names ≡ Some target
-  pub below : target < length home.names
+  pub of_include : IsTarget home.names pending target
   pub before : List ℕ
   pub others : List ℕ
   pub list : listing home.role home known target ≡ verdict.Files (before ++ file ∷ others)
@@ -60,11 +64,8 @@ pub record IsNext (home : Home) (known : Known) (pending : List Include) (file :
 
 -- the outline of a file isn't known, at which the verdict on the target of an include stands that is pending
 pub record IsUnknown (home : Home) (known : Known) (pending : List Include) (file : ℕ) : Type 0 where
-  pub include : Include
-  pub is_pending : Contains pending include
   pub target : ℕ
-  pub number : number_of include.name home.names ≡ Some target
-  pub below : target < length home.names
+  pub of_include : IsTarget home.names pending target
   pub list : listing home.role home known target ≡ verdict.NeedOutline file
 
 -- each number is a byte

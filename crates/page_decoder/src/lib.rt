@@ -18,20 +18,34 @@
 
 mod brought;
 mod closing;
+mod decoder;
 mod drawings;
 mod ends;
+mod file_chunks;
+mod file_decoding;
+mod file_ends;
+mod file_events;
+mod file_reader;
+mod headers;
 mod kept;
 mod kinds;
 pub mod laws;
+mod listing;
 mod layer_reader;
 mod open_chunks;
+mod other_files;
 mod page;
 pub mod page_laws;
 mod page_layers;
 mod places;
 mod reading;
+mod resolving;
+mod roles;
+mod unread;
 mod walk;
 
+pub use decoder::{PageDecoder, PageStep};
 pub use ends::PageEnd;
+pub use file_decoding::{DecodedFile, decode_done, decode_file};
 pub use page::Size;
 pub use reading::{Drawn, PageReading, read_page};

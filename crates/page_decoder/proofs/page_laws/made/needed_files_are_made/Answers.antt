@@ -14,10 +14,10 @@ returns c table library results page file e =
     let pending = (read given).left.decoded.pending in
     let graph = graph_of library in
     let next = subst (λ end. Because given.home given.known pending end) e (c.needs.ensures.because given) in
-    let order = c.lists.ensures.order graph next.target (next.before ++ file ∷ next.others) next.below next.list in
+    let order = c.lists.ensures.order graph next.target (next.before ++ file ∷ next.others) next.of_include.below next.list in
     record {
       target = next.target;
-      below = subst (λ n. next.target < n) (length_names library) next.below;
+      below = subst (λ n. next.target < n) (length_names library) next.of_include.below;
       files = next.before ++ file ∷ next.others;
       list = next.list;
       listed = among_behind file next.before next.others;

@@ -99,3 +99,6 @@ mod Eventing
 mod DataEvents
 mod Bounded
 mod ChunkEnds
+-- decode_done: an included file has no drawing; what it gives
+mod Drawless
+mod Gifts

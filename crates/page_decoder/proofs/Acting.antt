@@ -112,12 +112,12 @@ module _ (long : Close) where
 abbrev pub close_by : Mark → ℕ → Chunks → Close
 close_by mark arrived chunks = close_of (origin_of chunks.form) (closed mark arrived chunks.whole chunks.tail)
 
-closed_end : (mark : Mark) (arrived : ℕ) (whole : List Chunk) → closed mark arrived whole FormEnd ≡ FormEnd
+pub closed_end : (mark : Mark) (arrived : ℕ) (whole : List Chunk) → closed mark arrived whole FormEnd ≡ FormEnd
 closed_end Open arrived whole = refl
 closed_end Whole arrived whole = refl
 closed_end library.Broken arrived whole = refl
 
-closed_broken : (mark : Mark) (arrived : ℕ) (whole : List Chunk) (kind : FaultKind) (offset : ℕ) → is_cut kind ≡ false
+pub closed_broken : (mark : Mark) (arrived : ℕ) (whole : List Chunk) (kind : FaultKind) (offset : ℕ) → is_cut kind ≡ false
     → closed mark arrived whole (Broken kind offset) ≡ Broken kind offset
 closed_broken Open arrived whole kind offset n = refl
 closed_broken Whole arrived whole kind offset n = refl
@@ -127,7 +127,7 @@ cut_is : (kind : FaultKind) → is_cut kind ≡ true → kind ≡ Truncated
 cut_is Truncated e = refl
 cut_is kind e = cc
 
-not_cut : (kind : FaultKind) (cut : Bool) → is_cut kind ≡ cut → kind ≢ Truncated → is_cut kind ≡ false
+pub not_cut : (kind : FaultKind) (cut : Bool) → is_cut kind ≡ cut → kind ≢ Truncated → is_cut kind ≡ false
 not_cut kind true e never = absurd (never (cut_is kind e))
 not_cut kind false e never = e
 

@@ -111,7 +111,7 @@ behind_open acts None ended all others e = (others, e ∙ ap (λ l. l ++ others)
 behind_open acts (Some chunk) ended all others e = ([], ended, others, e ∙ no_rest acts chunk ended others)
 
 -- what goes on from one more event goes on from what was told before it
-before_data : (acts : List Act) (chunk : Option OpenChunk) (bytes : List ℕ) (all : List Act) → GoOnFrom acts (with_bytes bytes chunk) all → GoOnFrom acts chunk all
+pub before_data : (acts : List Act) (chunk : Option OpenChunk) (bytes : List ℕ) (all : List Act) → GoOnFrom acts (with_bytes bytes chunk) all → GoOnFrom acts chunk all
 before_data acts None bytes all g = g
 before_data acts (Some chunk) bytes all g =
     (bytes ++ g.0, g.1, g.2, g.3 ∙ ap (λ b. acts ++ Reads chunk.head (data_of b g.1) ∷ g.2) (append_assoc chunk.bytes bytes g.0))

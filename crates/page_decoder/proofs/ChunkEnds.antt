@@ -30,15 +30,16 @@ use Rattle.page_decoder.specs.Acts.{Act, Reads, acts_of, close_in}
 use Rattle.page_decoder.specs.Read.{Step, On, Ends, and_then, after, counting, refused_at, with_chunk, drawing_of, drawing_by, at_header, at_outcome, at_data, at_act, step_through, read_from, read}
 use Rattle.page_decoder.specs.Needs.{Below}
 use Rattle.page_decoder.specs.ActsTold.{OpenChunk, ActsTold, acts_so, after_event}
-use Rattle.page_decoder.specs.Resolving.{Waits}
+use Rattle.page_decoder.specs.Resolving.{Resolving, Waits}
 use Rattle.page_decoder.specs.Kept.{Keeps}
-use Rattle.page_decoder.specs.Opened.{Opens, ClosesTo, Draws, LayersStay, announced, decisions_of}
+use Rattle.page_decoder.specs.Opened.{Opens, Closes, ClosesTo, Draws, LayersStay, announced, decisions_of}
 use Rattle.page_decoder.specs.FileReading.{IsOf, Walks, Holds, HoldsChunk, HasOpened, reached, decisions_in, IsWalking, StandsAt, StandsBefore, Answers, Moves, ComesTo, IsTold}
 use Rattle.page_decoder.specs.FileSteps.{HasClosed, HasLeft, Adds, IsNoMemory}
 use Rattle.page_decoder.proofs.ResolveSteps.{waits_along, waits_with}
 use Rattle.page_decoder.proofs.Leaving.{Brings, brings}
 use Rattle.page_decoder.proofs.Retaining.{from_below, outcome_below, after_below}
-use Rattle.page_decoder.proofs.Showing.{left_shows}
+use Rattle.page_decoder.proofs.Numbering.{number_below}
+use Rattle.page_decoder.proofs.Showing.{shows_on}
 use Rattle.page_decoder.proofs.Onward.{first_on, through_last}
 use Rattle.page_decoder.proofs.Sounding.{Container, data_sound}
 use Rattle.page_decoder.proofs.Bounded.{FewChunks, few_acts, few_drawings, chunks_reached}
@@ -139,20 +140,25 @@ module _ (given : Given) (rest used : List ℕ) (reader : FileReader) (law : Con
       }
 
   module _ (t : IsTold given rest event.ChunkEnd used reader) (chunk : ChunkAtHand) (e : IsEnded given reader chunk t.now t.so_far.acts t.left)
-      (answer : Option PageStep) (next : FileReader) (h : HasClosed chunk answer (record reader { chunk = None }) next) (none : next.chunk ≡ None)
-      (stays : next ≡ record reader { chunk = None; kept = next.kept; includes = next.includes; chunks = next.chunks; drawn = next.drawn;
-      decisions = next.decisions }) where
+      (answer : Option PageStep) (next : FileReader) (h : HasClosed chunk answer (record reader { chunk = None }) next) where
     abbrev it : Came
     it = data_came t.now.home.table chunk.head (data_of e.bytes true) t.left.decoded
-
-    abbrev data_here : Data
-    data_here = data_of e.bytes true
 
     closes : ClosesTo h.closed (min (reader.chunks + 1) (2 ^ 32 - 1)) t.now.home.table chunk.head t.left.decoded it next.kept
     closes = h.closes t.now.home.table t.left.decoded e.bytes e.opens e.whole
 
+  module _ (t : IsTold given rest event.ChunkEnd used reader) (chunk : ChunkAtHand) (e : IsEnded given reader chunk t.now t.so_far.acts t.left)
+      (answer : Option PageStep) (next : FileReader) (h : HasClosed chunk answer (record reader { chunk = None }) next) (none : next.chunk ≡ None)
+      (stays : next ≡ record reader { chunk = None; kept = next.kept; includes = next.includes; chunks = next.chunks; drawn = next.drawn;
+      decisions = next.decisions }) where
+    abbrev mine : Came
+    mine = it t chunk e answer next h
+
+    abbrev data_here : Data
+    data_here = data_of e.bytes true
+
     -- all that is given is read on from the chunk's outcome
-    reads : read given ≡ after (at_outcome given.home chunk.head it.decisions it.outcome t.left)
+    reads : read given ≡ after (at_outcome given.home chunk.head mine.decisions mine.outcome t.left)
         (read_from given.home given.known (close_in given.mark given.bytes) e.others)
     reads =
         let on = subst (λ x. and_then (step_through t.now.home x t.so_far.acts at_start)
@@ -165,8 +171,8 @@ module _ (given : Given) (rest used : List ℕ) (reader : FileReader) (law : Con
         (read_from given.home given.known (close_in given.mark given.bytes) e.others)) (sym t.within.home)
 
     total : next.decisions ≡ ticked h.closed.decisions reader.decisions → h.closed.came ≢ came.OutOfMemory
-        → TicksExactly (t.left.told.decisions + it.decisions) 0 next.decisions
-    total d n = both_ticks it.decisions t.left.told.decisions h.closed.decisions reader.decisions next.decisions (closes.all n) t.holds.decisions_are d
+        → TicksExactly (t.left.told.decisions + mine.decisions) 0 next.decisions
+    total d n = both_ticks mine.decisions t.left.told.decisions h.closed.decisions reader.decisions next.decisions ((closes t chunk e answer next h).all n) t.holds.decisions_are d
 
     -- all decisions are those of complete chunks
     none_open : (all : ℕ) → TicksExactly all 0 next.decisions → TicksExactly all 0 (decisions_in next)
@@ -178,18 +184,18 @@ module _ (given : Given) (rest used : List ℕ) (reader : FileReader) (law : Con
     }
 
     -- the reader stands behind the chunk
-    stands_next : (decoded : Decoded) → it.outcome ≡ Leaves decoded → Keeps t.now.home.table decoded next.kept
+    stands_next : (decoded : Decoded) → mine.outcome ≡ Leaves decoded → Keeps t.now.home.table decoded next.kept
         → Waits t.now.home t.now.known decoded next.includes → next.chunks ≡ suc t.left.chunks
-        → next.drawn ≡ length (with_chunk chunk.head it.decisions decoded t.left).told.drawings
-        → TicksExactly (t.left.told.decisions + it.decisions) 0 next.decisions → StandsBefore given rest next
+        → next.drawn ≡ length (with_chunk chunk.head mine.decisions decoded t.left).told.drawings
+        → TicksExactly (t.left.told.decisions + mine.decisions) 0 next.decisions → StandsBefore given rest next
     stands_next decoded leaves keeps waits chunks drawn count =
         let home = t.now.home in
         let known = t.now.known in
         let header = λ (x : Left). at_header home known chunk.head (header_fault home.role x chunk.head) x in
-        let behind = with_chunk chunk.head it.decisions decoded t.left in
+        let behind = with_chunk chunk.head mine.decisions decoded t.left in
         let parts = first_on (step_through home known t.so_far.acts at_start) header t.left e.on in
         let act : at_act home known (Reads chunk.head data_here) parts.0 ≡ On behind =
-        ap (λ s. and_then s (at_data home chunk.head data_here)) parts.2 ∙ ap (λ o. at_outcome home chunk.head it.decisions o t.left) leaves in
+        ap (λ s. and_then s (at_data home chunk.head data_here)) parts.2 ∙ ap (λ o. at_outcome home chunk.head mine.decisions o t.left) leaves in
         let on : step_through home known (t.so_far.acts ++ Reads chunk.head data_here ∷ []) at_start ≡ On behind =
         through_last home known t.so_far.acts (Reads chunk.head data_here) at_start parts.0 behind parts.1 act in
         let walking : IsWalking t.now here = record {
@@ -205,7 +211,7 @@ module _ (given : Given) (rest used : List ℕ) (reader : FileReader) (law : Con
             tallies = record {
               chunks_are = chunks;
               drawn_are = drawn;
-              last_is = (left_shows home known (t.so_far.acts ++ Reads chunk.head data_here ∷ []) behind on).last;
+              last_is = (shows_on home known (number_below home.names) (t.so_far.acts ++ Reads chunk.head data_here ∷ []) behind on).last;
             };
           };
         } in
@@ -226,52 +232,52 @@ module _ (given : Given) (rest used : List ℕ) (reader : FileReader) (law : Con
     unlaid l = l ∙ e.opens.layers_are ∙ t.holds.tallies.last_is
 
     -- data that fail
-    fails : (wrong : FaultKind) → it.outcome ≡ Fails wrong → next.drawn ≡ reader.drawn → next.kept.layers ≡ reader.kept.layers
-        → TicksExactly (t.left.told.decisions + it.decisions) 0 next.decisions
+    fails : (wrong : FaultKind) → mine.outcome ≡ Fails wrong → next.drawn ≡ reader.drawn → next.kept.layers ≡ reader.kept.layers
+        → TicksExactly (t.left.told.decisions + mine.decisions) 0 next.decisions
         → Answers given rest (step.Refused (fault_at wrong reader.file chunk.head.offset)) reader next
     fails wrong o d l n =
-        let found : read given ≡ record { left = counting it.decisions t.left; end = refused_at given.home wrong chunk.head.offset } =
-        reads ∙ ap (λ x. after (at_outcome given.home chunk.head it.decisions x t.left)
+        let found : read given ≡ record { left = counting mine.decisions t.left; end = refused_at given.home wrong chunk.head.offset } =
+        reads ∙ ap (λ x. after (at_outcome given.home chunk.head mine.decisions x t.left)
         (read_from given.home given.known (close_in given.mark given.bytes) e.others)) o in
         subst (λ m. Answers given rest (step.Refused (fault_at wrong m chunk.head.offset)) reader next) file_is
-        (ends_answer given rest reader next (counting it.decisions t.left) (refused_at given.home wrong chunk.head.offset) found
-        t.holds.tallies.drawn_are d (none_open (t.left.told.decisions + it.decisions) n) (unlaid l) (λ w. absurd (cc)) (λ w. absurd w))
+        (ends_answer given rest reader next (counting mine.decisions t.left) (refused_at given.home wrong chunk.head.offset) found
+        t.holds.tallies.drawn_are d (none_open (t.left.told.decisions + mine.decisions) n) (unlaid l) (λ w. absurd (cc)) (λ w. absurd w))
 
     -- what all that is given tells is no less than the chunk's decisions
-    told_more : Below (counting it.decisions t.left).told (read given).left.told
+    told_more : Below (counting mine.decisions t.left).told (read given).left.told
     told_more =
         let close = close_in given.mark given.bytes in
-        subst (λ r. Below (counting it.decisions t.left).told r.left.told) (sym reads)
-        (after_below (counting it.decisions t.left).told (at_outcome given.home chunk.head it.decisions it.outcome t.left)
+        subst (λ r. Below (counting mine.decisions t.left).told r.left.told) (sym reads)
+        (after_below (counting mine.decisions t.left).told (at_outcome given.home chunk.head mine.decisions mine.outcome t.left)
         (read_from given.home given.known close e.others) (from_below given.home given.known close e.others)
-        (outcome_below given.home chunk.head it.decisions it.outcome t.left))
+        (outcome_below given.home chunk.head mine.decisions mine.outcome t.left))
 
     -- there was no memory
     lacks : next.drawn ≡ reader.drawn → next.kept.layers ≡ reader.kept.layers → next.decisions ≡ ticked h.closed.decisions reader.decisions
         → Answers given rest step.OutOfMemory reader next
     lacks d l n =
-        let most : next.decisions ≤ ticked (t.left.told.decisions + it.decisions) 0 =
-        both_within it.decisions t.left.told.decisions h.closed.decisions reader.decisions next.decisions closes.at_most t.holds.decisions_are n in
-        let alone : decisions_in next ≡ next.decisions = none_more next none ∙ small next.decisions (t.left.told.decisions + it.decisions) most in
-        memory_answer given rest reader next t.left.told (t.left.told.decisions + it.decisions) told_more.drawings told_more.decisions
-        t.holds.tallies.drawn_are d (subst (λ k. k ≤ ticked (t.left.told.decisions + it.decisions) 0) (sym alone) most) (unlaid l)
+        let most : next.decisions ≤ ticked (t.left.told.decisions + mine.decisions) 0 =
+        both_within mine.decisions t.left.told.decisions h.closed.decisions reader.decisions next.decisions (closes t chunk e answer next h).at_most t.holds.decisions_are n in
+        let alone : decisions_in next ≡ next.decisions = none_more next none ∙ small next.decisions (t.left.told.decisions + mine.decisions) most in
+        memory_answer given rest reader next t.left.told (t.left.told.decisions + mine.decisions) told_more.drawings told_more.decisions
+        t.holds.tallies.drawn_are d (subst (λ k. k ≤ ticked (t.left.told.decisions + mine.decisions) 0) (sym alone) most) (unlaid l)
 
     -- the chunk brings a drawing
-    draws : (notice : Announced) → Draws notice (min (reader.chunks + 1) (2 ^ 32 - 1)) t.now.home.table chunk.head it.outcome next.kept
+    draws : (notice : Announced) → Draws notice (min (reader.chunks + 1) (2 ^ 32 - 1)) t.now.home.table chunk.head mine.outcome next.kept
         → next.chunks ≡ min (reader.chunks + 1) (2 ^ 32 - 1) → next.drawn ≡ min (reader.drawn + 1) (2 ^ 32 - 1)
-        → next.includes ≡ reader.includes → TicksExactly (t.left.told.decisions + it.decisions) 0 next.decisions
+        → next.includes ≡ reader.includes → TicksExactly (t.left.told.decisions + mine.decisions) 0 next.decisions
         → Answers given rest (step.Drew notice) reader next
     draws notice d chunks drawn includes n =
-        let all = t.left.told.decisions + it.decisions in
+        let all = t.left.told.decisions + mine.decisions in
         let one = one_drawn (kind_of chunk.head.id) (suc t.left.chunks) all d.decoded.layers d.brings in
         let drawing : Drawing = record { chunks = suc t.left.chunks; decisions = all; layers = d.layers } in
         let new : drawing_by (kind_of chunk.head.id) (suc t.left.chunks) all d.decoded.layers ≡ drawing ∷ [] =
         one.0 ∙ ap (drawing_of (suc t.left.chunks) all) d.sized in
-        let behind = with_chunk chunk.head it.decisions d.decoded t.left in
+        let behind = with_chunk chunk.head mine.decisions d.decoded t.left in
         let told : behind.told.drawings ≡ t.left.told.drawings ++ drawing ∷ [] = ap (λ x. t.left.told.drawings ++ x) new in
         let close = close_in given.mark given.bytes in
         let found : read given ≡ read_from given.home given.known close e.others behind =
-        reads ∙ ap (λ x. after (at_outcome given.home chunk.head it.decisions x t.left) (read_from given.home given.known close e.others)) d.leaves in
+        reads ∙ ap (λ x. after (at_outcome given.home chunk.head mine.decisions x t.left) (read_from given.home given.known close e.others)) d.leaves in
         let below : Below behind.told (read given).left.told =
         subst (λ r. Below behind.told r.left.told) (sym found) (from_below given.home given.known close e.others behind) in
         let front = subst (λ x. Front x (read given).left.told.drawings) told below.drawings in
@@ -292,15 +298,98 @@ module _ (given : Given) (rest used : List ℕ) (reader : FileReader) (law : Con
         (d.keeps.layers_are ∙ d.sized) stands)
 
     -- the chunk brings none
-    moves : (decoded : Decoded) → it.outcome ≡ Leaves decoded → Keeps t.now.home.table decoded next.kept → brings_drawing (kind_of chunk.head.id) ≡ false
+    moves : (decoded : Decoded) → mine.outcome ≡ Leaves decoded → Keeps t.now.home.table decoded next.kept → brings_drawing (kind_of chunk.head.id) ≡ false
         → Waits t.now.home t.now.known decoded next.includes → next.chunks ≡ min (reader.chunks + 1) (2 ^ 32 - 1) → next.drawn ≡ reader.drawn
-        → TicksExactly (t.left.told.decisions + it.decisions) 0 next.decisions → Moves given rest reader next
+        → TicksExactly (t.left.told.decisions + mine.decisions) 0 next.decisions → Moves given rest reader next
     moves decoded leaves keeps brings_none waits chunks drawn n =
-        let all = t.left.told.decisions + it.decisions in
+        let all = t.left.told.decisions + mine.decisions in
         let new = none_drawn (kind_of chunk.head.id) (suc t.left.chunks) all decoded.layers brings_none in
-        let told : (with_chunk chunk.head it.decisions decoded t.left).told.drawings ≡ t.left.told.drawings =
+        let told : (with_chunk chunk.head mine.decisions decoded t.left).told.drawings ≡ t.left.told.drawings =
         ap (λ x. t.left.told.drawings ++ x) new ∙ append-nil t.left.told.drawings in
         record {
           drawn = drawn;
           stands = stands_next decoded leaves keeps waits (chunks ∙ chunks_so) (drawn ∙ t.holds.tallies.drawn_are ∙ sym (ap length told)) n;
         }
+
+  -- behind a chunk that was closed nothing else changed
+  abbrev closed_with : FileReader → Resolving → ℕ → ℕ → FileReader
+  closed_with next includes chunks drawn = record reader {
+    chunk = None; kept = next.kept; includes = includes; chunks = chunks; drawn = drawn; decisions = next.decisions
+  }
+
+  stays_so : (next : FileReader) (includes : Resolving) (chunks drawn : ℕ) → next ≡ closed_with next includes chunks drawn
+      → next ≡ closed_with next next.includes next.chunks next.drawn
+  stays_so next includes chunks drawn e =
+      e ∙ ap (λ i. closed_with next i chunks drawn) (sym (ap (λ (r : FileReader). r.includes) e))
+      ∙ ap (λ k. closed_with next next.includes k drawn) (sym (ap (λ (r : FileReader). r.chunks) e))
+      ∙ ap (λ d. closed_with next next.includes next.chunks d) (sym (ap (λ (r : FileReader). r.drawn) e))
+
+  abbrev n : ℕ
+  n = min (reader.chunks + 1) (2 ^ 32 - 1)
+
+  abbrev before_it : FileReader → FileReader
+  before_it next = record reader { chunk = None; kept = next.kept; decisions = next.decisions }
+
+  -- the chunk at hand was closed at its end
+  pub chunk_comes : (t : IsTold given rest event.ChunkEnd used reader) (chunk : ChunkAtHand) → reader.chunk ≡ Some chunk → (answer : Option PageStep)
+      (next : FileReader) → HasClosed chunk answer (record reader { chunk = None }) next → ComesTo given rest answer reader next
+  chunk_comes t chunk at_hand answer next h =
+      by h.closed.came refl h.has_left (closes t chunk e answer next h).closes h.layers_stay
+    where
+      e : IsEnded given reader chunk t.now t.so_far.acts t.left
+      e = ended_so t chunk t.so_far.chunk refl t.walks t.holds.on
+          (subst (λ c. HoldsChunk t.now.home.table t.so_far.chunk c t.left.decoded reader.kept) at_hand t.holds.holds_chunk)
+
+      adds : (name : List ℕ) → h.closed.came ≡ came.Include name → (a : Option PageStep) → answer ≡ a
+          → Adds (record { name = name; offset = chunk.head.offset }) n a (before_it next) next
+          → Closes (came.Include name) n t.now.home.table chunk.head t.left.decoded (it t chunk e answer next h).outcome next.kept
+          → next.kept.layers ≡ reader.kept.layers → ComesTo given rest a reader next
+      adds name c None a l closes l_stays =
+          let stays = stays_so next _ n reader.drawn l in
+          let none : next.chunk ≡ None = ap (λ (r : FileReader). r.chunk) l in
+          let waits = subst (λ x. Waits t.now.home t.now.known (with_include name chunk.head.offset t.left.decoded) x)
+          (sym (ap (λ (r : FileReader). r.includes) l))
+          (waits_with t.now.home t.now.known t.left.decoded (record { name = name; offset = chunk.head.offset }) reader.includes t.holds.waits) in
+          moves t chunk e answer next h none stays (with_include name chunk.head.offset t.left.decoded) closes.leaves closes.keeps
+          (ap brings_drawing closes.is_kind) waits (ap (λ (r : FileReader). r.chunks) l) (ap (λ (r : FileReader). r.drawn) l)
+          (total t chunk e answer next h none stays h.decisions_are (λ o. absurd (clash name (sym c ∙ o))))
+        where
+          clash : (name : List ℕ) → came.Include name ≡ came.OutOfMemory → ⊥
+          clash name o = cc
+      adds name c (Some stop) a l closes l_stays =
+          let stays = stays_so next reader.includes reader.chunks reader.drawn l.1 in
+          subst (λ x. Answers given rest x reader next) (sym l.0)
+          (lacks t chunk e answer next h (ap (λ (r : FileReader). r.chunk) l.1) stays (ap (λ (r : FileReader). r.drawn) l.1) l_stays h.decisions_are)
+
+      by : (c : ChunkCame) → h.closed.came ≡ c → HasLeft chunk.head n c answer (before_it next) next
+          → Closes c n t.now.home.table chunk.head t.left.decoded (it t chunk e answer next h).outcome next.kept
+          → LayersStay c reader.kept.layers next.kept.layers → ComesTo given rest answer reader next
+      by (came.Drew notice) c l d s =
+          let stays = stays_so next reader.includes n (min (reader.drawn + 1) (2 ^ 32 - 1)) l.1 in
+          let none : next.chunk ≡ None = ap (λ (r : FileReader). r.chunk) l.1 in
+          subst (λ x. ComesTo given rest x reader next) (sym l.0)
+          (draws t chunk e answer next h none stays notice d (ap (λ (r : FileReader). r.chunks) l.1) (ap (λ (r : FileReader). r.drawn) l.1)
+          (ap (λ (r : FileReader). r.includes) l.1) (total t chunk e answer next h none stays h.decisions_are (λ o. let w = sym c ∙ o in cc)))
+      by came.Left c l d s =
+          let stays = stays_so next reader.includes n reader.drawn l.1 in
+          let none : next.chunk ≡ None = ap (λ (r : FileReader). r.chunk) l.1 in
+          let same = same_includes (kind_of chunk.head.id) t.now.home.table (data_of e.bytes true) chunk.head.offset t.left.decoded d.decoded (h.plain c)
+          (brings (kind_of chunk.head.id) t.now.home.table (data_of e.bytes true) chunk.head.offset t.left.decoded d.decoded d.leaves) in
+          let waits : Waits t.now.home t.now.known d.decoded next.includes =
+          subst (λ x. Waits t.now.home t.now.known d.decoded x) (sym (ap (λ (r : FileReader). r.includes) l.1))
+          (waits_along t.now.home t.now.known t.left.decoded d.decoded reader.includes same.0 same.1 t.holds.waits) in
+          subst (λ x. ComesTo given rest x reader next) (sym l.0)
+          (moves t chunk e answer next h none stays d.decoded d.leaves d.keeps d.brings waits (ap (λ (r : FileReader). r.chunks) l.1)
+          (ap (λ (r : FileReader). r.drawn) l.1) (total t chunk e answer next h none stays h.decisions_are (λ o. let w = sym c ∙ o in cc)))
+      by (came.Include name) c l d s = adds name c answer refl l d s
+      by (came.Refused wrong) c l d s =
+          let stays = stays_so next reader.includes reader.chunks reader.drawn l.1 in
+          let none : next.chunk ≡ None = ap (λ (r : FileReader). r.chunk) l.1 in
+          subst (λ x. ComesTo given rest x reader next) (sym l.0)
+          (fails t chunk e answer next h none stays wrong d (ap (λ (r : FileReader). r.drawn) l.1) s
+          (total t chunk e answer next h none stays h.decisions_are (λ o. let w = sym c ∙ o in cc)))
+      by came.OutOfMemory c l d s =
+          let stays = stays_so next reader.includes reader.chunks reader.drawn l.1 in
+          let none : next.chunk ≡ None = ap (λ (r : FileReader). r.chunk) l.1 in
+          subst (λ x. ComesTo given rest x reader next) (sym l.0)
+          (lacks t chunk e answer next h none stays (ap (λ (r : FileReader). r.drawn) l.1) s h.decisions_are)

@@ -16,6 +16,7 @@ use Rattle.page_decoder.specs.declared.file_reader.Stage.{Stage}
 use Rattle.page_decoder.specs.declared.file_reader.Stage.TheVariants as stage
 use Rattle.page_decoder.specs.declared.decoder.PageStep.{PageStep}
 use Rattle.page_decoder.specs.declared.decoder.PageStep.TheVariants as step
+use Rattle.page_decoder.specs.Kinds.{kind_of}
 use Rattle.page_decoder.specs.Given.{Home, Known, Given, Within, Front}
 use Rattle.page_decoder.specs.PageRead.{Decoded, Left, at_start, Told, Ending}
 use Rattle.page_decoder.specs.Headers.{Head, form_fault, header_fault}
@@ -28,7 +29,7 @@ use Rattle.page_decoder.specs.Kept.{Keeping, Keeps}
 use Rattle.page_decoder.specs.FileReading.{IsOf, Walks, Holds, HoldsChunk, IsLike, Tallies, reached, decisions_in, decisions_at_hand, IsWalking, IsBefore, Stands, StandsAt, StandsBefore, Answers, Moves, ComesTo, IsTold}
 use Rattle.page_decoder.specs.FileSteps.{AtHeader, TakesData, MayLackMemory, fault_answer}
 use Rattle.page_decoder.proofs.Retaining.{from_below, after_below, data_below}
-use Rattle.page_decoder.proofs.ResolveSteps.{resolves_first}
+use Rattle.page_decoder.proofs.Stopping.{waits_at}
 use Rattle.page_decoder.proofs.ActsByEvents.{acts_go_on}
 use Rattle.page_decoder.proofs.Onward.{first_on, reads_on, through_last}
 use Rattle.page_decoder.proofs.Sounding.{Container, data_sound, within_size}
@@ -170,7 +171,7 @@ module _ (given : Given) (rest used : List ℕ) (reader : FileReader) where
         fine = ap (λ r. header_fault r t.left head) role ∙ f;
         none = no_chunk home.table reader.chunk t.left.decoded reader.kept none;
         keeps = kept_so home.table reader.chunk t.left.decoded reader.kept none;
-        resolves = resolves_first home t.now.known t.left reader.includes t.holds.waits;
+        resolves = waits_at (kind_of head.id) home t.now.known t.left reader.includes t.holds.waits;
         decisions_are = t.holds.decisions_are;
         tallies = record {
           chunks_are = t.holds.tallies.chunks_are; drawn_are = t.holds.tallies.drawn_are; last_is = t.holds.tallies.last_is

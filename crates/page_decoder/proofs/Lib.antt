@@ -85,6 +85,12 @@ mod Opening
 mod Laying
 -- the resolving of includes: list_next, pass_files, go_on of Includes
 mod ResolveSteps
+-- finish; Entering
+mod Stopping
+-- enter
+mod Beginning
+-- enter
+mod Entering
 -- give_outline
 mod GivenOutlines
 -- the decoder: acts by events, what stays of first acts, entries
@@ -94,6 +100,16 @@ mod Entries
 -- the functions of FileReader
 mod Answering
 mod Telling
+-- PageDecoder
+mod Decoding
+-- give_outline, give_file, end
+mod Gifting
+-- read_on
+mod Reached
+-- the functions of FileReader
+mod Answering
+mod Telling
+mod Lifting
 mod Sounding
 mod Eventing
 mod DataEvents
@@ -102,3 +118,9 @@ mod ChunkEnds
 -- decode_done: an included file has no drawing; what it gives
 mod Drawless
 mod Gifts
+mod Origins
+-- at_close, at_form_end
+mod FileEnds
+mod ChunkEnds
+-- at_pause
+mod Pausing

@@ -1,5 +1,5 @@
 -- Steps of resolving: each leaves what all includes come to, whatever more becomes known.
-use Rattle.std.proofs.Common.{◌≡◌, ℕ, zero, suc, ◌⊎◌, inl, inr, Bool, true, false, Option, Some, None, List, [], ◌∷◌, ◌++◌, drop, slice_get, slice_set, refl, sym, ap, ◌∙◌, subst, append_assoc}
+use Rattle.std.proofs.Common.{◌≡◌, ℕ, zero, suc, ◌⊎◌, inl, inr, Bool, true, Option, Some, None, List, [], ◌∷◌, ◌++◌, drop, slice_get, slice_set, refl, sym, ap, ◌∙◌, subst, append_assoc}
 use Rattle.std.proofs.lemmas.Bool.{true≢false}
 use Rattle.std.proofs.lemmas.List.{append-nil}
 use Rattle.bit_plane.specs.Pixels.{Pixels}
@@ -14,12 +14,12 @@ use Rattle.page_decoder.specs.Results.{Result, Dictionary, Nothing, result_of}
 use Rattle.page_decoder.specs.Results as result
 use Rattle.page_decoder.specs.Given.{Role, Page, Included, Home, Known, KnowsMore}
 use Rattle.page_decoder.specs.PageRead.{Ending, NeedOutline, NeedFile, Refused, Include, Decoded, Left, or_else, nothing_decoded}
-use Rattle.page_decoder.specs.Read.{Step, On, Ends, ends, refused_at, and_then, reaching, at_result, in_files, at_verdict, listing, at_target, resolved, all_resolved}
-use Rattle.page_decoder.specs.Resolving.{AtHand, Resolving, with_include, is_marked, with_files, HasPassed, GaveAll, HasMarks, Waits, HasBegun, rest_of, Resolves, IsResolved, Stops, Needs}
+use Rattle.page_decoder.specs.Read.{Step, ends, refused_at, and_then, at_result, in_files, at_verdict, listing, at_target, resolved, all_resolved}
+use Rattle.page_decoder.specs.Resolving.{AtHand, Resolving, with_include, is_marked, with_files, HasPassed, GaveAll, HasMarks, Waits, HasBegun, Resolves, IsResolved, Stops, Needs}
 
 -- ---- what becomes known
 
-knows_same : (known : Known) → KnowsMore known known
+pub knows_same : (known : Known) → KnowsMore known known
 knows_same known = record { outlines = λ file outline e. e; results = λ file result e. e }
 
 knows_both : (less more most : Known) → KnowsMore less more → KnowsMore more most → KnowsMore less most
@@ -29,7 +29,8 @@ knows_both less more most on up = record {
 }
 
 module _ (home : Home) (known more : Known) (on : KnowsMore known more) where
-  passed_on : (target : ℕ) (files : List ℕ) (found : Option (List Pixels)) → HasPassed home known target files found → HasPassed home more target files found
+  passed_on : (target : ℕ) (files : List ℕ) (found : Option (List Pixels)) → HasPassed home known target files found
+      → HasPassed home more target files found
   passed_on target files found p = record { passed = p.passed; is = λ most up. p.is most (knows_both known more most on up) }
 
   marks_on : (inherited : Option (List Pixels)) (marks : List Bool) → HasMarks home known inherited marks → HasMarks home more inherited marks
@@ -124,7 +125,8 @@ abbrev pub VerdictsStay : Type 0
 VerdictsStay = (names : List (List ℕ)) (less more : ℕ → Option Outline) (file : ℕ) → KnownOn less more
     → VerdictOn more (verdict_of (record { names = names; outlines = less }) file) (verdict_of (record { names = names; outlines = more }) file)
 
-files_on : (outlines : ℕ → Option Outline) (v w : Verdict) (files : List ℕ) → VerdictOn outlines v w → v ≡ verdict.Files files → w ≡ verdict.Files files
+files_on : (outlines : ℕ → Option Outline) (v w : Verdict) (files : List ℕ) → VerdictOn outlines v w → v ≡ verdict.Files files
+    → w ≡ verdict.Files files
 files_on outlines v w files (same_verdict e) f = sym e ∙ f
 files_on outlines v w files (was_unknown file outline e known) f = absurd (clash (sym e ∙ f))
   where
@@ -265,7 +267,7 @@ module _ (home : Home) (known : Known) (left : Left) (it : Resolving) (found : O
           p.passed.is more on inherited reached left
           ∙ on_first more found (with_files inherited (reached ++ p.passed.passed) left)
           ∙ ap (λ r. at_result (in_files more (drop 1 hand.files)) file r (with_files inherited (reached ++ p.passed.passed) left))
-            (on.results file (result_of gave) e)
+          (on.results file (result_of gave) e)
           ∙ past more gave inherited (reached ++ p.passed.passed) left
           ∙ ap (λ all. in_files more (drop 1 hand.files) gave (with_files inherited all left)) (append_assoc reached p.passed.passed (file ∷ []));
     };
@@ -325,7 +327,8 @@ inherits_once (Some shapes) found = refl
 inherits_once None (Some shapes) = refl
 inherits_once None None = refl
 
-absorbs : (inherited found gave : Option (List Pixels)) → or_else inherited gave ≡ inherited → or_else (or_else inherited found) gave ≡ or_else inherited found
+absorbs : (inherited found gave : Option (List Pixels)) → or_else inherited gave ≡ inherited
+    → or_else (or_else inherited found) gave ≡ or_else inherited found
 absorbs (Some shapes) found gave e = refl
 absorbs None (Some shapes) gave e = refl
 absorbs None None gave e = e
@@ -342,7 +345,8 @@ pub passes_last : (home : Home) (known : Known) (left : Left) (it : Resolving) (
 passes_last home known left it found hand last p = record {
   reached = p.reached;
   rest = λ more on. p.rest more on
-      ∙ ap (λ files. and_then (in_files more files found (with_files it.inherited p.reached left)) (resolved home more it.pending)) (none_left hand.files last);
+      ∙ ap (λ files. and_then (in_files more files found (with_files it.inherited p.reached left)) (resolved home more it.pending))
+      (none_left hand.files last);
   begun = tt;
   marks = λ file m. elim (marked_before it.marks hand.target file m) [
     | inl e ↦ subst (λ target. GaveAll home known (or_else it.inherited found) target) (sym e) (record {
@@ -351,7 +355,7 @@ passes_last home known left it found hand last p = record {
       absorbed = inherits_once it.inherited found;
     })
     | inr e ↦ let g = p.marks file e in
-      record { found = g.found; all = g.all; absorbed = absorbs it.inherited found g.found g.absorbed }
+        record { found = g.found; all = g.all; absorbed = absorbs it.inherited found g.found g.absorbed }
   ];
 }
 

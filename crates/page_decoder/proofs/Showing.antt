@@ -17,11 +17,10 @@ use Rattle.page_decoder.specs.PageRead.{Drawing, last_layers, Ending, Finished, 
 use Rattle.page_decoder.specs.Headers.{Head, first_fault, page_fault, header_fault}
 use Rattle.page_decoder.specs.ChunkData.{Leaves, came, came_by}
 use Rattle.page_decoder.specs.Acts.{Act, acts_of, close_in}
-use Rattle.page_decoder.specs.Read.{drawing_by, drawing_of, refused_at, listing, On, step_through, read}
+use Rattle.page_decoder.specs.Read.{On, drawing_by, drawing_of, refused_at, listing, step_through, read}
 use Rattle.page_decoder.proofs.Asking.{Order, listed_below}
-use Rattle.page_decoder.proofs.Numbering.{number_below}
 use Rattle.page_decoder.proofs.Leaving.{Brings, brings}
-use Rattle.page_decoder.proofs.Ruling.{Rules, Holds, from_holds, through_holds, any_chunk, any_include, any_acts, any_includes}
+use Rattle.page_decoder.proofs.Ruling.{Rules, Holds, through_holds, from_holds, any_chunk, any_include, any_acts, any_includes}
 
 -- the first chunk of a page is an INFO
 first_kind : (of : ChunkKind) (size : ℕ) → first_fault of size ≡ None → of ≡ kind.Info
@@ -91,6 +90,7 @@ pub record Shows (home : Home) (at : Option Head) (left : Left) : Type 0 where
   pub some : home.role ≡ Page → left.chunks ≢ 0 → left.told.drawings ≢ []
   pub first : (head : Head) → at ≡ Some head → home.role ≡ Page → left.chunks ≡ 0 → kind_of head.id ≡ kind.Info
   pub last : left.decoded.layers ≡ last_layers left.told.drawings
+  pub none : left.chunks ≡ 0 → left.decoded.layers ≡ None
 
 pub record Shown (home : Home) (left : Left) (end : Ending) : Type 0 where
   pub drawn : end ≡ Finished → home.role ≡ Page → left.told.drawings ≢ []
@@ -126,9 +126,9 @@ begun home head left e other s page none =
 end_of_refused : (fault : Fault) → Refused fault ≡ Finished → ⊥
 end_of_refused fault e = cc
 
-pub rules : (home : Home) (known : Known) → Rules home known any_chunk any_include (Shows home) (Shown home)
+rules : (home : Home) (known : Known) → Rules home known any_chunk any_include (Shows home) (Shown home)
 rules home known = record {
-  begins = λ head left e i. record { some = i.some; first = begun home head left e; last = i.last };
+  begins = λ head left e i. record { some = i.some; first = begun home head left e; last = i.last; none = i.none };
   chunk = λ head given decoded left f e i. record {
     some = λ page n.
         some_on home head given decoded left (left.told.decisions + (came home.table head given left.decoded).decisions) left.chunks refl i e page;
@@ -137,13 +137,14 @@ rules home known = record {
         left.told.drawings left.decoded.layers decoded.layers
         (draws (kind_of head.id) home.table given head.offset left.decoded decoded
         (brings (kind_of head.id) home.table given head.offset left.decoded decoded e)) i.last;
+    none = λ e. let wrong : suc left.chunks ≡ 0 = e in absurd (cc);
   };
-  part = λ head n left i. record { some = i.some; first = λ other none. absurd (cc); last = i.last };
+  part = λ head n left i. record { some = i.some; first = λ other none. absurd (cc); last = i.last; none = i.none };
   wrong = λ head n kind offset left i. record { drawn = λ e. absurd (end_of_refused _ e); layers = i.last };
   pending = λ at left i. any_includes left.decoded.pending;
-  reaches = λ at left file it e i. record { some = i.some; first = i.first; last = i.last };
-  inherits = λ at found left i. record { some = i.some; first = i.first; last = i.last };
-  none_left = λ at left i. record { some = i.some; first = i.first; last = i.last };
+  reaches = λ at left file it e i. record { some = i.some; first = i.first; last = i.last; none = i.none };
+  inherits = λ at found left i. record { some = i.some; first = i.first; last = i.last; none = i.none };
+  none_left = λ at left i. record { some = i.some; first = i.first; last = i.last; none = i.none };
   unknown = λ at left file u i. record { drawn = λ e. absurd (cc); layers = i.last };
   lacks = λ at left file next n i. record { drawn = λ e. absurd (cc); layers = i.last };
   graph_fault = λ at left target fault b v i. record { drawn = λ e. absurd (end_of_refused fault e); layers = i.last };
@@ -152,12 +153,15 @@ rules home known = record {
   finishes = λ left some i. record { drawn = λ e page. i.some page (some page); layers = i.last };
 }
 
+at_first : (home : Home) → Shows home None at_start
+at_first home = record { some = λ page n. absurd (n refl); first = λ head none. absurd (cc); last = refl; none = λ e. refl }
+
 -- behind acts that went on
-pub left_shows : (home : Home) (known : Known) (acts : List Act) (left : Left) → step_through home known acts at_start ≡ On left → Shows home None left
-left_shows home known acts left e =
+pub shows_on : (home : Home) (known : Known) → ((name : List ℕ) (target : ℕ) → number_of name home.names ≡ Some target → target < length home.names)
+    → (acts : List Act) (left : Left) → step_through home known acts at_start ≡ On left → Shows home None left
+shows_on home known below acts left e =
     subst (λ s. Holds (Shows home) (Shown home) None s) e
-    (through_holds home known any_chunk any_include (Shows home) (Shown home) (rules home known) (number_below home.names) acts at_start (any_acts acts)
-    (record { some = λ page n. absurd (n refl); first = λ head none. absurd (cc); last = refl }))
+    (through_holds home known any_chunk any_include (Shows home) (Shown home) (rules home known) below acts at_start (any_acts acts) (at_first home))
 
 pub shown : (given : Given) → ((name : List ℕ) (target : ℕ) → number_of name given.home.names ≡ Some target → target < length given.home.names)
     → Shown given.home (read given).left (read given).end
@@ -165,7 +169,7 @@ shown given below =
     from_holds given.home given.known any_chunk any_include (Shows given.home) (Shown given.home) (rules given.home given.known) below
     (close_in given.mark given.bytes)
     (λ w left i. record { drawn = λ e. absurd (cc); layers = i.last }) (acts_of (chunks_of given.bytes)) at_start (any_acts (acts_of (chunks_of given.bytes)))
-    (record { some = λ page n. absurd (n refl); first = λ head none. absurd (cc); last = refl })
+    (at_first given.home)
 
 -- faults
 

@@ -31,7 +31,9 @@ use Rattle.page_decoder.specs.Acts.{Act, Close, Breaks, Over, acts_of, close_in}
 use Rattle.page_decoder.specs.Acts as acts
 use Rattle.page_decoder.specs.Read.{Step, On, and_then, after, all_resolved, at_header, at_close, finished, step_through, read}
 use Rattle.page_decoder.specs.ActsTold.{OpenChunk, ActsTold, nothing_told, begun_at, all_told, after_events, after_step}
-use Rattle.page_decoder.specs.Resolving.{home_of, known_of, Waits, Resolves}
+use Rattle.page_decoder.specs.Resolving.{Resolving, home_of, known_of, Waits, Resolves}
+use Rattle.page_decoder.specs.Kinds.{ChunkKind, kind_of}
+use Rattle.page_decoder.specs.Kinds as kind
 use Rattle.page_decoder.specs.Kept.{Keeping, Keeps}
 use Rattle.page_decoder.specs.Opened.{Opens, decisions_of}
 use Rattle.page_decoder.specs.Decoder.{next_entry, answer_to, decisions_to, drawn_with, Shows}
@@ -52,6 +54,11 @@ decisions_at_hand (Some chunk) = decisions_of chunk.opened
 
 abbrev pub decisions_in : FileReader → ℕ
 decisions_in reader = ticked (decisions_at_hand reader.chunk) reader.decisions
+
+-- it is the reader of the same file
+abbrev pub SameFile : FileReader → FileReader → Type 0
+SameFile before after = (names : List (List ℕ))
+    → home_of after.role (arc_value after.table) names after.file ≡ home_of before.role (arc_value before.table) names before.file
 
 -- ---- what is kept
 
@@ -118,6 +125,12 @@ pub record IsWalking (given : Given) (reader : FileReader) : Type 0 where
   pub walks : Walks given reader.walker so_far
   pub holds : Holds given.home given.known so_far left reader
 
+-- the includes before a chunk of this kind: they are resolved as far as this, or wait where it brings nothing of them
+abbrev pub ResolvesAt : ChunkKind → Home → Known → Left → Resolving → Type 0
+ResolvesAt kind.Dictionary home known left it = Resolves home known left it
+ResolvesAt kind.Mask home known left it = Resolves home known left it
+ResolvesAt other home known left it = Waits home known left.decoded it
+
 -- behind the header of a chunk, which is right. What it brings is to be resolved
 pub record IsBefore (given : Given) (head : Head) (reader : FileReader) : Type 0 where
   pub acts : List Act
@@ -128,7 +141,7 @@ pub record IsBefore (given : Given) (head : Head) (reader : FileReader) : Type 0
   pub fine : header_fault given.home.role left head ≡ None
   pub none : reader.chunk ≡ None
   pub keeps : Keeps given.home.table left.decoded reader.kept
-  pub resolves : Resolves given.home given.known left reader.includes
+  pub resolves : ResolvesAt (kind_of head.id) given.home given.known left reader.includes
   pub decisions_are : TicksExactly left.told.decisions 0 reader.decisions
   pub tallies : Tallies left reader
 
@@ -274,22 +287,30 @@ pub record Pauses (given : Given) (so_far : ActsTold) (behind : Close) : Type 0 
 
 -- the reader told all events of the file
 pub record IsPaused (given : Given) (rest : List ℕ) (behind : FileClose) (reader : FileReader) : Type 0 where
+  pub now : Given
+  pub within : Within now given
+  pub bytes_are : given.bytes ≡ now.bytes ++ rest
+  pub known_is : now.known ≡ given.known
   pub so_far : ActsTold
   pub left : Left
-  pub of : IsOf given reader
+  pub of : IsOf now reader
   pub pauses : Pauses given so_far (close_of reader.origin behind)
-  pub stays : behind ≡ close.Over → (later : Given) → Within given later → Pauses later so_far (Over reader.origin)
-  pub holds : Holds given.home given.known so_far left reader
-  pub waits : behind ≡ close.Waits → (rest ≡ []) × Walks given reader.walker so_far × (reader.stage ≡ stage.Walking)
+  pub stays : behind ≡ close.Over → (later : Given) → Within now later → Pauses later so_far (Over reader.origin)
+  pub holds : Holds now.home now.known so_far left reader
+  pub waits : behind ≡ close.Waits → (rest ≡ []) × Walks now reader.walker so_far × (reader.stage ≡ stage.Walking)
 
 -- what stands behind the events is all that is left
 pub record IsClosing (given : Given) (rest : List ℕ) (behind : FileClose) (reader : FileReader) : Type 0 where
+  pub now : Given
+  pub within : Within now given
+  pub bytes_are : given.bytes ≡ now.bytes ++ rest
+  pub known_is : now.known ≡ given.known
   pub left : Left
-  pub of : IsOf given reader
-  pub reads : read given ≡ at_close given.home given.known (close_of reader.origin behind) left
-  pub stays : behind ≡ close.Over → (later : Given) → Within given later → read later ≡ at_close later.home later.known (Over reader.origin) left
+  pub of : IsOf now reader
+  pub reads : read given ≡ at_close now.home now.known (close_of reader.origin behind) left
+  pub stays : behind ≡ close.Over → (later : Given) → Within now later → read later ≡ at_close later.home later.known (Over reader.origin) left
   pub like : IsLike left.decoded reader.kept
-  pub includes_wait : Waits given.home given.known left.decoded reader.includes
+  pub includes_wait : Waits now.home now.known left.decoded reader.includes
   pub decisions_are : TicksExactly left.told.decisions 0 (decisions_in reader)
   pub tallies : Tallies left reader
-  pub waits : behind ≡ close.Waits → (rest ≡ []) × Stands given reader
+  pub waits : behind ≡ close.Waits → StandsBefore given rest reader

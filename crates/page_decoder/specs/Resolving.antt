@@ -1,7 +1,6 @@
 -- The resolving of includes: what is kept of them, and how that stands to the definition, whatever more becomes known.
 use Rattle.std.specs.Prelude.{ℕ, ◌≡◌, ◌⊎◌, Bool, true, false, List, [], ◌∷◌, ◌++◌, length, Option, Some, None, ⊤, slice_get, unwrap_or}
 use Rattle.bit_plane.specs.Pixels.{Pixels}
-use Rattle.djvu_base.specs.declared.faults.Fault.{Fault}
 use Rattle.zp_table.specs.declared.rows.Row.{Row}
 use Rattle.include_graph.specs.declared.outline.Outline.{Outline}
 use Rattle.include_graph.specs.Verdicts.{in_list}

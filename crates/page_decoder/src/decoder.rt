@@ -101,17 +101,15 @@ impl Model for PageDecoder {
 impl PageDecoder {
     /// The decoder of the page with this number among a folder's names, which ascend. Takes no memory.
     #[tactic(auto, unfolding(crate::specs::PageFed::Fed))]
-    pub fn new(
-        alloc: Global,
-        table: Arc<Table>,
-        names: Arc<Items<Name>>,
-        file: u32,
-    ) -> PageDecoder
+    pub fn new(alloc: Global, table: Arc<Table>, names: Arc<Items<Name>>, file: u32) -> PageDecoder
         requires ascending { IsAscending (arc_value names) }
         requires few { length (arc_value names) < 2 ^ 32 }
         ensures fed { (known : Known) → KnowsNothing known → Fed (record {
-            home = record { role = Page; table = arc_value table; names = arc_value names; file = file };
-            known = known; bytes = []; mark = Open }) result }
+          home = record { role = Page; table = arc_value table; names = arc_value names; file = file };
+          known = known;
+          bytes = [];
+          mark = Open;
+        }) result }
         ensures home { result.home ≡ record { role = Page; table = arc_value table; names = arc_value names; file = file } }
         ensures mark { result.mark ≡ Open }
         ensures drawn { result.drawn ≡ 0 }
@@ -143,6 +141,8 @@ impl PageDecoder {
         ensures mark { self.new.mark ≡ Open }
         ensures stays { StaysSo self.old self.new }
     {
+        crate::page_laws::growth();
+        crate::page_laws::needs();
         match self.standing {
             Standing::Failed => Err(AllocError),
             Standing::Finished | Standing::Refused(_) => Ok(()),
@@ -153,8 +153,19 @@ impl PageDecoder {
         }
     }
 
-    /// Keeps bytes.
-    fn keep(&mut self, piece: &[u8]) -> Result<(), AllocError> {
+    /// Keeps bytes, where there was memory so far.
+    #[tactic(auto, unfolding(crate::specs::PageFed::Fed))]
+    fn keep(&mut self, piece: &[u8]) -> Result<(), AllocError>
+        requires open { self.old.mark ≡ Open }
+        requires going { self.old.failed ≡ false }
+        ensures fed { (given : Given) → Fed given self.old → Fed (record given { bytes = given.bytes ++ piece.now }) self.new }
+        ensures ok { OnOk result ((self.new.failed ≡ false) × (self.new.stands ≡ without_bytes self.old.stands)) }
+        ensures err { OnErr result (self.new.failed ≡ true) }
+        ensures mark { self.new.mark ≡ Open }
+        ensures stays { StaysSo self.old self.new }
+    {
+        crate::page_laws::growth();
+        crate::page_laws::needs();
         match self.unread.push(piece) {
             Ok(()) => {
                 self.standing = self.standing.without_bytes();
@@ -177,6 +188,8 @@ impl PageDecoder {
         ensures stays { StaysSo self.old self.new }
         ensures again { self.old.mark ≢ Open → self.new ≡ self.old }
     {
+        crate::page_laws::growth();
+        crate::page_laws::needs();
         if self.end.is_none() {
             self.end = Some(end);
             self.standing = self.standing.without_bytes();
@@ -194,6 +207,8 @@ impl PageDecoder {
         ensures mark { self.new.mark ≡ self.old.mark }
         ensures stays { StaysSo self.old self.new }
     {
+        crate::page_laws::growth();
+        crate::page_laws::needs();
         let given = self.others.give_outline(file, outline);
         self.standing = standing_after(&given);
         given
@@ -211,6 +226,8 @@ impl PageDecoder {
         ensures mark { self.new.mark ≡ self.old.mark }
         ensures stays { StaysSo self.old self.new }
     {
+        crate::page_laws::growth();
+        crate::page_laws::needs();
         let given = self.others.give_file(file, gift);
         self.standing = standing_after(&given);
         given
@@ -257,7 +274,24 @@ impl PageDecoder {
     }
 
     /// Reads on over the bytes that weren't used yet.
-    fn read_on<M: Meter>(&mut self, meter: &mut M) -> PageStep {
+    #[tactic(auto, unfolding(crate::specs::PageFed::Fed))]
+    fn read_on<M: Meter>(&mut self, meter: &mut M) -> PageStep
+        requires going { self.old.kept.standing ≡ Standing.Going }
+        ensures answer { (given : Given) → Fed given self.old → result ≢ PageStep.OutOfMemory →
+            result ≡ answer_to (next_entry (read given) self.old.drawn) }
+        ensures decisions { (given : Given) → Fed given self.old → result ≢ PageStep.OutOfMemory →
+            TicksExactly (decisions_to (next_entry (read given) self.old.drawn) (read given)) 0 self.new.decisions }
+        ensures fed { (given : Given) → Fed given self.old → Fed given self.new }
+        ensures rise { RiseTogether self.old.decisions self.new.decisions (M.count meter.old) (M.count meter.new) }
+        ensures drawn { self.new.drawn ≡ drawn_with result self.old.drawn }
+        ensures stands { self.new.stands ≡ end_with result }
+        ensures failed { result ≡ PageStep.OutOfMemory → self.new.failed ≡ true }
+        ensures reads { result ≢ PageStep.OutOfMemory → self.new.failed ≡ false }
+        ensures home { self.new.home ≡ self.old.home }
+        ensures mark { self.new.mark ≡ self.old.mark }
+    {
+        crate::page_laws::growth();
+        crate::page_laws::needs();
         let (used, answer) = self.reader.run(
             self.names.slice(),
             self.others.outlines(),

@@ -12,7 +12,7 @@ ghost use Rattle.page_decoder.specs.Decoder.{RiseTogether};
 ghost use Rattle.page_decoder.specs.Kept.{IsReady};
 ghost use Rattle.page_decoder.specs.Opened.{decisions_of};
 ghost use Rattle.page_decoder.specs.Resolving.{IsPlaced, home_of, known_of};
-ghost use Rattle.page_decoder.specs.FileReading.{IsTold, ComesTo, decisions_in};
+ghost use Rattle.page_decoder.specs.FileReading.{SameFile, IsTold, ComesTo, decisions_in};
 ghost use Rattle.page_decoder.specs.FileSteps.{IsHeld, IsKnown, IsEntering, MayLackMemory, HasClosed, HasLeft, Adds, HasResolved, ResolvesBefore, Begins, stop_of};
 
 use crate::closing::ChunkCame;
@@ -33,6 +33,7 @@ impl FileReader {
         ensures walker { self.new.walker ≡ self.old.walker }
         ensures stage { self.new.stage ≡ self.old.stage }
         ensures rise { RiseTogether (decisions_in self.old) (decisions_in self.new) (M.count meter.old) (M.count meter.new) }
+        ensures home { SameFile self.old self.new }
     {
         iff_chunks::laws::layout();
         iff_chunks::laws::order();
@@ -51,6 +52,7 @@ impl FileReader {
         ensures chunk { self.new.chunk ≡ self.old.chunk }
         ensures rise { (ticks : ℕ) × TicksExactly ticks (ticked (decisions_of chunk.opened) self.old.decisions) self.new.decisions
             × TicksExactly ticks (M.count meter.old) (M.count meter.new) }
+        ensures home { SameFile self.old self.new }
     {
         let ChunkAtHand { head, opened } = chunk;
         let chunks = self.chunks.saturating_add(1);
@@ -109,6 +111,7 @@ impl FileReader {
             → IsEntering given rest head self.old → ComesTo given rest result self.old self.new }
         ensures fewer { result ≡ None → (self.new.walker ≡ self.old.walker) × (self.new.stage ≡ Stage.Walking) }
         ensures rise { decisions_in self.new ≡ decisions_in self.old }
+        ensures home { SameFile self.old self.new }
     {
         match self.resolve_before(names, outlines, results, head) {
             Some(stop) => Some(stop),
@@ -174,6 +177,7 @@ impl FileReader {
         ensures begun { result ≡ None → Begins head self.old self.new }
         ensures rest { result ≢ None → self.new ≡ record self.old { kept = self.new.kept } }
         ensures layers { self.new.kept.layers ≡ self.old.kept.layers }
+        ensures home { SameFile self.old self.new }
     {
         let begun = self.kept.begin(
             self.alloc,

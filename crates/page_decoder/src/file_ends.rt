@@ -8,7 +8,7 @@ ghost use Rattle.include_graph.specs.Verdicts.{outline_in};
 ghost use Rattle.page_decoder.specs.Given.{Given};
 ghost use Rattle.page_decoder.specs.Decoder.{RiseTogether};
 ghost use Rattle.page_decoder.specs.Resolving.{IsPlaced, known_of, role_of};
-ghost use Rattle.page_decoder.specs.FileReading.{Answers, Counts, IsTold, IsPaused, IsClosing, mark_by, decisions_in};
+ghost use Rattle.page_decoder.specs.FileReading.{SameFile, Answers, Counts, IsTold, IsPaused, IsClosing, mark_by, decisions_in};
 ghost use Rattle.page_decoder.specs.FileSteps.{IsKnown, IsFinishing, IsBehind, Advances, close_by, lacks_info};
 
 use crate::decoder::PageStep;
@@ -37,6 +37,7 @@ impl FileReader {
         ensures answers { (given : Given) (rest taken : List ℕ) → IsKnown names.now (known_of (map outline_in outlines.now) results.now) given → given.mark ≡ mark_by end
             → IsTold given rest WalkStep.NeedBytes taken self.old → Answers given rest result self.old self.new }
         ensures rise { RiseTogether (decisions_in self.old) (decisions_in self.new) (M.count meter.old) (M.count meter.new) }
+        ensures home { SameFile self.old self.new }
     {
         let behind = self.behind_bytes(end);
         self.at_pause(names, outlines, results, behind, meter)
@@ -49,6 +50,7 @@ impl FileReader {
         ensures rest { self.new ≡ record self.old { walker = self.new.walker } }
         ensures waits { end ≡ None → (result ≡ FileClose.Waits) × (self.new ≡ self.old) }
     {
+        iff_chunks::laws::bounds();
         match end {
             None => FileClose::Waits,
             Some(end) => close_of(self.walker.finish(end, self.arrived)),
@@ -70,7 +72,13 @@ impl FileReader {
         ensures answers { (given : Given) (rest : List ℕ) → IsKnown names.now (known_of (map outline_in outlines.now) results.now) given
             → IsPaused given rest behind self.old → Answers given rest result self.old self.new }
         ensures rise { RiseTogether (decisions_in self.old) (decisions_in self.new) (M.count meter.old) (M.count meter.new) }
+        ensures home { SameFile self.old self.new }
     {
+        iff_chunks::laws::layout();
+        iff_chunks::laws::order();
+        jb2_records::laws::more_bytes_go_on();
+        iw44_image::laws::layers_grow();
+        include_graph::laws::verdicts_stay();
         match self.advance(meter) {
             Some(answer) => answer,
             None => self.at_close(names, outlines, results, behind),
@@ -110,6 +118,7 @@ impl FileReader {
         ensures answers { (given : Given) (rest : List ℕ) → IsKnown names.now (known_of (map outline_in outlines.now) results.now) given
             → IsClosing given rest behind self.old → Answers given rest result self.old self.new }
         ensures rise { decisions_in self.new ≡ decisions_in self.old }
+        ensures home { SameFile self.old self.new }
     {
         match behind {
             FileClose::Waits => PageStep::NeedBytes,
@@ -131,6 +140,7 @@ impl FileReader {
         ensures answers { (given : Given) (rest : List ℕ) → IsKnown names.now (known_of (map outline_in outlines.now) results.now) given
             → IsClosing given rest FileClose.Over self.old → Answers given rest result self.old self.new }
         ensures rise { decisions_in self.new ≡ decisions_in self.old }
+        ensures home { SameFile self.old self.new }
     {
         self.drop_chunk();
         if lacks_info(self.role, self.chunks) {
@@ -162,6 +172,7 @@ impl FileReader {
         ensures answers { (given : Given) (rest : List ℕ) → IsKnown names.now (known_of (map outline_in outlines.now) results.now) given
             → IsFinishing given rest self.old → Answers given rest result self.old self.new }
         ensures rise { decisions_in self.new ≡ decisions_in self.old }
+        ensures home { SameFile self.old self.new }
     {
         match self.resolve(names, outlines, results) {
             None => PageStep::Finished,

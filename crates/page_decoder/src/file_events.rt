@@ -8,7 +8,7 @@ ghost use Rattle.page_decoder.specs.PageRead.{Left};
 ghost use Rattle.page_decoder.specs.Headers.{form_fault, header_fault};
 ghost use Rattle.page_decoder.specs.Decoder.{RiseTogether};
 ghost use Rattle.page_decoder.specs.Resolving.{IsPlaced, known_of, role_of};
-ghost use Rattle.page_decoder.specs.FileReading.{IsLike, Stands, IsGiven, IsTold, ComesTo, mark_by, decisions_in, left_over, stage_left};
+ghost use Rattle.page_decoder.specs.FileReading.{SameFile, IsLike, Stands, IsGiven, IsTold, ComesTo, mark_by, decisions_in, left_over, stage_left};
 ghost use Rattle.page_decoder.specs.FileSteps.{IsKnown, AtHeader, MayLackMemory, TakesData, fault_answer, origin_so, origin_with, counted_with};
 
 use crate::decoder::PageStep;
@@ -41,6 +41,7 @@ impl FileReader {
         ensures within { result.0 ≤ length rest.now }
         ensures fewer { result.1 ≡ None → left_over self.new (length rest.now - result.0) < left_over self.old (length rest.now) }
         ensures rise { RiseTogether (decisions_in self.old) (decisions_in self.new) (M.count meter.old) (M.count meter.new) }
+        ensures home { SameFile self.old self.new }
     {
         jb2_records::laws::more_bytes_go_on();
         iw44_image::laws::layers_grow();
@@ -81,9 +82,11 @@ impl FileReader {
         ensures fewer { result ≡ None → (self.new.walker ≡ self.old.walker) × (stage_left self.new.stage ≤ 1) }
         ensures events { is_event event ≡ false → IsSome result }
         ensures rise { RiseTogether (decisions_in self.old) (decisions_in self.new) (M.count meter.old) (M.count meter.new) }
+        ensures home { SameFile self.old self.new }
     {
         iff_chunks::laws::layout();
         iff_chunks::laws::order();
+        iff_chunks::laws::never_cut();
         jb2_records::laws::more_bytes_go_on();
         iw44_image::laws::layers_grow();
         include_graph::laws::verdicts_stay();
@@ -138,6 +141,7 @@ impl FileReader {
         ensures walker { self.new.walker ≡ self.old.walker }
         ensures stage { result ≡ None → self.new.stage ≡ Stage.Before head }
         ensures rise { decisions_in self.new ≡ decisions_in self.old }
+        ensures home { SameFile self.old self.new }
     {
         match header_fault(self.role, self.chunks, &self.kept, head) {
             Some(kind) => Some(self.refused(kind, head.offset)),

@@ -3,13 +3,13 @@
 ghost use Rattle.std.specs.Prelude.{◌≡◌, ◌-◌, ◌<◌, ◌≤◌, ◌^◌, ℕ, List, [], length, drop, map, None};
 ghost use Rattle.std.specs.Arc.{arc_value};
 ghost use Rattle.djvu_base.specs.Name.{IsAscending};
-ghost use Rattle.djvu_base.specs.Library.{Open};
+ghost use Rattle.djvu_base.specs.Library as library;
 ghost use Rattle.include_graph.specs.Verdicts.{outline_in};
 ghost use Rattle.page_decoder.specs.Given.{Given, Known};
 ghost use Rattle.page_decoder.specs.PageRead.{or_else};
 ghost use Rattle.page_decoder.specs.Decoder.{RiseTogether};
 ghost use Rattle.page_decoder.specs.Resolving.{IsPlaced, home_of};
-ghost use Rattle.page_decoder.specs.FileReading.{Stands, IsReady, IsGiven, Answers, ComesTo, decisions_in, dictionary_in, left_over};
+ghost use Rattle.page_decoder.specs.FileReading.{SameFile, Stands, IsReady, IsGiven, Answers, ComesTo, decisions_in, dictionary_in, left_over};
 ghost use Rattle.page_decoder.specs.FileSteps.{IsHeld};
 
 use crate::decoder::PageStep;
@@ -84,7 +84,7 @@ impl FileReader {
     /// The reader of a file with this number, of which no byte came.
     pub(crate) fn new(alloc: Global, role: Role, table: Arc<Table>, file: u32) -> FileReader
         ensures stands { (names : List (List ℕ)) (known : Known) →
-            Stands (record { home = home_of role (arc_value table) names file; known = known; bytes = []; mark = Open }) result }
+            Stands (record { home = home_of role (arc_value table) names file; known = known; bytes = []; mark = library.Open }) result }
         ensures drawn { result.drawn ≡ 0 }
         ensures decisions { decisions_in result ≡ 0 }
         ensures layers { result.kept.layers ≡ None }
@@ -127,6 +127,7 @@ impl FileReader {
             → Stands before self.old → Answers given (drop result.0 piece.now) result.1 self.old self.new }
         ensures within { result.0 ≤ length piece.now }
         ensures rise { RiseTogether (decisions_in self.old) (decisions_in self.new) (M.count meter.old) (M.count meter.new) }
+        ensures home { SameFile self.old self.new }
     {
         let mut rest = piece;
         'events: loop {
@@ -157,7 +158,11 @@ impl FileReader {
         ensures within { result.0 ≤ length rest.now }
         ensures fewer { result.1 ≡ None → left_over self.new (length rest.now - result.0) < left_over self.old (length rest.now) }
         ensures rise { RiseTogether (decisions_in self.old) (decisions_in self.new) (M.count meter.old) (M.count meter.new) }
+        ensures home { SameFile self.old self.new }
     {
+        jb2_records::laws::more_bytes_go_on();
+        iw44_image::laws::layers_grow();
+        include_graph::laws::verdicts_stay();
         match self.stage {
             Stage::Walking => self.walk(names, outlines, results, rest, end, meter),
             Stage::Before(head) => (0, self.enter(names, outlines, results, head)),

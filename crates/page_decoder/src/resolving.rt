@@ -1,4 +1,5 @@
-//! Includes of a file, which are resolved late and in order, and what is kept of them.
+//! Includes of a file, which are resolved late and in order, and what is kept of them. `specs/Resolving` says how that stands to the
+//! definition, whatever more becomes known.
 ghost use Rattle.std.specs.Prelude.{◌≡◌, ℕ, ◌<◌, ◌^◌, List, [], ◌∷◌, length, map, drop, Option, Some, None, IfOk, OnErr, slice_set, true};
 ghost use Rattle.djvu_base.specs.Name.{IsAscending};
 ghost use Rattle.djvu_base.specs.declared.faults.FaultKind.TheVariants as fault;
@@ -115,10 +116,12 @@ impl Includes {
         &self.dictionary
     }
 
-    /// Resolves the includes in order, each once: is its target there, then the verdict on it, then what the listed files give. It
-    /// is called again after gifts, and goes on where it stands; after want of memory it isn't called again. The file itself has this
-    /// role and number. The lists have a place for each name, or none yet. An included file asks for no outline: those below it were
-    /// decoded before. At most two verdicts are asked for each outline that is given.
+    /// Resolves the includes in order, each once: is its target there, then the verdict on it, then what the listed files give. The
+    /// file itself has this role and number. The lists have a place for each name, or none yet. An included file asks for no
+    /// outline, since those below it were decoded before.
+    ///
+    /// It is called again after gifts, and goes on where it stands: a verdict that was a list isn't asked for again. After want of
+    /// memory it isn't called again.
     pub fn resolve(
         &mut self,
         alloc: Global,

@@ -17,7 +17,7 @@ returns-in_default-clause-resolves c = λ table results left r.
     let pending = drop 1 it.pending in
     let include : Include = record { name = c.include.inside.target; offset = c.include.inside.place } in
     let e = kept_is it it.inherited None (include ∷ pending) it.marks refl c.requires.passed
-        (c.next-include.ensures ∙ ap (λ i. i ∷ pending) (sym c.include.view_is)) refl in
+    (c.next-include.ensures ∙ ap (λ i. i ∷ pending) (sym c.include.view_is)) refl in
     let waits = subst (λ it. Resolves home known left it) e r in
     subst (λ stop. Answers home known left stop it) (sym c.missing.ensures)
     (stops_missing home known left it include pending waits (sym c.number_of.ensures ∙ c.in_default.is))
@@ -30,7 +30,7 @@ returns-then-is_marked-clause-resolves c = λ table results left r.
     let pending = drop 1 it.pending in
     let include : Include = record { name = c.include.inside.target; offset = c.include.inside.place } in
     let e = kept_is it it.inherited None (include ∷ pending) it.marks refl c.requires.passed
-        (c.next-include.ensures ∙ ap (λ i. i ∷ pending) (sym c.include.view_is)) refl in
+    (c.next-include.ensures ∙ ap (λ i. i ∷ pending) (sym c.include.view_is)) refl in
     let waits = subst (λ it. Resolves home known left it) e r in
     subst (λ it. Resolves home known left it)
     (sym (kept_is c.skip.new.self it.inherited None pending it.marks c.skip.ensures.inherited (c.skip.ensures.listed ∙ c.requires.passed)
@@ -46,7 +46,7 @@ returns-in_ok-make_marks-in-Files-clause-resolves c = λ table results left r.
     let pending = drop 1 it.pending in
     let include : Include = record { name = c.include.inside.target; offset = c.include.inside.place } in
     let e = kept_is it it.inherited None (include ∷ pending) it.marks refl c.requires.passed
-        (c.next-include.ensures ∙ ap (λ i. i ∷ pending) (sym c.include.view_is)) refl in
+    (c.next-include.ensures ∙ ap (λ i. i ∷ pending) (sym c.include.view_is)) refl in
     let waits = subst (λ it. Resolves home known left it) e r in
     let hand : AtHand = record { target = c.in-Some.target; files = c.in-Files.files } in
     let marks = c.make_marks.new.self.marks in
@@ -66,7 +66,7 @@ returns-in-NeedOutline-clause-resolves c = λ table results left r.
     let pending = drop 1 it.pending in
     let include : Include = record { name = c.include.inside.target; offset = c.include.inside.place } in
     let e = kept_is it it.inherited None (include ∷ pending) it.marks refl c.requires.passed
-        (c.next-include.ensures ∙ ap (λ i. i ∷ pending) (sym c.include.view_is)) refl in
+    (c.next-include.ensures ∙ ap (λ i. i ∷ pending) (sym c.include.view_is)) refl in
     let waits = subst (λ it. Resolves home known left it) e r in
     subst (λ it. Needs home known left (NeedOutline c.in-NeedOutline.file) it) (sym e)
     (needs_outline home known left it include pending waits c.in-Some.target c.in-NeedOutline.file (sym c.number_of.ensures ∙ c.in-Some.is)
@@ -80,7 +80,7 @@ returns-in-Refused-clause-resolves c = λ table results left r.
     let pending = drop 1 it.pending in
     let include : Include = record { name = c.include.inside.target; offset = c.include.inside.place } in
     let e = kept_is it it.inherited None (include ∷ pending) it.marks refl c.requires.passed
-        (c.next-include.ensures ∙ ap (λ i. i ∷ pending) (sym c.include.view_is)) refl in
+    (c.next-include.ensures ∙ ap (λ i. i ∷ pending) (sym c.include.view_is)) refl in
     let waits = subst (λ it. Resolves home known left it) e r in
     stops_refused home known left it include pending waits c.in-Some.target c.in-Refused.fault (sym c.number_of.ensures ∙ c.in-Some.is)
     (sym (c.in_ok-files.ensures table results c.args.file) ∙ c.in-Refused.is)

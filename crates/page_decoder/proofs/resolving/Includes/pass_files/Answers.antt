@@ -1,4 +1,4 @@
-use Rattle.std.proofs.Common.{ℕ, List, ◌≡◌, None, drop, slice_set, true, refl, sym, ap, subst, ◌∙◌}
+use Rattle.std.proofs.Common.{ℕ, List, ◌≡◌, None, drop, slice_set, true, sym, ap, subst, ◌∙◌}
 use Rattle.page_decoder.specs.PageRead.{or_else}
 use Rattle.page_decoder.specs.Resolving.{AtHand, Resolving, known_of, gift_of, Resolves}
 use Rattle.page_decoder.proofs.ResolveSteps.{Passes, kept_is, passes_file, stops_at_file, needs_file, passes_last}

@@ -1,5 +1,5 @@
 -- An included file has no drawing.
-use Rattle.std.proofs.Common.{◌≡◌, ◌<◌, ℕ, suc, Bool, true, false, ◌||◌, cond, Option, Some, None, is_some, List, [], ◌∷◌, ◌++◌, length, refl, sym, ap, ◌∙◌, subst}
+use Rattle.std.proofs.Common.{◌≡◌, ◌<◌, ◌+◌, ℕ, suc, Bool, true, false, ◌||◌, cond, Option, Some, None, is_some, List, [], ◌∷◌, ◌++◌, length, refl, sym, ap, ◌∙◌, subst}
 use Rattle.djvu_base.specs.Name.{is_listed}
 use Rattle.djvu_base.specs.declared.faults.FaultKind.{FaultKind}
 use Rattle.djvu_base.specs.declared.faults.FaultKind.TheVariants as fault
@@ -76,9 +76,12 @@ plain_header role left head r e =
 rules : (home : Home) (known : Known) → home.role ≡ Included → Rules home known any_chunk any_include Drawless Undrawn
 rules home known r = record {
   begins = λ head left e i. (i.0, plain_header home.role left head r e);
-  chunk = λ head given decoded left f e i.
-      (ap (λ ds. ds ++ drawing_by (kind_of head.id) (suc left.chunks) _ decoded.layers) i.0
-      ∙ no_drawing (kind_of head.id) (suc left.chunks) _ decoded.layers i.1, tt);
+  chunk = λ head given decoded left f e i. (
+    ap (λ ds. ds ++ drawing_by (kind_of head.id) (suc left.chunks) (left.told.decisions + (came home.table head given left.decoded).decisions)
+        decoded.layers) i.0
+        ∙ no_drawing (kind_of head.id) (suc left.chunks) (left.told.decisions + (came home.table head given left.decoded).decisions) decoded.layers i.1,
+    tt,
+  );
   part = λ head n left i. (i.0, tt);
   wrong = λ head n kind offset left i. i.0;
   pending = λ at left i. any_includes left.decoded.pending;

@@ -1,7 +1,10 @@
 -- The decoding of an included file, by what its reader answers.
-use Rattle.std.proofs.Common.{◌≡◌, ◌≢◌, ◌<◌, ◌≤◌, ℕ, Option, Some, None, List, [], length, inr, refl, sym, ap, ◌∙◌, subst}
-use Rattle.djvu_base.specs.Library.{Mark, Open}
-use Rattle.djvu_base.specs.Meter.{ticked, TicksExactly}
+use Rattle.std.proofs.Common.{◌≡◌, ◌≢◌, ◌<◌, ◌≤◌, ℕ, min, Option, Some, None, List, [], ◌∷◌, length, inr, refl, sym, ap, ◌∙◌, subst, arith}
+use Rattle.std.proofs.lemmas.Grind.{common_steps}
+use Rattle.djvu_base.specs.Library.{Mark, Open, mark_of}
+use Rattle.djvu_base.specs.declared.ends.FileEnd.{FileEnd}
+use Rattle.djvu_base.specs.declared.ends.FileEnd.TheVariants as file_end
+use Rattle.djvu_base.specs.Meter.{ticked, TicksExactly, TicksAtMost}
 use Rattle.djvu_base.specs.declared.faults.Fault.{Fault}
 use Rattle.bit_plane.specs.Pixels.{Pixels}
 use Rattle.zp_table.specs.Rows.{IsTable}
@@ -85,3 +88,17 @@ module _ (given : Given) (rest : List ℕ) (answer : PageStep) (before after : F
 
   pub counts : answer ≢ step.OutOfMemory → TicksExactly (decode given).decisions 0 (decisions_in after)
   counts some = told.decisions some ∙ ap (λ x. ticked (decisions_to x (read given)) 0) the_end
+
+pub closed_end : (end : FileEnd) → mark_of end ≢ Open
+closed_end file_end.Whole e = cc
+closed_end file_end.Broken e = cc
+
+-- what was counted up to an end ticked at most so often
+pub ticked_at_most : (most ticks count before after : ℕ) → TicksExactly ticks 0 count → count ≤ ticked most 0 → TicksExactly ticks before after
+    → TicksAtMost most before after
+ticked_at_most most ticks count before after counted le ticked_so =
+    let counted_is : count ≡ min ticks 0xffff_ffff_ffff_ffff = grind (arith, common_steps, counted) in
+    let le_is : count ≤ min most 0xffff_ffff_ffff_ffff = grind (arith, common_steps, le) in
+    let few : min ticks most ≤ most = omega arith in
+    let same : after ≡ ticked (min ticks most) before = grind (arith, common_steps, counted_is, le_is, ticked_so) in
+    (min ticks most, few, same)

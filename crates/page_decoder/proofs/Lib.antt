@@ -97,9 +97,6 @@ mod GivenOutlines
 mod ActsByEvents
 mod Onward
 mod Entries
--- the functions of FileReader
-mod Answering
-mod Telling
 -- PageDecoder
 mod Decoding
 -- give_outline, give_file, end
@@ -114,13 +111,12 @@ mod Sounding
 mod Eventing
 mod DataEvents
 mod Bounded
-mod ChunkEnds
--- decode_done: an included file has no drawing; what it gives
-mod Drawless
-mod Gifts
 mod Origins
 -- at_close, at_form_end
 mod FileEnds
 mod ChunkEnds
 -- at_pause
 mod Pausing
+-- decode_done: an included file has no drawing; what it gives
+mod Drawless
+mod Gifts

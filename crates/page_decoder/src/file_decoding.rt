@@ -76,6 +76,7 @@ pub fn decode_done<M: Meter>(
 {
     growth();
     needs();
+    table.len();
     let mut reader = FileReader::new(alloc, Role::Included, table, file);
     let (_, answer) = reader.run(names, &[], results, bytes, Some(end), meter);
     DecodedFile {

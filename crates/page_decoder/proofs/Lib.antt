@@ -124,3 +124,6 @@ mod Shutting
 mod Pausing
 -- at_bytes_end
 mod ByteEnds
+-- decode_done: an included file has no drawing; what it gives
+mod Drawless
+mod Gifts

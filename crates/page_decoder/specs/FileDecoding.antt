@@ -8,11 +8,11 @@ use Rattle.jb2_records.specs.declared.results.FileResult.TheVariants as gift
 use Rattle.page_decoder.specs.declared.decoder.PageStep.{PageStep}
 use Rattle.page_decoder.specs.declared.decoder.PageStep.TheVariants as step
 use Rattle.page_decoder.specs.Given.{Included, Known, Given}
-use Rattle.page_decoder.specs.Resolving.{result_at}
+use Rattle.page_decoder.specs.Resolving.{given_at, result_from}
 
 -- what each file is known to give is what stands at its number
 pub record KnowsResults (results : List (Option FileResult)) (known : Known) : Type 0 where
-  pub results_are : (file : ℕ) → known.results file ≡ result_at (slice_get results file)
+  pub results_are : (file : ℕ) → known.results file ≡ result_from (given_at (slice_get results file))
 
 -- an included file with these bytes, among these names
 abbrev pub included : List Row → List (List ℕ) → ℕ → Known → List ℕ → Mark → Given

@@ -13,6 +13,7 @@ ghost use Rattle.page_decoder.specs.FileReading.{dictionary_in};
 
 use crate::decoder::PageStep;
 use crate::file_reader::FileReader;
+use crate::page_laws::{growth, needs};
 use crate::roles::Role;
 use djvu_base::{FileEnd, Meter, Name, Share};
 use jb2_records::{FileResult, SharedDictionary};
@@ -73,6 +74,9 @@ pub fn decode_done<M: Meter>(
         result.decisions ≤ ticked (decode (included (arc_value table) names.now file known bytes.now (mark_of end))).decisions 0 }
     ensures rise { RiseTogether 0 result.decisions (M.count meter.old) (M.count meter.new) }
 {
+    growth();
+    needs();
+    table.len();
     let mut reader = FileReader::new(alloc, Role::Included, table, file);
     let (_, answer) = reader.run(names, &[], results, bytes, Some(end), meter);
     DecodedFile {

@@ -40,9 +40,10 @@ finished_is (NeedFile file) e = absurd (cc)
 pub shows_front : (layers : Option Layers) (drawn : ℕ) (told : List Drawing) (all : Told) → drawn ≡ length told → Front told all.drawings
     → layers ≡ last_layers told → Shows layers drawn all
 shows_front layers drawn told all d f l =
-    let within : length told ≤ length all.drawings = let e = ap length f.1 ∙ length-append told f.0 in omega (arith, e) in
-    (omega (arith, d, within),
-    l ∙ ap last_layers (sym (told_front told f.0) ∙ ap (λ xs. take (length told) xs) (sym f.1) ∙ ap (λ n. take n all.drawings) (sym d)))
+    let within : length told ≤ length all.drawings = let e = ap length f.1 ∙ length-append told f.0 in omega (arith, e) in (
+      omega (arith, d, within),
+      l ∙ ap last_layers (sym (told_front told f.0) ∙ ap (λ xs. take (length told) xs) (sym f.1) ∙ ap (λ n. take n all.drawings) (sym d)),
+    )
 
 -- where the reading ends here
 pub ends_answer : (given : Given) (rest : List ℕ) (before after : FileReader) (left : Left) (end : Ending) → read given ≡ record { left = left; end = end }

@@ -124,7 +124,7 @@ module _ (given : Given) (rest taken : List ℕ) (old : FileReader) (end : Optio
   never_waits None e k o =
       let origin = origin_of (chunks_of now.bytes).form in
       let over : close_in Open now.bytes ≡ close_of origin close.Over =
-          subst (λ x. IsBehind (mark_by x) now.bytes behind) e b ∙ ap (λ x. close_of origin x) k in
+      subst (λ x. IsBehind (mark_by x) now.bytes behind) e b ∙ ap (λ x. close_of origin x) k in
       open_tail (chunks_of now.bytes).tail t.settles.2 origin over
 
   stays : behind ≡ close.Over → (later : Given) → Within given later → Pauses later t.so_far (Over old.origin)

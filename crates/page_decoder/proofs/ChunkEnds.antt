@@ -149,8 +149,14 @@ module _ (given : Given) (rest used : List ℕ) (reader : FileReader) (law : Con
 
   module _ (t : IsTold given rest event.ChunkEnd used reader) (chunk : ChunkAtHand) (e : IsEnded given reader chunk t.now t.so_far.acts t.left)
       (answer : Option PageStep) (next : FileReader) (h : HasClosed chunk answer (record reader { chunk = None }) next) (none : next.chunk ≡ None)
-      (stays : next ≡ record reader { chunk = None; kept = next.kept; includes = next.includes; chunks = next.chunks; drawn = next.drawn;
-      decisions = next.decisions }) where
+      (stays : next ≡ record reader {
+        chunk = None;
+        kept = next.kept;
+        includes = next.includes;
+        chunks = next.chunks;
+        drawn = next.drawn;
+        decisions = next.decisions;
+      }) where
     abbrev mine : Came
     mine = it t chunk e answer next h
 
@@ -180,7 +186,12 @@ module _ (given : Given) (rest used : List ℕ) (reader : FileReader) (law : Con
 
     abbrev here : FileReader
     here = record reader {
-      chunk = None; kept = next.kept; includes = next.includes; chunks = next.chunks; drawn = next.drawn; decisions = next.decisions
+      chunk = None;
+      kept = next.kept;
+      includes = next.includes;
+      chunks = next.chunks;
+      drawn = next.drawn;
+      decisions = next.decisions;
     }
 
     -- the reader stands behind the chunk
@@ -217,7 +228,10 @@ module _ (given : Given) (rest used : List ℕ) (reader : FileReader) (law : Con
         } in
         let stands : StandsAt t.now here.stage here = subst (λ s. StandsAt t.now s here) (sym t.is_walking) walking in
         record {
-          now = t.now; within = t.within; bytes_are = t.bytes_are; known_is = t.known_is;
+          now = t.now;
+          within = t.within;
+          bytes_are = t.bytes_are;
+          known_is = t.known_is;
           stands = subst (λ r. StandsAt t.now r.stage r) (sym stays) stands;
         }
 
@@ -314,7 +328,12 @@ module _ (given : Given) (rest used : List ℕ) (reader : FileReader) (law : Con
   -- behind a chunk that was closed nothing else changed
   abbrev closed_with : FileReader → Resolving → ℕ → ℕ → FileReader
   closed_with next includes chunks drawn = record reader {
-    chunk = None; kept = next.kept; includes = includes; chunks = chunks; drawn = drawn; decisions = next.decisions
+    chunk = None;
+    kept = next.kept;
+    includes = includes;
+    chunks = chunks;
+    drawn = drawn;
+    decisions = next.decisions;
   }
 
   stays_so : (next : FileReader) (includes : Resolving) (chunks drawn : ℕ) → next ≡ closed_with next includes chunks drawn

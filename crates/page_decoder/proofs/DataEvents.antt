@@ -87,14 +87,19 @@ module _ (given : Given) (rest used : List ℕ) (reader after : FileReader) (law
           waits = t.holds.waits;
           decisions_are = t.holds.decisions_are;
           tallies = record {
-            chunks_are = t.holds.tallies.chunks_are; drawn_are = t.holds.tallies.drawn_are; last_is = t.holds.tallies.last_is
+            chunks_are = t.holds.tallies.chunks_are;
+            drawn_are = t.holds.tallies.drawn_are;
+            last_is = t.holds.tallies.last_is;
           };
         };
       } in
       subst (λ r. Moves given rest reader r) (sym e) (record {
         drawn = refl;
         stands = record {
-          now = t.now; within = t.within; bytes_are = t.bytes_are; known_is = t.known_is;
+          now = t.now;
+          within = t.within;
+          bytes_are = t.bytes_are;
+          known_is = t.known_is;
           stands = subst (λ s. StandsAt t.now s now) (sym t.is_walking) walking;
         };
       })

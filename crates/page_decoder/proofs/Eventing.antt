@@ -123,7 +123,10 @@ module _ (given : Given) (rest used : List ℕ) (reader : FileReader) where
       record {
         drawn = refl;
         stands = record {
-          now = t.now; within = t.within; bytes_are = t.bytes_are; known_is = t.known_is;
+          now = t.now;
+          within = t.within;
+          bytes_are = t.bytes_are;
+          known_is = t.known_is;
           stands = subst (λ s. StandsAt t.now s reader) (sym t.is_walking) walking;
         };
       }
@@ -174,7 +177,9 @@ module _ (given : Given) (rest used : List ℕ) (reader : FileReader) where
         resolves = waits_at (kind_of head.id) home t.now.known t.left reader.includes t.holds.waits;
         decisions_are = t.holds.decisions_are;
         tallies = record {
-          chunks_are = t.holds.tallies.chunks_are; drawn_are = t.holds.tallies.drawn_are; last_is = t.holds.tallies.last_is
+          chunks_are = t.holds.tallies.chunks_are;
+          drawn_are = t.holds.tallies.drawn_are;
+          last_is = t.holds.tallies.last_is;
         };
       } in
       let moves : Moves given rest reader behind = record {

@@ -18,7 +18,11 @@ module _ (names : List (List ℕ)) (outlines : List (Option Outline)) (results :
   given_on : (piece rest : List ℕ) (before given : Given) (reader : FileReader) → IsGiven names outlines results piece end before given
       → (s : StandsBefore given rest reader) → IsGiven names outlines results rest end s.now given
   given_on piece rest before given reader is s = record {
-    names_are = is.names_are; known_is = is.known_is; within = s.within; bytes_are = s.bytes_are; mark_is = is.mark_is
+    names_are = is.names_are;
+    known_is = is.known_is;
+    within = s.within;
+    bytes_are = s.bytes_are;
+    mark_is = is.mark_is;
   }
 
   abbrev pub Steps : List ℕ → ℕ → Option PageStep → FileReader → FileReader → Type 0
@@ -51,9 +55,10 @@ pub rest_on : (piece rest next : List ℕ) (used : ℕ) → rest ≡ drop (lengt
     → next ≡ drop used rest → (length next ≤ length piece) × (next ≡ drop (length piece - length next) piece)
 rest_on piece rest next used is within most e =
     let size : length next ≡ length rest - used = ap length e ∙ length-drop used rest in
-    let count : length piece - length rest + used ≡ length piece - length next = omega (arith, size, within, most) in
-    (omega (arith, size, within),
-    e ∙ ap (drop used) is ∙ drop-drop used (length piece - length rest) piece ∙ ap (λ n. drop n piece) count)
+    let count : length piece - length rest + used ≡ length piece - length next = omega (arith, size, within, most) in (
+      omega (arith, size, within),
+      e ∙ ap (drop used) is ∙ drop-drop used (length piece - length rest) piece ∙ ap (λ n. drop n piece) count,
+    )
 
 pub none_used : (piece : List ℕ) → piece ≡ drop (length piece - length piece) piece
 none_used piece = let none : length piece - length piece ≡ 0 = omega arith in sym (ap (λ n. drop n piece) none)

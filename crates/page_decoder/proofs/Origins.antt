@@ -151,7 +151,13 @@ module _ (law : Container) (given : Given) (rest used : List ℕ) (reader : File
   form_end_pauses t =
       let stays = over_pauses law t.now t.so_far t.walks.told reader.origin t.walks.acts_are t.of.origin_is t.settles in
       record {
-        now = t.now; within = t.within; bytes_are = t.bytes_are; known_is = t.known_is; so_far = t.so_far; left = t.left; of = t.of;
+        now = t.now;
+        within = t.within;
+        bytes_are = t.bytes_are;
+        known_is = t.known_is;
+        so_far = t.so_far;
+        left = t.left;
+        of = t.of;
         pauses = stays given t.within;
         stays = λ e later w. stays later w;
         holds = t.holds;
@@ -163,7 +169,13 @@ module _ (law : Container) (given : Given) (rest used : List ℕ) (reader : File
   broken_pauses_so uncut kind offset t =
       let stays = broken_pauses law t.now t.so_far t.walks.told reader.origin t.walks.acts_are t.of.origin_is uncut kind offset t.settles in
       record {
-        now = t.now; within = t.within; bytes_are = t.bytes_are; known_is = t.known_is; so_far = t.so_far; left = t.left; of = t.of;
+        now = t.now;
+        within = t.within;
+        bytes_are = t.bytes_are;
+        known_is = t.known_is;
+        so_far = t.so_far;
+        left = t.left;
+        of = t.of;
         pauses = stays given t.within;
         stays = λ e later w. absurd (cc);
         holds = t.holds;

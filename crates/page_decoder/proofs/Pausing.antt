@@ -135,10 +135,10 @@ module _ (given : Given) (rest : List ℕ) (behind : FileClose) (old : FileReade
         let u = r.unfinished now.home.table k.left.decoded told.bytes old.kept opens short refl in
         let unfinished : it.outcome ≡ Unfinished = ap (λ h. (came now.home.table h (data_of told.bytes false) k.left.decoded).outcome) (sym o.head_is) ∙ u.0 in
         let ticks : TicksExactly it.decisions 0 (decisions_of next.opened) =
-            subst (λ h. TicksExactly (came now.home.table h (data_of told.bytes false) k.left.decoded).decisions 0 (decisions_of next.opened)) o.head_is
-            (r.decisions now.home.table k.left.decoded told.bytes old.kept opens short (λ e. cc)) in
+        subst (λ h. TicksExactly (came now.home.table h (data_of told.bytes false) k.left.decoded).decisions 0 (decisions_of next.opened)) o.head_is
+        (r.decisions now.home.table k.left.decoded told.bytes old.kept opens short (λ e. cc)) in
         let still = λ (later : Given) (w : Within now later) (c : Close) (p : Pauses later so_far c).
-            reads_at later w c p ∙ ap (λ x. after (at_outcome now.home told.head it.decisions x k.left) (at_close later.home later.known c)) unfinished in
+        reads_at later w c p ∙ ap (λ x. after (at_outcome now.home told.head it.decisions x k.left) (at_close later.home later.known c)) unfinished in
         record {
           now = now;
           within = k.within;
@@ -196,11 +196,11 @@ module _ (given : Given) (rest : List ℕ) (behind : FileClose) (old : FileReade
         let offset = told.head.offset in
         let failed : it.outcome ≡ Fails kind = ap (λ h. (came now.home.table h (data_of told.bytes false) k.left.decoded).outcome) (sym o.head_is) ∙ f.1 in
         let ticks : TicksExactly it.decisions 0 (decisions_of next.opened) =
-            subst (λ h. TicksExactly (came now.home.table h (data_of told.bytes false) k.left.decoded).decisions 0 (decisions_of next.opened)) o.head_is
-            (r.decisions now.home.table k.left.decoded told.bytes old.kept opens short (λ e. some_memory (same_step stop step.OutOfMemory e))) in
+        subst (λ h. TicksExactly (came now.home.table h (data_of told.bytes false) k.left.decoded).decisions 0 (decisions_of next.opened)) o.head_is
+        (r.decisions now.home.table k.left.decoded told.bytes old.kept opens short (λ e. some_memory (same_step stop step.OutOfMemory e))) in
         let is : read given ≡ record { left = counted; end = refused_at now.home kind offset } =
-            reads_at given k.within (close_of old.origin behind) k.pauses
-            ∙ ap (λ x. after (at_outcome now.home told.head it.decisions x k.left) (at_close given.home given.known (close_of old.origin behind))) failed in
+        reads_at given k.within (close_of old.origin behind) k.pauses
+        ∙ ap (λ x. after (at_outcome now.home told.head it.decisions x k.left) (at_close given.home given.known (close_of old.origin behind))) failed in
         let file : now.home.file ≡ old.file = ap (λ h. h.file) k.of.home_is in
         subst (λ s. Answers given rest s old new) (ap (λ n. step.Refused (fault_at kind n offset)) file
         ∙ ap (λ h. step.Refused (fault_at kind old.file h.offset)) (sym o.head_is) ∙ sym f.2)
@@ -211,12 +211,12 @@ module _ (given : Given) (rest : List ℕ) (behind : FileClose) (old : FileReade
     pub pauses_stopped : (stop : PageStep) → ReadsOn (Some stop) old.file chunk next → Answers given rest stop old new
     pauses_stopped step.OutOfMemory r =
         let below : Below counted.told (read given).left.told =
-            subst (λ x. Below counted.told x.left.told) (sym (reads_at given k.within (close_of old.origin behind) k.pauses))
-            (after_below counted.told (at_data now.home told.head (data_of told.bytes false) k.left) (at_close given.home given.known (close_of old.origin behind))
-            (λ left. from_below given.home given.known (close_of old.origin behind) [] left) (below_counted k.left)) in
+        subst (λ x. Below counted.told x.left.told) (sym (reads_at given k.within (close_of old.origin behind) k.pauses))
+        (after_below counted.told (at_data now.home told.head (data_of told.bytes false) k.left) (at_close given.home given.known (close_of old.origin behind))
+        (λ left. from_below given.home given.known (close_of old.origin behind) [] left) (below_counted k.left)) in
         let most : decisions_of next.opened ≤ ticked it.decisions 0 =
-            subst (λ h. decisions_of next.opened ≤ ticked (came now.home.table h (data_of told.bytes false) k.left.decoded).decisions 0) o.head_is
-            (r.at_most now.home.table k.left.decoded told.bytes old.kept opens short) in
+        subst (λ h. decisions_of next.opened ≤ ticked (came now.home.table h (data_of told.bytes false) k.left.decoded).decisions 0) o.head_is
+        (r.at_most now.home.table k.left.decoded told.bytes old.kept opens short) in
         memory_answer given rest old new counted.told (k.left.told.decisions + it.decisions) below.drawings below.decisions
         k.holds.tallies.drawn_are refl (both_within k.left.told.decisions it.decisions old.decisions (decisions_of next.opened) k.holds.decisions_are most)
         (kept_layers ∙ k.holds.tallies.last_is)

@@ -74,7 +74,7 @@ origin_first [] [] arrived origin c o = by (eqb arrived 0)
 origin_first [] (byte ∷ taken) arrived origin c o =
     let none : arrived ≡ 0 = c in
     ap (λ n. cond (eqb n 0) (origin_so origin (byte ∷ taken)) origin) none
-origin_first (byte ∷ bytes) taken arrived origin c o = by arrived (some) 
+origin_first (byte ∷ bytes) taken arrived origin c o = by arrived (some)
   where
     some : arrived ≢ 0
     some e = let now : arrived ≡ min (length (byte ∷ bytes)) (2 ^ 32 - 1) = c in absurd (grind (arith, common_steps))
@@ -98,9 +98,11 @@ settles answer before after bytes rest used told f t = by answer refl
     by event.ChunkEnd e = tt
     by event.NeedBytes e =
         let n = f.needs bytes told t e in
-        let whole : take used rest ≡ rest = ap (λ k. take k rest) n.0 ∙ take_all (length rest) rest (omega arith) in
-        (drop_all used rest (let k = n.0 in omega (arith, k)), ap (λ b. events_of (chunks_of (bytes ++ b))) whole ∙ n.1,
-        subst (λ b. IsOpen (chunks_of (bytes ++ b)).tail) (sym whole) n.2)
+        let whole : take used rest ≡ rest = ap (λ k. take k rest) n.0 ∙ take_all (length rest) rest (omega arith) in (
+          drop_all used rest (let k = n.0 in omega (arith, k)),
+          ap (λ b. events_of (chunks_of (bytes ++ b))) whole ∙ n.1,
+          subst (λ b. IsOpen (chunks_of (bytes ++ b)).tail) (sym whole) n.2,
+        )
     by event.FormEnd e = λ more.
         let ends = subst (λ a. EndsSo a told (chunks_of (bytes ++ (take used rest ++ more)))) e (f.ends bytes more told t) in
         let same = append_assoc bytes (take used rest) more in
@@ -216,4 +218,3 @@ told_next names outlines results rest end before given old after used answer g g
       decisions_are = h.decisions_are;
       tallies = record { chunks_are = h.tallies.chunks_are; drawn_are = h.tallies.drawn_are; last_is = h.tallies.last_is };
     }
-

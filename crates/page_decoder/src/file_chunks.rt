@@ -159,14 +159,9 @@ impl FileReader {
             (home_of self.old.role table names.now self.old.file) (known_of (map outline_in outlines.now) results.now) left result self.old.includes self.new.includes }
         ensures rest { self.new ≡ record self.old { includes = self.new.includes } }
     {
-        let resolution = self.includes.resolve(
-            self.alloc,
-            self.role,
-            names,
-            self.file,
-            outlines,
-            results,
-        );
+        let resolution = self
+            .includes
+            .resolve(self.alloc, self.role, names, self.file, outlines, results);
         answer_of(resolution)
     }
 
@@ -179,12 +174,9 @@ impl FileReader {
         ensures layers { self.new.kept.layers ≡ self.old.kept.layers }
         ensures home { SameFile self.old self.new }
     {
-        let begun = self.kept.begin(
-            self.alloc,
-            &self.table,
-            self.includes.inherited(),
-            head,
-        );
+        let begun = self
+            .kept
+            .begin(self.alloc, &self.table, self.includes.inherited(), head);
         match begun {
             Ok(opened) => {
                 self.chunk = Some(ChunkAtHand { head, opened });

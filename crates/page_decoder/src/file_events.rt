@@ -100,7 +100,13 @@ impl FileReader {
             WalkStep::Data => self.at_data(taken),
             WalkStep::ChunkEnd => self.at_chunk_end(meter),
             WalkStep::NeedBytes => Some(self.at_bytes_end(names, outlines, results, end, meter)),
-            WalkStep::FormEnd => Some(self.at_pause(names, outlines, results, FileClose::Over, meter)),
+            WalkStep::FormEnd => Some(self.at_pause(
+                names,
+                outlines,
+                results,
+                FileClose::Over,
+                meter,
+            )),
             WalkStep::Broken { kind, offset } => Some(self.at_pause(
                 names,
                 outlines,

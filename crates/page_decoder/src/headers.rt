@@ -64,7 +64,11 @@ fn first_fault(kind: ChunkKind, size: u32) -> Option<FaultKind>
 fn short_info(size: u32) -> Option<FaultKind>
     ensures { result ≡ (if nat_lt size 5 then Some FaultKind.BadInfo else None) }
 {
-    if size < 5 { Some(FaultKind::BadInfo) } else { None }
+    if size < 5 {
+        Some(FaultKind::BadInfo)
+    } else {
+        None
+    }
 }
 
 /// Why a page can't have a later chunk of this kind, behind those that left this.

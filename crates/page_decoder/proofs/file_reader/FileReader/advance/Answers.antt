@@ -8,9 +8,10 @@ returns-in-NeedBytes-clause-advances g c =
     let after : ChunkAtHand = record { head = c.in-Some.chunk.head; opened = c.advance.new.self } in
     subst (λ before. Advances None c.args.self.now.file before (Some after)) (sym c.in-Some.is) (record {
       head_is = refl;
-      unfinished = λ table decoded bytes kept o short e.
-          ((c.in-NeedBytes.ensures.advances table c.in-Some.chunk.head decoded bytes kept o short).answers,
-          c.in-NeedBytes.ensures.opens table c.in-Some.chunk.head decoded bytes kept o refl);
+      unfinished = λ table decoded bytes kept o short e. (
+        (c.in-NeedBytes.ensures.advances table c.in-Some.chunk.head decoded bytes kept o short).answers,
+        c.in-NeedBytes.ensures.opens table c.in-Some.chunk.head decoded bytes kept o refl,
+      );
       fails = λ table decoded bytes kept o short stop e no. absurd (cc);
       decisions = λ table decoded bytes kept o short no. (c.in-NeedBytes.ensures.advances table c.in-Some.chunk.head decoded bytes kept o short).all (λ e. cc);
       at_most = λ table decoded bytes kept o short. (c.in-NeedBytes.ensures.advances table c.in-Some.chunk.head decoded bytes kept o short).at_most;

@@ -13,10 +13,10 @@ returns-clause-answers g c = λ given rest taken so m t.
     let mid = c.behind_bytes-behind.new.self in
     let behind = c.behind_bytes-behind.result in
     let paused = subst (λ r. IsPaused given rest behind r) (sym c.behind_bytes-behind.ensures.rest)
-        (paused_bytes given rest taken old c.args.end behind mid.walker t m
-        (c.behind_bytes-behind.ensures.behind t.now.bytes t.walks.told t.walks.is_told t.of.counts t.settles.2)
-        (λ e. ap (λ r. r.walker) (c.behind_bytes-behind.ensures.waits e).1)
-        (record { laid = c.layout.ensures.laid; order = c.order.ensures })) in
+    (paused_bytes given rest taken old c.args.end behind mid.walker t m
+    (c.behind_bytes-behind.ensures.behind t.now.bytes t.walks.told t.walks.is_told t.of.counts t.settles.2)
+    (λ e. ap (λ r. r.walker) (c.behind_bytes-behind.ensures.waits e).1)
+    (record { laid = c.layout.ensures.laid; order = c.order.ensures })) in
     comes_same given rest (Some c.at_pause.result) mid old c.at_pause.new.self (ap (λ r. r.drawn) c.behind_bytes-behind.ensures.rest)
     (c.at_pause.ensures.answers given rest so paused)
 

@@ -19,7 +19,7 @@ pub returns-then-lacks_info-clause-answers : goal.returns-then-lacks_info-clause
 returns-then-lacks_info-clause-answers c = λ given rest so k.
     let reader = c.args.self.now in
     let lacks : lacks_info (role_of reader.role) reader.chunks ≡ true =
-        ap (λ d. lacks_info (role_of d.role) d.chunks) (sym c.drop_chunk.ensures) ∙ sym c.lacks_info.ensures ∙ c.if-lacks_info.true in
+    ap (λ d. lacks_info (role_of d.role) d.chunks) (sym c.drop_chunk.ensures) ∙ sym c.lacks_info.ensures ∙ c.if-lacks_info.true in
     subst (λ answer. Answers given rest answer reader c.drop_chunk.new.self) (sym c.refused.ensures)
     (subst (λ d. Answers given rest (step.Refused (fault_at fault.NoInfo d.file d.origin)) reader d) (sym c.drop_chunk.ensures)
     (lacks_here given rest close.Over reader k refl lacks))
@@ -28,7 +28,7 @@ pub returns-clause-answers : goal.returns-clause-answers
 returns-clause-answers c = λ given rest so k.
     let reader = c.args.self.now in
     let goes : lacks_info (role_of reader.role) reader.chunks ≡ false =
-        ap (λ d. lacks_info (role_of d.role) d.chunks) (sym c.drop_chunk.ensures) ∙ sym c.lacks_info.ensures ∙ c.if-lacks_info.false in
+    ap (λ d. lacks_info (role_of d.role) d.chunks) (sym c.drop_chunk.ensures) ∙ sym c.lacks_info.ensures ∙ c.if-lacks_info.false in
     let d = c.drop_chunk.new.self in
     comes_same given rest (Some c.finish.result) (record d { stage = stage.AtEnd }) reader c.finish.new.self
     (ap (λ d. d.drawn) c.drop_chunk.ensures)

@@ -42,8 +42,8 @@ returns-in-None-clause-answers g c = λ given rest so k.
       });
     } in
     let closing = subst (λ new. IsClosing given rest c.args.behind new) (sym c.advance.ensures.rest)
-        (comes_to given rest c.args.behind old k law grows None next
-        (subst (λ answer. Advances answer old.file old.chunk next) c.in-None.is c.advance.ensures.advances)) in
+    (comes_to given rest c.args.behind old k law grows None next
+    (subst (λ answer. Advances answer old.file old.chunk next) c.in-None.is c.advance.ensures.advances)) in
     comes_same given rest (Some c.at_close.result) c.advance.new.self old c.at_close.new.self (ap (λ r. r.drawn) c.advance.ensures.rest)
     (c.at_close.ensures.answers given rest so closing)
 

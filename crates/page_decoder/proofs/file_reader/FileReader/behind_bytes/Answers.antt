@@ -44,8 +44,8 @@ returns-in-Some-clause-behind c = λ bytes told t counts open_.
     let mark = mark_of c.in-Some.end in
     let arrived = c.args.self.now.arrived in
     let all = λ (offset : ℕ) (e : end_of chunks.whole chunks.tail ≡ Broken fault.Truncated offset).
-        let early = c.bounds.ensures.cut_is_early bytes offset e in
-        let same : arrived ≡ length bytes = omega (arith, early, counts, limit_fits) in same in
+    let early = c.bounds.ensures.cut_is_early bytes offset e in
+    let same : arrived ≡ length bytes = omega (arith, early, counts, limit_fits) in same in
     subst (λ e. IsBehind (mark_by e) bytes c.close_of.result) (sym c.in-Some.is)
     (ap (acts.close_of origin) (sym (c.finish.ensures.ends bytes told t ∙ end_so mark (length bytes) arrived chunks.whole chunks.tail all))
     ∙ same_close origin c.finish.result ∙ ap (close_of origin) (sym c.close_of.ensures))

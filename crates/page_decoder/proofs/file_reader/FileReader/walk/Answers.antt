@@ -13,7 +13,9 @@ use Rattle.page_decoder.proofs.file_reader.FileReader.walk.Goals as goal
 
 abbrev counted_so : Walking → FileReader → List ℕ → FileReader
 counted_so walker reader taken = record reader {
-  walker = walker; origin = origin_with reader.arrived taken reader.origin; arrived = counted_with reader.arrived taken
+  walker = walker;
+  origin = origin_with reader.arrived taken reader.origin;
+  arrived = counted_with reader.arrived taken;
 }
 
 pub returns-clause-comes : goal.returns-clause-comes

@@ -104,6 +104,8 @@ mod Entries
 mod Decoding
 -- give_outline, give_file, end
 mod Gifting
+-- give_outline, give_file
+mod Lessening
 -- read_on
 mod Reached
 -- the functions of FileReader

@@ -15,7 +15,7 @@ use Rattle.page_decoder.specs.declared.decoder.Standing.TheVariants as standing
 use Rattle.page_decoder.specs.Given.{Page, Home, Known, Given, Within}
 use Rattle.page_decoder.specs.PageRead.{Ending, Finished, Refused, NeedBytes, NeedOutline, NeedFile, PageRead}
 use Rattle.page_decoder.specs.Read.{read}
-use Rattle.page_decoder.specs.Resolving.{Gifts, home_of, known_by}
+use Rattle.page_decoder.specs.Resolving.{Gifts, home_of, known_by, not_given}
 use Rattle.page_decoder.specs.Decoder.{Ends, next_entry, Shows}
 use Rattle.page_decoder.specs.FileReading.{Stands, mark_by, decisions_in}
 
@@ -42,6 +42,8 @@ pub record Decoding : Type 0 where
   pub layers : Option Layers
   -- the end at which the page stands, until more comes that may lift it. What it needs may be given then
   pub stands : Option Ending
+  -- so many outlines and results of other files weren't given yet
+  pub to_ask : ℕ
   -- there was no memory: nothing else is answered any more
   pub failed : Bool
   pub kept : Kept
@@ -94,6 +96,7 @@ decoding_of kept = record {
   decisions = decisions_in kept.reader;
   layers = kept.reader.kept.layers;
   stands = stands_by kept.standing;
+  to_ask = not_given kept.others;
   failed = is_failed kept.standing;
   kept = kept;
 }

@@ -1,5 +1,5 @@
 -- The resolving of includes: what is kept of them, and how that stands to the definition, whatever more becomes known.
-use Rattle.std.specs.Prelude.{ℕ, ◌≡◌, ◌⊎◌, Bool, true, false, List, [], ◌∷◌, ◌++◌, length, Option, Some, None, ⊤, slice_get, unwrap_or}
+use Rattle.std.specs.Prelude.{ℕ, zero, suc, ◌≡◌, ◌+◌, ◌⊎◌, Bool, true, false, List, [], ◌∷◌, ◌++◌, length, Option, Some, None, ⊤, slice_get, unwrap_or}
 use Rattle.bit_plane.specs.Pixels.{Pixels}
 use Rattle.zp_table.specs.declared.rows.Row.{Row}
 use Rattle.include_graph.specs.declared.outline.Outline.{Outline}
@@ -62,6 +62,21 @@ IsPlaced count places = (places ≡ []) ⊎ (length places ≡ count)
 pub record HasPlaces (gifts : Gifts) : Type 0 where
   pub outlines : IsPlaced gifts.count gifts.outlines
   pub results : IsPlaced gifts.count gifts.results
+
+-- ---- what isn't known yet
+
+abbrev pub lacking : {A : Type 0} → Option A → ℕ
+lacking None = 1
+lacking (Some it) = 0
+
+-- of so many files, by their numbers, how many nothing is known of
+abbrev pub unknown_of : {A : Type 0} → (ℕ → Option A) → ℕ → ℕ
+unknown_of known zero = 0
+unknown_of known (suc count) = lacking (known count) + unknown_of known count
+
+-- so many outlines, and so many results, can still be asked for
+unfoldable pub not_given : Gifts → ℕ
+not_given gifts = unknown_of (known_by gifts).outlines gifts.count + unknown_of (known_by gifts).results gifts.count
 
 -- ---- the file itself
 

@@ -1,5 +1,5 @@
 //! The decoder of a page, which is fed its bytes piece by piece and given what it asks for of other files.
-ghost use Rattle.std.specs.Prelude.{◌≡◌, ◌≢◌, ◌≤◌, ◌<◌, ◌^◌, ◌++◌, ℕ, List, [], length, take, true, false, Option, Some, None, IsErr, OnOk, OnErr, MatchOption};
+ghost use Rattle.std.specs.Prelude.{◌≡◌, ◌≢◌, ◌≤◌, ◌<◌, ◌^◌, ◌++◌, ℕ, List, [], length, take, true, false, Option, Some, None, IsErr, OnOk, OnErr, MatchOption, ⊤};
 ghost use Rattle.std.specs.Arc.{arc_value};
 ghost use Rattle.djvu_base.specs.Name.{IsAscending};
 ghost use Rattle.djvu_base.specs.Library.{Open, mark_of};
@@ -8,6 +8,7 @@ ghost use Rattle.page_decoder.specs.Given.{Page, Known, Given};
 ghost use Rattle.page_decoder.specs.PageRead.{Ending, NeedOutline, NeedFile};
 ghost use Rattle.page_decoder.specs.Read.{read};
 ghost use Rattle.page_decoder.specs.Resolving.{result_in};
+ghost use Rattle.page_decoder.specs.Found.{CanDraw, CanDrawLast};
 ghost use Rattle.page_decoder.specs.Decoder.{next_entry, answer_at, answer_to, decisions_to, drawn_with, end_with, without_bytes, RiseTogether, KnowsNothing, KnowsOutline, KnowsResult, Shows};
 ghost use Rattle.page_decoder.specs.PageFed.{Fed, StaysSo, standing_without, standing_after, standing_at};
 
@@ -139,6 +140,7 @@ impl PageDecoder {
         ensures err { OnErr result (self.new.failed ≡ true) }
         ensures failed { self.old.failed ≡ true → IsErr result }
         ensures mark { self.new.mark ≡ Open }
+        ensures to_ask { self.new.to_ask ≡ self.old.to_ask }
         ensures stays { StaysSo self.old self.new }
     {
         crate::page_laws::growth();
@@ -162,6 +164,7 @@ impl PageDecoder {
         ensures ok { OnOk result ((self.new.failed ≡ false) × (self.new.stands ≡ without_bytes self.old.stands)) }
         ensures err { OnErr result (self.new.failed ≡ true) }
         ensures mark { self.new.mark ≡ Open }
+        ensures to_ask { self.new.to_ask ≡ self.old.to_ask }
         ensures stays { StaysSo self.old self.new }
     {
         crate::page_laws::growth();
@@ -185,6 +188,7 @@ impl PageDecoder {
         ensures mark { self.old.mark ≡ Open → self.new.mark ≡ mark_of end }
         ensures stands { self.old.mark ≡ Open → self.new.stands ≡ without_bytes self.old.stands }
         ensures failed { self.new.failed ≡ self.old.failed }
+        ensures to_ask { self.new.to_ask ≡ self.old.to_ask }
         ensures stays { StaysSo self.old self.new }
         ensures again { self.old.mark ≢ Open → self.new ≡ self.old }
     {
@@ -205,6 +209,7 @@ impl PageDecoder {
         ensures ok { OnOk result ((self.new.failed ≡ false) × (self.new.stands ≡ None)) }
         ensures err { OnErr result (self.new.failed ≡ true) }
         ensures mark { self.new.mark ≡ self.old.mark }
+        ensures to_ask { OnOk result (self.new.to_ask < self.old.to_ask) }
         ensures stays { StaysSo self.old self.new }
     {
         crate::page_laws::growth();
@@ -224,6 +229,7 @@ impl PageDecoder {
         ensures ok { OnOk result ((self.new.failed ≡ false) × (self.new.stands ≡ None)) }
         ensures err { OnErr result (self.new.failed ≡ true) }
         ensures mark { self.new.mark ≡ self.old.mark }
+        ensures to_ask { OnOk result (gift ≢ FileResult.NoMemory → self.new.to_ask < self.old.to_ask) }
         ensures stays { StaysSo self.old self.new }
     {
         crate::page_laws::growth();
@@ -261,6 +267,7 @@ impl PageDecoder {
             (result ≡ PageStep.OutOfMemory) × (self.new ≡ self.old) × (M.count meter.new ≡ M.count meter.old) }
         ensures home { self.new.home ≡ self.old.home }
         ensures mark { self.new.mark ≡ self.old.mark }
+        ensures to_ask { self.new.to_ask ≡ self.old.to_ask }
     {
         match self.standing {
             Standing::Going => self.read_on(meter),
@@ -289,6 +296,7 @@ impl PageDecoder {
         ensures reads { result ≢ PageStep.OutOfMemory → self.new.failed ≡ false }
         ensures home { self.new.home ≡ self.old.home }
         ensures mark { self.new.mark ≡ self.old.mark }
+        ensures to_ask { self.new.to_ask ≡ self.old.to_ask }
     {
         crate::page_laws::growth();
         crate::page_laws::needs();
@@ -312,16 +320,18 @@ impl PageDecoder {
         self.reader.decisions()
     }
 
-    /// The layers of the last drawing: none before the first notice was drawn.
+    /// The layers of the last drawing, which can be drawn: none before the first notice was drawn.
     pub fn layers(&self) -> Option<&Layers>
-        ensures { MatchOption result (self.now.layers ≡ None) (λ layers. self.now.layers ≡ Some layers.now) }
+        ensures layers { MatchOption result (self.now.layers ≡ None) (λ layers. self.now.layers ≡ Some layers.now) }
+        ensures drawable { MatchOption result ⊤ (λ layers. CanDraw layers.now) }
     {
         self.reader.layers().as_ref()
     }
 
     /// The layers that `layers` tells, handed out. Takes no memory.
     pub fn take(self) -> Option<Layers>
-        ensures { result ≡ self.layers }
+        ensures layers { result ≡ self.layers }
+        ensures drawable { CanDrawLast result }
     {
         self.reader.into_layers()
     }

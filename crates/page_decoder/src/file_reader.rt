@@ -7,6 +7,7 @@ ghost use Rattle.djvu_base.specs.Library as library;
 ghost use Rattle.include_graph.specs.Verdicts.{outline_in};
 ghost use Rattle.page_decoder.specs.Given.{Given, Known};
 ghost use Rattle.page_decoder.specs.PageRead.{or_else};
+ghost use Rattle.page_decoder.specs.Found.{CanDrawLast};
 ghost use Rattle.page_decoder.specs.Decoder.{RiseTogether};
 ghost use Rattle.page_decoder.specs.Resolving.{IsPlaced, home_of};
 ghost use Rattle.page_decoder.specs.FileReading.{SameFile, Stands, IsReady, IsGiven, Answers, ComesTo, decisions_in, dictionary_in, left_over};
@@ -185,14 +186,16 @@ impl FileReader {
 
     /// The layers of the last drawing.
     pub(crate) fn layers(&self) -> &Option<Layers>
-        ensures { result.now ≡ self.now.kept.layers }
+        ensures layers { result.now ≡ self.now.kept.layers }
+        ensures drawable { CanDrawLast result.now }
     {
         self.kept.layers()
     }
 
     /// The layers of the last drawing, handed out.
     pub(crate) fn into_layers(self) -> Option<Layers>
-        ensures { result ≡ self.kept.layers }
+        ensures layers { result ≡ self.kept.layers }
+        ensures drawable { CanDrawLast result }
     {
         self.kept.into_layers()
     }

@@ -4,6 +4,7 @@ use Rattle.page_decoder.specs.Resolving.{result_in}
 use Rattle.page_decoder.specs.PageFed.{Fed, IsFed, Decoding, with_known}
 use Rattle.page_decoder.proofs.Decoding.{GrowthLaws, file_lacks}
 use Rattle.page_decoder.proofs.Gifting.{resulted_too, knows_result, file_gifted}
+use Rattle.page_decoder.proofs.Lessening.{result_less}
 use Rattle.page_decoder.proofs.decoder.PageDecoder.give_file.Goals as goal
 
 pub give_file-given-requires-clause-place : goal.give_file-given-requires-clause-place
@@ -30,6 +31,16 @@ returns-clause-fed c given known k f =
     (file_gifted laws _ given known c.args.file c.give_file-given.new.self (subst (IsFed given) (sym c.self.view_is) f) (result_in c.args.gift)
     c.give_file-given.result (ap (λ (d : Decoding). d.stands) c.self.view_is ∙ c.requires) k
     c.give_file-given.ensures.result c.give_file-given.ensures.others c.give_file-given.ensures.outlines)
+
+pub returns-clause-to_ask : goal.returns-clause-to_ask
+unfolding Fed
+returns-clause-to_ask c =
+    let laws : GrowthLaws =
+    record { told = c.growth.ensures.told; unmet = c.growth.ensures.unmet; outline = c.needs.ensures.outline; file = c.needs.ensures.file } in
+    let i = c.self.invariant in
+    let lacks = file_lacks laws _ i.given c.args.file (ap (λ (d : Decoding). d.stands) c.self.view_is ∙ c.requires) i.fed in
+    result_less _ c.give_file-given.new.self c.args.file c.give_file-given.ensures.count (subst (λ n. c.args.file < n) (sym i.places) lacks.2)
+    c.args.gift c.give_file-given.result lacks.1 c.give_file-given.ensures.result c.give_file-given.ensures.others c.give_file-given.ensures.outlines
 
 pub invariant_of-self : goal.invariant_of-self
 unfolding Fed

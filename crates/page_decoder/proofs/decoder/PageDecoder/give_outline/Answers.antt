@@ -4,6 +4,7 @@ use Rattle.page_decoder.specs.Resolving.{result_in}
 use Rattle.page_decoder.specs.PageFed.{Fed, IsFed, Decoding, with_known}
 use Rattle.page_decoder.proofs.Decoding.{GrowthLaws, outline_lacks}
 use Rattle.page_decoder.proofs.Gifting.{outlined_too, knows_outline, outline_gifted}
+use Rattle.page_decoder.proofs.Lessening.{outline_less}
 use Rattle.page_decoder.proofs.decoder.PageDecoder.give_outline.Goals as goal
 
 pub give_outline-given-requires-clause-place : goal.give_outline-given-requires-clause-place
@@ -30,6 +31,16 @@ returns-clause-fed c given known k f =
     (outline_gifted laws _ given known c.args.file c.give_outline-given.new.self (subst (IsFed given) (sym c.self.view_is) f) (arc_value c.args.outline)
     c.give_outline-given.result (ap (λ (d : Decoding). d.stands) c.self.view_is ∙ c.requires) k
     c.give_outline-given.ensures.outline c.give_outline-given.ensures.others c.give_outline-given.ensures.results)
+
+pub returns-clause-to_ask : goal.returns-clause-to_ask
+unfolding Fed
+returns-clause-to_ask c =
+    let laws : GrowthLaws =
+    record { told = c.growth.ensures.told; unmet = c.growth.ensures.unmet; outline = c.needs.ensures.outline; file = c.needs.ensures.file } in
+    let i = c.self.invariant in
+    let lacks = outline_lacks laws _ i.given c.args.file (ap (λ (d : Decoding). d.stands) c.self.view_is ∙ c.requires) i.fed in
+    outline_less _ c.give_outline-given.new.self c.args.file c.give_outline-given.ensures.count (subst (λ n. c.args.file < n) (sym i.places) lacks.2)
+    (arc_value c.args.outline) c.give_outline-given.result lacks.1 c.give_outline-given.ensures.outline c.give_outline-given.ensures.others c.give_outline-given.ensures.results
 
 pub invariant_of-self : goal.invariant_of-self
 unfolding Fed

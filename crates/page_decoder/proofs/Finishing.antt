@@ -109,11 +109,11 @@ first_info true false false true e = cc
 first_info true false false false e = record { is_info = refl; is_long = refl }
 
 -- a whole chunk has all its data
-abbrev FirstIsFull : List Chunk → Type 0
+abbrev pub FirstIsFull : List Chunk → Type 0
 FirstIsFull [] = Unit {0}
 FirstIsFull (chunk ∷ chunks) = length chunk.bytes ≡ chunk.size
 
-full_laid : (offset left : ℕ) (whole : List Chunk) (tail : Tail) (bytes : List ℕ) → Laid offset left whole tail bytes → FirstIsFull whole
+pub full_laid : (offset left : ℕ) (whole : List Chunk) (tail : Tail) (bytes : List ℕ) → Laid offset left whole tail bytes → FirstIsFull whole
 full_laid _ _ _ _ _ (AtEnd offset bytes) = tt
 full_laid _ _ _ _ _ (TooShort offset left bytes some few) = tt
 full_laid _ _ _ _ _ (Beginning offset left bytes room few) = tt

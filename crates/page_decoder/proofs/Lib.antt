@@ -129,3 +129,7 @@ mod ByteEnds
 -- decode_done: an included file has no drawing; what it gives
 mod Drawless
 mod Gifts
+-- law plain_pages
+mod PlainChunks
+mod PlainPages
+mod PlainFiles

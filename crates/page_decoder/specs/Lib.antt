@@ -29,6 +29,7 @@ pub mod Acts
 pub mod Read
 pub mod Libraries
 pub mod Needs
+pub mod Plain
 pub mod Resolving
 pub mod WorkedPages
 -- how what the code keeps of a file that is read stands to that

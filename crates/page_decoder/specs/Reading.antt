@@ -53,7 +53,7 @@ kind_fault kind =
     else if is_listed other_kinds kind then Some fault.Unsupported
     else Some fault.WrongForm
 
--- chunks that aren't built yet
+-- chunks that aren't read here
 abbrev pub unbuilt_ids : List (List ℕ)
 unbuilt_ids = codes "INCL" ∷ codes "Djbz" ∷ codes "FG44" ∷ codes "BG44" ∷ []
 

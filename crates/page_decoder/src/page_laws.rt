@@ -16,6 +16,7 @@ pub mod chunks;
 pub mod drawings;
 pub mod libraries;
 pub mod made;
+pub mod plain;
 pub mod work;
 pub mod worked;
 

@@ -1,6 +1,6 @@
 -- What the reader of a file answers, by what its reading came to.
 use Rattle.std.proofs.Common.{◌≡◌, ◌≢◌, ◌≤◌, ◌<◌, ◌+◌, ℕ, suc, Option, Some, None, List, [], ◌∷◌, ◌++◌, length, take, refl, sym, ap, ◌∙◌, subst, arith, append_assoc}
-use Rattle.std.proofs.lemmas.List.{append-nil, length-append, take_all}
+use Rattle.std.proofs.lemmas.List.{append-nil, length-append}
 use Rattle.std.proofs.lemmas.Grind.{common_steps}
 use Rattle.djvu_base.specs.Meter.{ticked, TicksExactly}
 use Rattle.layer_compose.specs.declared.layers.Layers.{Layers}
@@ -10,9 +10,8 @@ use Rattle.page_decoder.specs.declared.decoder.PageStep.TheVariants as step
 use Rattle.page_decoder.specs.Given.{Given, Front}
 use Rattle.page_decoder.specs.PageRead.{Drawing, notice_of, last_layers, Ending, Finished, Refused, NeedBytes, NeedOutline, NeedFile, Told, Left, PageRead, in_force}
 use Rattle.page_decoder.specs.Read.{read}
-use Rattle.page_decoder.specs.Needs.{Below}
-use Rattle.page_decoder.specs.Decoder.{Entry, Draws, Ends, entry_at, next_entry, answer_at, answer_to, decisions_to, drawn_with, Shows}
-use Rattle.page_decoder.specs.FileReading.{decisions_in, dictionary_in, IsPause, StandsBefore, Answers, Moves, ComesTo}
+use Rattle.page_decoder.specs.Decoder.{Draws, Ends, entry_at, next_entry, answer_at, answer_to, decisions_to, drawn_with, Shows}
+use Rattle.page_decoder.specs.FileReading.{decisions_in, dictionary_in, IsPause, StandsBefore, Answers, ComesTo}
 use Rattle.page_decoder.proofs.Entries.{entry_behind, last_entry, told_front}
 
 -- fewer decisions tick no more

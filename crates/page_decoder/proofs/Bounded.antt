@@ -1,9 +1,9 @@
 -- A file has few acts, and no more drawings than chunks.
-use Rattle.std.proofs.Common.{◌≡◌, ◌≤◌, ◌<◌, ◌+◌, ◌*◌, ◌^◌, ℕ, suc, Option, Some, None, List, [], ◌∷◌, ◌++◌, length, refl, sym, ap, ◌∙◌, subst, arith}
+use Rattle.std.proofs.Common.{◌≡◌, ◌≤◌, ◌<◌, ◌+◌, ◌*◌, ◌^◌, ℕ, suc, Option, Some, None, List, [], ◌∷◌, ◌++◌, length, refl, ap, ◌∙◌, subst, arith}
 use Rattle.std.proofs.lemmas.List.{length-append}
 use Rattle.djvu_base.specs.Library.{file_limit}
 use Rattle.layer_compose.specs.declared.layers.Layers.{Layers}
-use Rattle.iff_chunks.specs.Chunks.{Form, Chunk, Chunks, Tail, InHead, InHeader, InData, InPad, FormEnd, Broken, chunks_of}
+use Rattle.iff_chunks.specs.Chunks.{Form, Chunk, Tail, InHead, InHeader, InData, InPad, FormEnd, Broken, chunks_of}
 use Rattle.iff_chunks.specs.Events.{events_of}
 use Rattle.iff_chunks.specs.Order.{AtForm, InOrder}
 use Rattle.page_decoder.specs.Kinds.{ChunkKind, kind_of}

@@ -11,7 +11,7 @@ use Rattle.iff_chunks.specs.Events.{Event, Begun, Header, Data, ChunkEnd, data_e
 use Rattle.iff_chunks.specs.Ends.{file_end}
 use Rattle.page_decoder.specs.declared.places.Head.{Head}
 use Rattle.page_decoder.specs.declared.places.Place.TheVariants as place
-use Rattle.page_decoder.specs.Reading.{Notice, Ending, Fault, Reading, Came, header_fault, kind_fault, came_by, data_came, mask_in, is_drawn, notice_by, stopped, after_chunk, read_chunks, ending_of, at_end, ends, read_tail, read_page, read_form, chunks_place, reading}
+use Rattle.page_decoder.specs.Reading.{Notice, Ending, Fault, Reading, Came, header_fault, kind_fault, came_by, data_came, mask_in, is_drawn, notice_by, stopped, after_chunk, read_chunks, ending_of, ends, read_tail, read_page, read_form, chunks_place, reading}
 use Rattle.page_decoder.specs.Reading as page
 use Rattle.page_decoder.specs.Progress.{Done, Progress, progress, nothing_done, at_start, begun, head_of, at_header, after_event, after_events, with_chunk, with_decisions, ended_by, behind, concluded}
 

@@ -1,5 +1,5 @@
 -- What the reader of a file comes to at the end of a chunk.
-use Rattle.std.proofs.Common.{◌≡◌, ◌≢◌, ◌≤◌, ◌<◌, ◌+◌, ◌-◌, ◌^◌, ℕ, suc, min, Bool, true, false, Option, Some, None, List, [], ◌∷◌, ◌++◌, length, refl, sym, ap, ◌∙◌, subst, arith, append_assoc}
+use Rattle.std.proofs.Common.{◌≡◌, ◌≢◌, ◌≤◌, ◌<◌, ◌+◌, ◌-◌, ◌^◌, ℕ, suc, min, true, false, Option, Some, None, List, [], ◌∷◌, ◌++◌, length, refl, sym, ap, ◌∙◌, subst, arith, append_assoc}
 use Rattle.std.proofs.lemmas.Bool.{true≢false}
 use Rattle.std.proofs.lemmas.List.{append-nil, length-append}
 use Rattle.std.proofs.lemmas.Grind.{common_steps}
@@ -15,26 +15,25 @@ use Rattle.include_graph.specs.Verdicts.{fault_at}
 use Rattle.iw44_image.specs.Layer.{Data, data_of}
 use Rattle.page_decoder.specs.declared.file_reader.FileReader.{FileReader}
 use Rattle.page_decoder.specs.declared.file_reader.ChunkAtHand.{ChunkAtHand}
-use Rattle.page_decoder.specs.declared.file_reader.Stage.TheVariants as stage
 use Rattle.page_decoder.specs.declared.decoder.PageStep.{PageStep}
 use Rattle.page_decoder.specs.declared.decoder.PageStep.TheVariants as step
 use Rattle.page_decoder.specs.declared.closing.ChunkCame.{ChunkCame}
 use Rattle.page_decoder.specs.declared.closing.ChunkCame.TheVariants as came
 use Rattle.page_decoder.specs.Kinds.{ChunkKind, kind_of, brings_drawing}
 use Rattle.page_decoder.specs.Kinds as kind
-use Rattle.page_decoder.specs.Given.{Home, Known, Given, Front}
-use Rattle.page_decoder.specs.PageRead.{Drawing, notice_of, last_layers, Decoded, Left, at_start, PageRead}
+use Rattle.page_decoder.specs.Given.{Home, Given, Front}
+use Rattle.page_decoder.specs.PageRead.{Drawing, notice_of, last_layers, Decoded, Left, at_start}
 use Rattle.page_decoder.specs.Headers.{Head, header_fault}
-use Rattle.page_decoder.specs.ChunkData.{Outcome, Leaves, Unfinished, Fails, Came, came as data_came, with_include}
+use Rattle.page_decoder.specs.ChunkData.{Leaves, Fails, Came, came as data_came, with_include}
 use Rattle.page_decoder.specs.Acts.{Act, Reads, acts_of, close_in}
-use Rattle.page_decoder.specs.Read.{Step, On, Ends, and_then, after, counting, refused_at, with_chunk, drawing_of, drawing_by, at_header, at_outcome, at_data, at_act, step_through, read_from, read}
+use Rattle.page_decoder.specs.Read.{On, and_then, after, counting, refused_at, with_chunk, drawing_of, drawing_by, at_header, at_outcome, at_data, at_act, step_through, read_from, read}
 use Rattle.page_decoder.specs.Needs.{Below}
-use Rattle.page_decoder.specs.ActsTold.{OpenChunk, ActsTold, acts_so, after_event}
+use Rattle.page_decoder.specs.ActsTold.{OpenChunk, acts_so}
 use Rattle.page_decoder.specs.Resolving.{Resolving, Waits}
 use Rattle.page_decoder.specs.Kept.{Keeps}
-use Rattle.page_decoder.specs.Opened.{Opens, Closes, ClosesTo, Draws, LayersStay, announced, decisions_of}
-use Rattle.page_decoder.specs.FileReading.{IsOf, Walks, Holds, HoldsChunk, HasOpened, reached, decisions_in, IsWalking, StandsAt, StandsBefore, Answers, Moves, ComesTo, IsTold}
-use Rattle.page_decoder.specs.FileSteps.{HasClosed, HasLeft, Adds, IsNoMemory}
+use Rattle.page_decoder.specs.Opened.{Opens, Closes, ClosesTo, Draws, LayersStay, announced}
+use Rattle.page_decoder.specs.FileReading.{Walks, HoldsChunk, reached, decisions_in, IsWalking, StandsAt, StandsBefore, Answers, Moves, ComesTo, IsTold}
+use Rattle.page_decoder.specs.FileSteps.{HasClosed, HasLeft, Adds}
 use Rattle.page_decoder.proofs.ResolveSteps.{waits_along, waits_with}
 use Rattle.page_decoder.proofs.Leaving.{Brings, brings}
 use Rattle.page_decoder.proofs.Retaining.{from_below, outcome_below, after_below}

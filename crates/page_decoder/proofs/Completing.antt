@@ -9,7 +9,7 @@ use Rattle.jb2_records.specs.declared.purpose.Purpose.TheVariants as purpose
 use Rattle.jb2_records.specs.declared.reader.Jb2Step.{Jb2Step}
 use Rattle.jb2_records.specs.declared.reader.Jb2Step.TheVariants as records
 use Rattle.jb2_records.specs.Reading as jb2
-use Rattle.iw44_image.specs.Layer.{Data, Layer, LayerReading, Answer, Allowed, data_of, after_chunk, ends, read_chunk, new_layer, read_layer}
+use Rattle.iw44_image.specs.Layer.{Layer, LayerReading, Answer, Allowed, data_of, after_chunk, ends, read_chunk, new_layer, read_layer}
 use Rattle.iw44_image.specs.Layer as iw44
 use Rattle.layer_compose.specs.declared.layers.Layers.{Layers}
 use Rattle.include_graph.specs.Included.{include_name}

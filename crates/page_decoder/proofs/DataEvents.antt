@@ -1,6 +1,6 @@
 -- What the reader of a file comes to at data of a chunk.
-use Rattle.std.proofs.Common.{◌≡◌, ◌≢◌, ◌≤◌, ◌<◌, ◌+◌, ℕ, suc, Bool, true, false, Option, Some, None, List, [], ◌∷◌, ◌++◌, length, refl, sym, ap, ◌∙◌, subst, arith, append_assoc}
-use Rattle.std.proofs.lemmas.List.{append-nil, length-append}
+use Rattle.std.proofs.Common.{◌≡◌, ◌≢◌, ◌≤◌, ◌<◌, ◌+◌, ℕ, false, Option, Some, None, List, [], ◌∷◌, ◌++◌, length, refl, sym, ap, ◌∙◌, subst, arith}
+use Rattle.std.proofs.lemmas.List.{length-append}
 use Rattle.std.proofs.lemmas.Grind.{common_steps}
 use Rattle.djvu_base.specs.Meter.{ticked, TicksExactly}
 use Rattle.iff_chunks.specs.declared.walker.WalkStep.TheVariants as event
@@ -9,25 +9,23 @@ use Rattle.iff_chunks.specs.Chunks.{chunks_of}
 use Rattle.iw44_image.specs.Layer.{Data, data_of}
 use Rattle.page_decoder.specs.declared.file_reader.FileReader.{FileReader}
 use Rattle.page_decoder.specs.declared.file_reader.ChunkAtHand.{ChunkAtHand}
-use Rattle.page_decoder.specs.declared.file_reader.Stage.TheVariants as stage
 use Rattle.page_decoder.specs.declared.decoder.PageStep.{PageStep}
-use Rattle.page_decoder.specs.declared.decoder.PageStep.TheVariants as step
-use Rattle.page_decoder.specs.Given.{Home, Known, Given}
+use Rattle.page_decoder.specs.Given.{Home, Given}
 use Rattle.page_decoder.specs.PageRead.{Decoded, Left}
 use Rattle.page_decoder.specs.ChunkData.{came}
-use Rattle.page_decoder.specs.Acts.{Act, Reads, acts_of, close_in}
+use Rattle.page_decoder.specs.Acts.{Act, acts_of, close_in}
 use Rattle.page_decoder.specs.Read.{On, counting, read, read_from, at_data}
 use Rattle.page_decoder.specs.Needs.{Below}
-use Rattle.page_decoder.specs.ActsTold.{OpenChunk, ActsTold, with_bytes, after_event, GoOnFrom}
+use Rattle.page_decoder.specs.ActsTold.{OpenChunk, with_bytes, after_event, GoOnFrom}
 use Rattle.page_decoder.specs.Kept.{Keeping}
 use Rattle.page_decoder.specs.Opened.{Opens, decisions_of}
-use Rattle.page_decoder.specs.FileReading.{IsOf, Walks, Holds, HoldsChunk, HasOpened, reached, decisions_in, decisions_at_hand, IsWalking, StandsAt, Answers, Moves, ComesTo, IsTold}
-use Rattle.page_decoder.specs.FileSteps.{TakesIn, TakesData, MayLackMemory}
+use Rattle.page_decoder.specs.FileReading.{HoldsChunk, HasOpened, reached, decisions_in, decisions_at_hand, IsWalking, StandsAt, Answers, Moves, ComesTo, IsTold}
+use Rattle.page_decoder.specs.FileSteps.{TakesData, MayLackMemory}
 use Rattle.page_decoder.proofs.Further.{Grows}
 use Rattle.page_decoder.proofs.ActsByEvents.{before_data}
 use Rattle.page_decoder.proofs.Sounding.{Container, data_sound, within_size}
 use Rattle.page_decoder.proofs.Answering.{memory_answer, ticks_within}
-use Rattle.page_decoder.proofs.Eventing.{given_acts, left_below, reads_within, home_known}
+use Rattle.page_decoder.proofs.Eventing.{given_acts, left_below, reads_within}
 use Rattle.page_decoder.proofs.Retaining.{from_below, after_below, outcome_below}
 
 -- with more data no fewer decisions are determined

@@ -1,7 +1,6 @@
 -- An included file has no drawing.
-use Rattle.std.proofs.Common.{◌≡◌, ◌<◌, ◌+◌, ℕ, suc, Bool, true, false, ◌||◌, cond, Option, Some, None, is_some, List, [], ◌∷◌, ◌++◌, length, refl, sym, ap, ◌∙◌, subst}
+use Rattle.std.proofs.Common.{◌≡◌, ◌<◌, ◌+◌, ℕ, suc, Bool, true, false, ◌||◌, cond, Option, Some, None, is_some, List, [], ◌∷◌, ◌++◌, refl, sym, ap, ◌∙◌}
 use Rattle.djvu_base.specs.Name.{is_listed}
-use Rattle.djvu_base.specs.declared.faults.FaultKind.{FaultKind}
 use Rattle.djvu_base.specs.declared.faults.FaultKind.TheVariants as fault
 use Rattle.std.specs.Prelude.{codes, bytes_eq}
 use Rattle.iff_chunks.specs.Chunks.{chunks_of}
@@ -12,7 +11,7 @@ use Rattle.page_decoder.specs.Kinds.{ChunkKind, kind_of, brings_drawing}
 use Rattle.page_decoder.specs.Kinds as kind
 use Rattle.page_decoder.specs.Reading.{is_info, is_mask}
 use Rattle.page_decoder.specs.Given.{Role, Included, Home, Known, Given}
-use Rattle.page_decoder.specs.PageRead.{Drawing, Ending, Left, at_start}
+use Rattle.page_decoder.specs.PageRead.{Ending, Left, at_start}
 use Rattle.page_decoder.specs.Headers.{Head, header_fault}
 use Rattle.page_decoder.specs.ChunkData.{came}
 use Rattle.page_decoder.specs.Acts.{acts_of, close_in}

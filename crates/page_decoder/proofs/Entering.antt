@@ -2,34 +2,33 @@
 use Rattle.std.proofs.Common.{◌≡◌, ◌≢◌, ℕ, Option, Some, None, List, [], ◌∷◌, ◌++◌, length, refl, sym, ap, ◌∙◌, subst, arith}
 use Rattle.std.specs.Arc.{arc_value}
 use Rattle.djvu_base.specs.Meter.{ticked, TicksExactly}
-use Rattle.djvu_base.proofs.Ticks.{ticked_none}
 use Rattle.iff_chunks.specs.Chunks.{chunks_of}
-use Rattle.iw44_image.specs.Layer.{Data, data_of}
+use Rattle.iw44_image.specs.Layer.{data_of}
 use Rattle.page_decoder.specs.declared.file_reader.FileReader.{FileReader}
 use Rattle.page_decoder.specs.declared.file_reader.Stage.TheVariants as stage
 use Rattle.page_decoder.specs.declared.decoder.PageStep.{PageStep}
 use Rattle.page_decoder.specs.declared.decoder.PageStep.TheVariants as step
 use Rattle.page_decoder.specs.Kinds.{ChunkKind, kind_of}
 use Rattle.page_decoder.specs.Kinds as kind
-use Rattle.page_decoder.specs.Given.{Home, Known, Given, Within}
-use Rattle.page_decoder.specs.PageRead.{Ending, Finished, Refused, NeedOutline, NeedFile, last_layers, Left, PageRead, or_else, at_start}
+use Rattle.page_decoder.specs.Given.{Home, Known, Given}
+use Rattle.page_decoder.specs.PageRead.{Refused, last_layers, Left, PageRead, at_start}
 use Rattle.page_decoder.specs.Headers.{Head, header_fault}
-use Rattle.page_decoder.specs.Acts.{Act, Reads, acts_of, close_in}
+use Rattle.page_decoder.specs.Acts.{Reads, acts_of, close_in}
 use Rattle.page_decoder.specs.ActsTold.{ActsTold, begun_at, GoOnFrom}
-use Rattle.page_decoder.specs.Read.{Step, On, and_then, after, all_resolved, resolved_before, nothing_pending, finished, at_header, at_data, read_from, step_through, read}
+use Rattle.page_decoder.specs.Read.{Step, On, and_then, after, all_resolved, resolved_before, nothing_pending, at_header, at_data, read_from, step_through, read}
 use Rattle.page_decoder.specs.Needs.{Below}
 use Rattle.page_decoder.specs.Kept.{Keeping, Keeps, Background}
 use Rattle.page_decoder.specs.Opened.{Opens}
-use Rattle.page_decoder.specs.Resolving.{Resolving, home_of, with_files, Waits, Resolves, IsResolved, Stops}
-use Rattle.page_decoder.specs.FileReading.{Answers, Moves, ComesTo, StandsBefore, StandsAt, ResolvesAt, IsOf, IsBefore, IsAtEnd, Tallies, decisions_in, decisions_at_hand}
-use Rattle.page_decoder.specs.FileSteps.{IsKnown, IsEntering, IsFinishing, StopsSo, HasResolved, ResolvesBefore, Begins, MayLackMemory}
+use Rattle.page_decoder.specs.Resolving.{Resolving, home_of, with_files, Waits, IsResolved}
+use Rattle.page_decoder.specs.FileReading.{Answers, Moves, ComesTo, StandsBefore, StandsAt, ResolvesAt, IsBefore, Tallies, decisions_in}
+use Rattle.page_decoder.specs.FileSteps.{IsKnown, IsEntering, ResolvesBefore, Begins, MayLackMemory}
 use Rattle.page_decoder.proofs.ActsByEvents.{acts_go_on}
-use Rattle.page_decoder.proofs.Answering.{exact_within, ends_answer, memory_answer}
+use Rattle.page_decoder.proofs.Answering.{exact_within, memory_answer}
 use Rattle.page_decoder.proofs.Further.{after_then}
 use Rattle.page_decoder.proofs.Onward.{reads_on}
 use Rattle.page_decoder.proofs.ResolveSteps.{knows_same}
 use Rattle.page_decoder.proofs.Stopping.{IsLeft, stop_answers, ticks_alone}
-use Rattle.page_decoder.proofs.Retaining.{below_same, after_below, resolved_below, data_below, from_below}
+use Rattle.page_decoder.proofs.Retaining.{after_below, data_below, from_below}
 
 -- ---- before a chunk
 

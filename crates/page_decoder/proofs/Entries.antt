@@ -1,8 +1,7 @@
 -- The entries of a reading.
-use Rattle.std.proofs.Common.{◌≡◌, ◌≤◌, ℕ, zero, suc, List, [], ◌∷◌, ◌++◌, length, take, refl, sym, ap, ◌∙◌, subst, arith}
-use Rattle.page_decoder.specs.Given.{Front}
+use Rattle.std.proofs.Common.{◌≡◌, ◌≤◌, ℕ, List, [], ◌∷◌, ◌++◌, length, take, refl, ap, ◌∙◌, arith}
 use Rattle.page_decoder.specs.PageRead.{Drawing, Ending}
-use Rattle.page_decoder.specs.Decoder.{Entry, Draws, Ends, entry_at}
+use Rattle.page_decoder.specs.Decoder.{Ends, entry_at}
 
 -- behind the drawings that were told
 pub entry_behind : (told others : List Drawing) (end : Ending) → entry_at (told ++ others) (length told) end ≡ entry_at others 0 end

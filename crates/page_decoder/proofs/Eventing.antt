@@ -1,10 +1,9 @@
 -- What the reader of a file comes to at the FORM's kind, at a header and at data.
-use Rattle.std.proofs.Common.{◌≡◌, ◌≢◌, ◌≤◌, ◌<◌, ◌+◌, ℕ, suc, Bool, true, false, Option, Some, None, List, [], ◌∷◌, ◌++◌, length, refl, sym, ap, ◌∙◌, subst, arith, append_assoc}
-use Rattle.std.proofs.lemmas.List.{append-nil, length-append}
+use Rattle.std.proofs.Common.{◌≡◌, ◌≢◌, ◌≤◌, ◌<◌, ◌+◌, ℕ, false, Option, Some, None, List, [], ◌∷◌, ◌++◌, refl, sym, ap, ◌∙◌, subst, arith, append_assoc}
+use Rattle.std.proofs.lemmas.List.{append-nil}
 use Rattle.std.proofs.lemmas.Grind.{common_steps}
 use Rattle.djvu_base.specs.declared.faults.FaultKind.{FaultKind}
 use Rattle.djvu_base.specs.Meter.{ticked, TicksExactly}
-use Rattle.iff_chunks.specs.declared.walker.WalkStep.{WalkStep}
 use Rattle.iff_chunks.specs.declared.walker.WalkStep.TheVariants as event
 use Rattle.iff_chunks.specs.Chunks.{chunks_of}
 use Rattle.iff_chunks.specs.Events.{Begun, Header, events_of, GoesOn}
@@ -12,28 +11,26 @@ use Rattle.include_graph.specs.Verdicts.{fault_at}
 use Rattle.iw44_image.specs.Layer.{Data, data_of}
 use Rattle.page_decoder.specs.declared.file_reader.FileReader.{FileReader}
 use Rattle.page_decoder.specs.declared.file_reader.ChunkAtHand.{ChunkAtHand}
-use Rattle.page_decoder.specs.declared.file_reader.Stage.{Stage}
 use Rattle.page_decoder.specs.declared.file_reader.Stage.TheVariants as stage
 use Rattle.page_decoder.specs.declared.decoder.PageStep.{PageStep}
 use Rattle.page_decoder.specs.declared.decoder.PageStep.TheVariants as step
 use Rattle.page_decoder.specs.Kinds.{kind_of}
-use Rattle.page_decoder.specs.Given.{Home, Known, Given, Within, Front}
-use Rattle.page_decoder.specs.PageRead.{Decoded, Left, at_start, Told, Ending}
+use Rattle.page_decoder.specs.Given.{Given}
+use Rattle.page_decoder.specs.PageRead.{Decoded, Left, at_start}
 use Rattle.page_decoder.specs.Headers.{Head, form_fault, header_fault}
-use Rattle.page_decoder.specs.Acts.{Act, Kind, Reads, Close, acts_of, close_in}
-use Rattle.page_decoder.specs.Read.{Step, On, Ends, and_then, after, refused_at, at_form, at_header, at_data, at_act, step_through, read_from, read}
-use Rattle.page_decoder.specs.ActsTold.{OpenChunk, ActsTold, nothing_told, begun_at, with_bytes, acts_so, all_told, after_event, after_events, after_step, GoOnFrom}
+use Rattle.page_decoder.specs.Acts.{Act, Kind, Reads, acts_of, close_in}
+use Rattle.page_decoder.specs.Read.{On, and_then, after, refused_at, at_form, at_header, at_data, at_act, step_through, read_from, read}
+use Rattle.page_decoder.specs.ActsTold.{OpenChunk, ActsTold, acts_so, all_told, after_event, GoOnFrom}
 use Rattle.page_decoder.specs.Needs.{Below}
-use Rattle.page_decoder.specs.Resolving.{role_of, home_of}
+use Rattle.page_decoder.specs.Resolving.{role_of}
 use Rattle.page_decoder.specs.Kept.{Keeping, Keeps}
-use Rattle.page_decoder.specs.FileReading.{IsOf, Walks, Holds, HoldsChunk, IsLike, Tallies, reached, decisions_in, decisions_at_hand, IsWalking, IsBefore, Stands, StandsAt, StandsBefore, Answers, Moves, ComesTo, IsTold}
-use Rattle.page_decoder.specs.FileSteps.{AtHeader, TakesData, MayLackMemory, fault_answer}
+use Rattle.page_decoder.specs.FileReading.{Walks, HoldsChunk, reached, decisions_in, decisions_at_hand, IsWalking, IsBefore, StandsAt, Answers, Moves, ComesTo, IsTold}
+use Rattle.page_decoder.specs.FileSteps.{AtHeader, fault_answer}
 use Rattle.page_decoder.proofs.Retaining.{from_below, after_below, data_below}
 use Rattle.page_decoder.proofs.Stopping.{waits_at}
 use Rattle.page_decoder.proofs.ActsByEvents.{acts_go_on}
 use Rattle.page_decoder.proofs.Onward.{first_on, reads_on, through_last}
-use Rattle.page_decoder.proofs.Sounding.{Container, data_sound, within_size}
-use Rattle.page_decoder.proofs.Answering.{ends_answer, memory_answer}
+use Rattle.page_decoder.proofs.Answering.{ends_answer}
 
 -- the acts of all that is given go on from those that were told
 pub given_acts : (now given : Given) (rest : List ℕ) (reader : FileReader) (so_far : ActsTold) → given.bytes ≡ now.bytes ++ rest

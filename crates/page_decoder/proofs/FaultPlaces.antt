@@ -7,7 +7,7 @@ use Rattle.include_graph.specs.declared.verdicts.Verdict.{Verdict}
 use Rattle.include_graph.specs.declared.verdicts.Verdict.TheVariants as verdict
 use Rattle.include_graph.specs.Verdicts.{verdict_of}
 use Rattle.bit_plane.specs.Pixels.{Pixels}
-use Rattle.page_decoder.specs.Results.{Result, Dictionary, Nothing, result_of}
+use Rattle.page_decoder.specs.Results.{Result, result_of}
 use Rattle.page_decoder.specs.Results as result
 use Rattle.page_decoder.specs.Given.{Included, Given}
 use Rattle.page_decoder.specs.PageRead.{Ending, Finished, Refused, NeedBytes, NeedOutline, NeedFile, Decoded, in_force}

@@ -1,5 +1,5 @@
 -- The reader of a file behind all its acts.
-use Rattle.std.proofs.Common.{◌≡◌, ℕ, zero, suc, ◌==◌, Bool, true, false, Option, Some, None, List, [], refl, sym, ap, ◌∙◌, subst, arith}
+use Rattle.std.proofs.Common.{◌≡◌, ℕ, zero, suc, ◌==◌, true, false, None, List, [], refl, sym, ap, ◌∙◌, subst, arith}
 use Rattle.std.proofs.lemmas.Bool.{true≢false, eqb-true}
 use Rattle.djvu_base.specs.declared.faults.FaultKind.{FaultKind}
 use Rattle.djvu_base.specs.declared.faults.FaultKind.TheVariants as fault
@@ -9,7 +9,7 @@ use Rattle.page_decoder.specs.declared.file_reader.FileClose.{FileClose}
 use Rattle.page_decoder.specs.declared.file_reader.FileClose.TheVariants as close
 use Rattle.page_decoder.specs.declared.file_reader.Stage.TheVariants as stage
 use Rattle.page_decoder.specs.declared.decoder.PageStep.TheVariants as step
-use Rattle.page_decoder.specs.Given.{Role, Page, Included, Home, Known, Given, Within}
+use Rattle.page_decoder.specs.Given.{Role, Page, Included, Home, Known, Given}
 use Rattle.page_decoder.specs.PageRead.{NeedBytes, last_layers, Left}
 use Rattle.page_decoder.specs.Read.{refused_at, after, all_resolved, finished, at_over, at_close, read}
 use Rattle.page_decoder.specs.FileReading.{Answers, IsClosing, close_of, decisions_in}

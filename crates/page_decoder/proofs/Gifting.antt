@@ -1,38 +1,21 @@
 -- A gift to a page's decoder that found memory, or not; and the end of its file.
-use Rattle.std.proofs.Common.{◌≡◌, ◌≢◌, ◌≤◌, ◌<◌, ℕ, zero, suc, ◌+◌, Bool, true, false, cond, eqb, Option, Some, None, is_none, ◌⊎◌, inl, inr, List, [], ◌∷◌, ◌++◌, length, take, refl, sym, ap, ◌∙◌, subst, append_assoc, arith}
-use Rattle.std.specs.Arc.{arc_value}
-use Rattle.std.specs.Prelude.{Result as Answered, Ok, Err, OnOk, OnErr, IfOk, slice_get}
-use Rattle.std.proofs.lemmas.Bool.{eqb-true, eqb-false, eq-eqb, true≢false}
-use Rattle.std.proofs.lemmas.List.{append-nil, take-append-le, length-append}
-use Rattle.djvu_base.specs.Library.{Mark, Open, mark_of}
-use Rattle.djvu_base.specs.Meter.{TicksExactly, ticked}
+use Rattle.std.proofs.Common.{◌≡◌, ◌≢◌, ◌≤◌, ◌<◌, ℕ, ◌+◌, Bool, true, false, cond, eqb, Option, Some, None, is_none, ◌⊎◌, [], ◌∷◌, ◌++◌, refl, sym, ap, ◌∙◌, arith}
+use Rattle.std.specs.Prelude.{Result as Answered, Ok, Err, IfOk, slice_get}
+use Rattle.std.proofs.lemmas.Bool.{eqb-true, eq-eqb, true≢false}
+use Rattle.djvu_base.specs.Library.{Open, mark_of}
 use Rattle.djvu_base.specs.declared.ends.FileEnd.{FileEnd}
 use Rattle.djvu_base.specs.declared.ends.FileEnd.TheVariants as file_end
-use Rattle.djvu_base.specs.declared.faults.Fault.{Fault}
-use Rattle.djvu_base.proofs.Ticks.{ticked_more}
-use Rattle.zp_table.specs.declared.rows.Row.{Row}
-use Rattle.zp_table.specs.Rows.{IsTable}
 use Rattle.include_graph.specs.declared.outline.Outline.{Outline}
 use Rattle.include_graph.specs.Verdicts.{in_list}
-use Rattle.jb2_records.specs.declared.results.FileResult.{FileResult}
-use Rattle.layer_compose.specs.declared.layers.Layers.{Layers}
-use Rattle.page_decoder.specs.declared.file_reader.FileReader.{FileReader}
-use Rattle.page_decoder.specs.declared.file_reader.Stage.{Stage}
-use Rattle.page_decoder.specs.declared.file_reader.Stage.TheVariants as stage
-use Rattle.page_decoder.specs.declared.decoder.PageStep.{PageStep}
-use Rattle.page_decoder.specs.declared.decoder.PageStep.TheVariants as step
 use Rattle.page_decoder.specs.declared.decoder.Standing.{Standing}
 use Rattle.page_decoder.specs.declared.decoder.Standing.TheVariants as standing
 use Rattle.page_decoder.specs.Results.{Result}
-use Rattle.page_decoder.specs.Given.{Home, Known, Given, Front, KnowsMore, Within}
-use Rattle.page_decoder.specs.PageRead.{Drawing, last_layers, Ending, Finished, Refused, NeedBytes, NeedOutline, NeedFile, Told, PageRead}
-use Rattle.page_decoder.specs.Read.{read}
-use Rattle.page_decoder.specs.Needs.{Below, Lacks}
-use Rattle.page_decoder.specs.Resolving.{Gifts, known_of, known_by, given_at, result_from}
-use Rattle.page_decoder.specs.Decoder.{Entry, Draws, Ends, entry_at, next_entry, answer_at, answer_to, decisions_to, drawn_with, KnowsOutline, KnowsResult, KnowsNothing, Shows}
-use Rattle.page_decoder.specs.FileReading.{IsOf, Stands, StandsBefore, IsGiven, IsReady, Answers, decisions_in, mark_by}
-use Rattle.page_decoder.specs.PageFed.{Kept, Decoding, SameKnown, with_known, GoesOn, StandsAt, FedBy, IsFed, StaysSo, stands_by, standing_without, standing_after, standing_at, decoding_of}
-use Rattle.page_decoder.proofs.GoingOn.{within_both, within_same}
+use Rattle.page_decoder.specs.Given.{Known, Given}
+use Rattle.page_decoder.specs.PageRead.{NeedOutline, NeedFile}
+use Rattle.page_decoder.specs.Resolving.{Gifts, known_by, given_at, result_from}
+use Rattle.page_decoder.specs.Decoder.{KnowsOutline, KnowsResult}
+use Rattle.page_decoder.specs.FileReading.{mark_by}
+use Rattle.page_decoder.specs.PageFed.{Kept, with_known, IsFed, stands_by, standing_after, decoding_of}
 use Rattle.page_decoder.proofs.Decoding.{GrowthLaws, known_within, outline_more, result_more, fed_more, outline_lacks, file_lacks, outline_fed, file_fed}
 
 -- this is known of one file more

@@ -1,26 +1,24 @@
 -- The decoding of an included file, by what its reader answers.
-use Rattle.std.proofs.Common.{◌≡◌, ◌≢◌, ◌<◌, ◌≤◌, ℕ, min, Option, Some, None, List, [], ◌∷◌, length, inr, refl, sym, ap, ◌∙◌, subst, arith}
+use Rattle.std.proofs.Common.{◌≡◌, ◌≢◌, ◌<◌, ◌≤◌, ℕ, min, Option, Some, None, List, [], ◌∷◌, length, refl, sym, ap, ◌∙◌, subst, arith}
 use Rattle.std.proofs.lemmas.Grind.{common_steps}
-use Rattle.djvu_base.specs.Library.{Mark, Open, mark_of}
+use Rattle.djvu_base.specs.Library.{Open, mark_of}
 use Rattle.djvu_base.specs.declared.ends.FileEnd.{FileEnd}
 use Rattle.djvu_base.specs.declared.ends.FileEnd.TheVariants as file_end
 use Rattle.djvu_base.specs.Meter.{ticked, TicksExactly, TicksAtMost}
 use Rattle.djvu_base.specs.declared.faults.Fault.{Fault}
 use Rattle.bit_plane.specs.Pixels.{Pixels}
 use Rattle.zp_table.specs.Rows.{IsTable}
-use Rattle.include_graph.specs.declared.verdicts.Verdict.{Verdict}
 use Rattle.include_graph.specs.declared.verdicts.Verdict.TheVariants as verdict
-use Rattle.jb2_records.specs.declared.results.FileResult.{FileResult}
 use Rattle.page_decoder.specs.declared.decoder.PageStep.{PageStep}
 use Rattle.page_decoder.specs.declared.decoder.PageStep.TheVariants as step
 use Rattle.page_decoder.specs.declared.file_reader.FileReader.{FileReader}
 use Rattle.page_decoder.specs.Results.{result_of}
-use Rattle.page_decoder.specs.Given.{Role, Included, Home, Known, Given, KnowsMore, Within}
-use Rattle.page_decoder.specs.PageRead.{Ending, Finished, Refused, NeedBytes, NeedOutline, NeedFile, Include, Decoded, PageRead, in_force}
+use Rattle.page_decoder.specs.Given.{Included, Home, Known, Given, Within}
+use Rattle.page_decoder.specs.PageRead.{Ending, Finished, Refused, NeedBytes, NeedOutline, NeedFile, Include, Decoded, in_force}
 use Rattle.page_decoder.specs.Read.{listing, read, result_by, decode}
 use Rattle.page_decoder.specs.Needs.{Because, Lacks, IsUnknown}
 use Rattle.page_decoder.specs.Resolving.{result_in}
-use Rattle.page_decoder.specs.Decoder.{Entry, Ends, entry_at, next_entry, answer_at, answer_to, decisions_to}
+use Rattle.page_decoder.specs.Decoder.{Ends, entry_at, next_entry, answer_at, answer_to, decisions_to}
 use Rattle.page_decoder.specs.FileDecoding.{dictionary_gift, gift_of}
 use Rattle.page_decoder.specs.FileReading.{Answers, decisions_in, dictionary_in}
 use Rattle.page_decoder.proofs.Drawless.{drawless}

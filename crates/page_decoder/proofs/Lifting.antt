@@ -1,19 +1,19 @@
 -- Where the reader of a file stands, once more is known.
-use Rattle.std.proofs.Common.{◌≡◌, ◌+◌, ℕ, List, ◌++◌, Option, refl, sym, ap, ◌∙◌, subst, arith}
+use Rattle.std.proofs.Common.{◌≡◌, ◌+◌, ℕ, List, ◌++◌, Option, refl, sym, ◌∙◌, arith}
 use Rattle.std.proofs.lemmas.Grind.{common_steps}
-use Rattle.djvu_base.specs.Meter.{ticked, TicksExactly}
+use Rattle.djvu_base.specs.Meter.{ticked}
 use Rattle.djvu_base.specs.declared.ends.FileEnd.{FileEnd}
 use Rattle.include_graph.specs.declared.outline.Outline.{Outline}
 use Rattle.jb2_records.specs.declared.results.FileResult.{FileResult}
 use Rattle.page_decoder.specs.declared.file_reader.FileReader.{FileReader}
 use Rattle.page_decoder.specs.declared.file_reader.Stage.{Stage}
 use Rattle.page_decoder.specs.declared.file_reader.Stage.TheVariants as stage
-use Rattle.page_decoder.specs.Given.{Known, Given, KnowsMore, Within}
+use Rattle.page_decoder.specs.Given.{Known, Given, KnowsMore}
 use Rattle.page_decoder.specs.PageRead.{Left, at_start}
 use Rattle.page_decoder.specs.Kinds.{ChunkKind, kind_of}
 use Rattle.page_decoder.specs.Kinds as kind
 use Rattle.page_decoder.specs.Decoder.{RiseTogether}
-use Rattle.page_decoder.specs.FileReading.{IsOf, Walks, IsWalking, IsBefore, IsAtEnd, ResolvesAt, StandsAt, Stands, IsGiven, StandsBefore}
+use Rattle.page_decoder.specs.FileReading.{IsOf, ResolvesAt, StandsAt, Stands, IsGiven, StandsBefore}
 use Rattle.page_decoder.proofs.ResolveSteps.{resolves_on, waits_on}
 use Rattle.page_decoder.proofs.Further.{Grows}
 use Rattle.page_decoder.proofs.Onward.{through_on}

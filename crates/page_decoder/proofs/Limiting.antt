@@ -12,7 +12,7 @@ use Rattle.iff_chunks.specs.Events.{events_of}
 use Rattle.iff_chunks.specs.Order.{AtForm, InOrder}
 use Rattle.iff_chunks.specs.Layout.{Laid, AtEnd, TooShort, Beginning, NoId, TooLong, DataArriving, PadMissing, Padded, Unpadded, IsLaidForm}
 use Rattle.zp_table.specs.declared.rows.Row.{Row}
-use Rattle.iw44_image.specs.Layer.{Data, Layer, Allowed, read_layer, read_chunk}
+use Rattle.iw44_image.specs.Layer.{Data, Allowed, read_layer, read_chunk}
 use Rattle.iw44_image.specs.Layer as iw44
 use Rattle.layer_compose.specs.declared.layers.Layers.{Layers}
 use Rattle.include_graph.specs.Verdicts.{number_of}

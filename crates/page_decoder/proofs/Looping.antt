@@ -1,8 +1,8 @@
 -- The reader of a file, step after step.
-use Rattle.std.proofs.Common.{◌≡◌, ◌≤◌, ◌+◌, ◌-◌, ℕ, List, Option, Some, None, length, drop, refl, sym, ap, ◌∙◌, subst, arith}
+use Rattle.std.proofs.Common.{◌≡◌, ◌≤◌, ◌+◌, ◌-◌, ℕ, List, Option, None, length, drop, sym, ap, ◌∙◌, arith}
 use Rattle.std.proofs.lemmas.List.{length-drop, drop-drop}
 use Rattle.std.proofs.lemmas.Grind.{common_steps}
-use Rattle.djvu_base.specs.Meter.{ticked, TicksExactly}
+use Rattle.djvu_base.specs.Meter.{TicksExactly}
 use Rattle.page_decoder.specs.Decoder.{RiseTogether}
 use Rattle.djvu_base.specs.declared.ends.FileEnd.{FileEnd}
 use Rattle.include_graph.specs.declared.outline.Outline.{Outline}
@@ -10,7 +10,7 @@ use Rattle.jb2_records.specs.declared.results.FileResult.{FileResult}
 use Rattle.page_decoder.specs.declared.file_reader.FileReader.{FileReader}
 use Rattle.page_decoder.specs.declared.decoder.PageStep.{PageStep}
 use Rattle.page_decoder.specs.Given.{Given}
-use Rattle.page_decoder.specs.FileReading.{Stands, StandsBefore, IsGiven, IsReady, Moves, ComesTo, Answers}
+use Rattle.page_decoder.specs.FileReading.{Stands, StandsBefore, IsGiven, IsReady, Moves, ComesTo}
 use Rattle.page_decoder.proofs.Answering.{comes_same}
 
 module _ (names : List (List ℕ)) (outlines : List (Option Outline)) (results : List (Option FileResult)) (end : Option FileEnd) where

@@ -1,12 +1,11 @@
 -- What a reading came to by its first acts stays, with more known, and the reading goes on from there.
-use Rattle.std.proofs.Common.{◌≡◌, ◌≤◌, ◌+◌, ℕ, suc, Bool, false, Option, Some, None, List, [], ◌∷◌, ◌++◌, length, refl, sym, ap, ◌∙◌, subst, arith}
+use Rattle.std.proofs.Common.{◌≡◌, ◌≤◌, ◌+◌, ℕ, Bool, false, Option, Some, None, List, [], ◌∷◌, ◌++◌, length, refl, sym, ap, ◌∙◌, subst, arith}
 use Rattle.djvu_base.specs.declared.faults.FaultKind.{FaultKind}
 use Rattle.bit_plane.specs.Pixels.{Pixels}
 use Rattle.include_graph.specs.declared.verdicts.Verdict.{Verdict}
 use Rattle.include_graph.specs.declared.verdicts.Verdict.TheVariants as verdict
 use Rattle.include_graph.specs.Verdicts.{number_of}
 use Rattle.iff_chunks.specs.Chunks.{chunks_of}
-use Rattle.iw44_image.specs.Layer.{Data}
 use Rattle.page_decoder.specs.Kinds.{ChunkKind, kind_of}
 use Rattle.page_decoder.specs.Kinds as kind
 use Rattle.page_decoder.specs.Results.{Result, Dictionary, Nothing}
@@ -15,10 +14,9 @@ use Rattle.page_decoder.specs.Given.{Home, Known, Given, KnowsMore}
 use Rattle.page_decoder.specs.PageRead.{Include, Left, PageRead, at_start}
 use Rattle.page_decoder.specs.Headers.{Head, form_fault, header_fault}
 use Rattle.page_decoder.specs.ChunkData.{Outcome, Leaves, Unfinished, Fails, came}
-use Rattle.page_decoder.specs.Acts.{Act, Kind, Reads, Close, acts_of, close_in}
-use Rattle.page_decoder.specs.Read.{Step, On, Ends, and_then, after, reaching, at_result, in_files, at_verdict, listing, at_target, at_include, resolved, all_resolved, resolved_before, at_form, at_header, at_outcome, at_data, at_act, read_from, step_through, read}
-use Rattle.page_decoder.proofs.Retaining.{told_by, data_below}
-use Rattle.page_decoder.proofs.Further.{Later, alike, met, Grows, header_later, act_later, then_later}
+use Rattle.page_decoder.specs.Acts.{Act, Kind, Reads, acts_of, close_in}
+use Rattle.page_decoder.specs.Read.{Step, On, Ends, and_then, after, reaching, at_result, in_files, at_verdict, listing, at_target, at_include, resolved, resolved_before, at_form, at_header, at_outcome, at_data, at_act, read_from, step_through, read}
+use Rattle.page_decoder.proofs.Further.{Later, alike, met, Grows, header_later, act_later}
 use Rattle.page_decoder.proofs.Running.{from_acts}
 
 -- a step that goes on isn't one that ends

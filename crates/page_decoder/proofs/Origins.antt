@@ -4,9 +4,9 @@ use Rattle.std.proofs.lemmas.List.{append-nil}
 use Rattle.byteorder.specs.Endian.{big_number}
 use Rattle.djvu_base.specs.declared.faults.FaultKind.{FaultKind}
 use Rattle.djvu_base.specs.declared.faults.FaultKind.TheVariants.{Truncated}
-use Rattle.djvu_base.specs.Library.{Mark, Open}
+use Rattle.djvu_base.specs.Library.{Open}
 use Rattle.iff_chunks.specs.Start.{Start, Begins, Arriving, Differs, start_of}
-use Rattle.iff_chunks.specs.Chunks.{Form, Chunk, Chunks, Rest, Tail, InHead, InHeader, InData, InPad, FormEnd, Broken, chunks_of, magic, form_word, in_head, no_form, in_form, kind_at, length_fault, size_at, whole_length, length_at, form_at, after_magic, rest_at}
+use Rattle.iff_chunks.specs.Chunks.{Form, Chunks, Rest, Tail, InHead, InHeader, InData, InPad, FormEnd, Broken, chunks_of, magic, form_word, in_head, in_form, kind_at, length_fault, size_at, whole_length, length_at, form_at, after_magic, rest_at}
 use Rattle.iff_chunks.specs.Ends.{closed, is_cut}
 use Rattle.iff_chunks.specs.Events.{Event, events_of}
 use Rattle.iff_chunks.specs.declared.walker.WalkStep.TheVariants as event
@@ -14,8 +14,8 @@ use Rattle.page_decoder.specs.declared.file_reader.FileReader.{FileReader}
 use Rattle.page_decoder.specs.declared.file_reader.FileClose.TheVariants as close
 use Rattle.page_decoder.specs.Given.{Given, Within, Front}
 use Rattle.page_decoder.specs.ActsTold.{ActsTold, nothing_told, all_told, after_events}
-use Rattle.iff_chunks.specs.Layout.{IsLaidForm, IsPrefix}
-use Rattle.page_decoder.specs.Acts.{Act, Close, Over, Breaks, acts_of, origin_of, close_of, close_in}
+use Rattle.iff_chunks.specs.Layout.{IsPrefix}
+use Rattle.page_decoder.specs.Acts.{Over, Breaks, acts_of, origin_of, close_of}
 use Rattle.page_decoder.specs.FileReading.{origin_by, Pauses, IsTold, IsPaused}
 use Rattle.page_decoder.proofs.ActsByEvents.{acts_by_events}
 use Rattle.page_decoder.proofs.Acting.{closed_end, closed_broken, not_cut}

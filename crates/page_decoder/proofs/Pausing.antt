@@ -1,29 +1,24 @@
 -- The reader of a file behind all events of its bytes so far: what its chunk at hand comes to.
 use Rattle.std.proofs.Common.{◌≡◌, ◌≢◌, ◌≤◌, ◌<◌, ◌+◌, ℕ, false, Option, Some, None, List, [], ◌∷◌, ◌++◌, length, refl, sym, ap, ◌∙◌, subst, arith}
-use Rattle.std.proofs.lemmas.List.{append-nil}
 use Rattle.std.proofs.lemmas.Grind.{common_steps}
 use Rattle.djvu_base.specs.Meter.{ticked, TicksExactly}
 use Rattle.djvu_base.specs.declared.faults.FaultKind.{FaultKind}
 use Rattle.include_graph.specs.Verdicts.{fault_at}
-use Rattle.iff_chunks.specs.Chunks.{chunks_of}
 use Rattle.iw44_image.specs.Layer.{data_of}
 use Rattle.page_decoder.specs.declared.file_reader.ChunkAtHand.{ChunkAtHand}
 use Rattle.page_decoder.specs.declared.file_reader.FileReader.{FileReader}
 use Rattle.page_decoder.specs.declared.file_reader.FileClose.{FileClose}
-use Rattle.page_decoder.specs.declared.file_reader.FileClose.TheVariants as close
-use Rattle.page_decoder.specs.declared.file_reader.Stage.TheVariants as stage
 use Rattle.page_decoder.specs.declared.decoder.PageStep.{PageStep}
 use Rattle.page_decoder.specs.declared.decoder.PageStep.TheVariants as step
-use Rattle.page_decoder.specs.Given.{Home, Known, Given, Within}
-use Rattle.page_decoder.specs.PageRead.{last_layers, Left, at_start}
-use Rattle.page_decoder.specs.Headers.{Head}
-use Rattle.page_decoder.specs.Acts.{Close, Over, acts_of, close_in}
-use Rattle.page_decoder.specs.ChunkData.{Outcome, Unfinished, Fails, Came, came}
-use Rattle.page_decoder.specs.ActsTold.{OpenChunk, ActsTold, acts_so, all_told}
-use Rattle.page_decoder.specs.Read.{On, after, counting, refused_at, at_outcome, at_data, at_close, read_from, step_through, read}
+use Rattle.page_decoder.specs.Given.{Given, Within}
+use Rattle.page_decoder.specs.PageRead.{Left}
+use Rattle.page_decoder.specs.Acts.{Close, Over}
+use Rattle.page_decoder.specs.ChunkData.{Unfinished, Fails, Came, came}
+use Rattle.page_decoder.specs.ActsTold.{OpenChunk, ActsTold, acts_so}
+use Rattle.page_decoder.specs.Read.{On, after, counting, refused_at, at_outcome, at_data, at_close, read}
 use Rattle.page_decoder.specs.Needs.{Below}
 use Rattle.page_decoder.specs.Opened.{Opens, decisions_of}
-use Rattle.page_decoder.specs.FileReading.{Answers, StandsBefore, StandsAt, IsLike, IsPaused, IsClosing, Pauses, Tallies, HoldsChunk, HasOpened, close_of, reached, decisions_in}
+use Rattle.page_decoder.specs.FileReading.{Answers, StandsAt, IsPaused, IsClosing, Pauses, HoldsChunk, HasOpened, close_of, reached}
 use Rattle.page_decoder.specs.FileSteps.{Advances, ReadsOn}
 use Rattle.page_decoder.proofs.Answering.{ends_answer, memory_answer}
 use Rattle.page_decoder.proofs.Eventing.{reads_within}

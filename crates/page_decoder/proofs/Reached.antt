@@ -1,5 +1,5 @@
 -- What a page's decoder stands at when its reader went on.
-use Rattle.std.proofs.Common.{◌≡◌, ◌≢◌, ◌≤◌, ◌<◌, ℕ, Option, Some, None, List, [], ◌∷◌, ◌++◌, length, drop, true, false, refl, sym, ap, ◌∙◌, subst, arith}
+use Rattle.std.proofs.Common.{◌≡◌, ◌≢◌, ◌≤◌, ◌<◌, ℕ, Option, Some, None, List, [], ◌∷◌, ◌++◌, drop, false, refl, sym, ap, ◌∙◌, subst, arith}
 use Rattle.std.specs.Arc.{arc_value}
 use Rattle.djvu_base.specs.Meter.{TicksExactly, ticked}
 use Rattle.zp_table.specs.declared.rows.Row.{Row}
@@ -15,12 +15,12 @@ use Rattle.page_decoder.specs.declared.decoder.PageStep.TheVariants as step
 use Rattle.page_decoder.specs.declared.decoder.Standing.{Standing}
 use Rattle.page_decoder.specs.declared.decoder.Standing.TheVariants as standing
 use Rattle.page_decoder.specs.Given.{Page, Home, Known, Given}
-use Rattle.page_decoder.specs.PageRead.{Drawing, Ending, Finished, Refused, NeedBytes, NeedOutline, NeedFile, PageRead}
+use Rattle.page_decoder.specs.PageRead.{Ending, Finished, Refused, NeedBytes, NeedOutline, NeedFile, PageRead}
 use Rattle.page_decoder.specs.Read.{read}
 use Rattle.page_decoder.specs.Resolving.{home_of, known_by}
 use Rattle.page_decoder.specs.Decoder.{KnowsNothing, Entry, Draws, Ends, next_entry, answer_at, answer_to, decisions_to, drawn_with, end_with, Shows}
 use Rattle.page_decoder.specs.FileReading.{IsOf, Stands, StandsAt as StandsThere, StandsBefore, IsGiven, IsReady, Answers, decisions_in}
-use Rattle.page_decoder.specs.PageFed.{Kept, Decoding, with_known, GoesOn, StandsAt, FedBy, IsFed, stands_by, is_failed, standing_at, decoding_of}
+use Rattle.page_decoder.specs.PageFed.{Kept, with_known, GoesOn, StandsAt, FedBy, IsFed, stands_by, is_failed, standing_at, decoding_of}
 use Rattle.page_decoder.proofs.GoingOn.{within_same}
 use Rattle.page_decoder.proofs.Decoding.{GrowthLaws, read_same, fed_table}
 

@@ -10,7 +10,7 @@ use Rattle.include_graph.specs.declared.verdicts.Verdict.{Verdict}
 use Rattle.include_graph.specs.declared.verdicts.Verdict.TheVariants as verdict
 use Rattle.include_graph.specs.Graphs.{KnownOn, VerdictOn, same_verdict, was_unknown}
 use Rattle.include_graph.specs.Verdicts.{number_of, verdict_of}
-use Rattle.page_decoder.specs.Results.{Result, Dictionary, Nothing, result_of}
+use Rattle.page_decoder.specs.Results.{Result, result_of}
 use Rattle.page_decoder.specs.Results as result
 use Rattle.page_decoder.specs.Given.{Role, Page, Included, Home, Known, KnowsMore}
 use Rattle.page_decoder.specs.PageRead.{Ending, NeedOutline, NeedFile, Refused, Include, Decoded, Left, or_else, nothing_decoded}

@@ -1,5 +1,5 @@
 -- A chunk that was closed by the reader of its file.
-use Rattle.std.proofs.Common.{◌≡◌, ◌≤◌, ◌+◌, ◌-◌, ◌^◌, ℕ, true, min, Option, Some, None, List, length, refl, sym, ap, ◌∙◌, subst, arith}
+use Rattle.std.proofs.Common.{◌≡◌, ◌≤◌, ◌+◌, ◌-◌, ◌^◌, ℕ, true, min, Option, Some, None, List, length, sym, ap, ◌∙◌, subst, arith}
 use Rattle.std.proofs.lemmas.Grind.{common_steps}
 use Rattle.djvu_base.specs.Meter.{ticked, TicksExactly}
 use Rattle.zp_table.specs.declared.rows.Row.{Row}
@@ -14,7 +14,7 @@ use Rattle.page_decoder.specs.Headers.{Head}
 use Rattle.page_decoder.specs.PageRead.{Include, Decoded}
 use Rattle.page_decoder.specs.ChunkData.{came as data_came}
 use Rattle.page_decoder.specs.Kept.{Keeping}
-use Rattle.page_decoder.specs.Opened.{Opens, ClosesTo, CountsOn, LayersStay, decisions_of}
+use Rattle.page_decoder.specs.Opened.{Opens, ClosesTo, CountsOn, LayersStay}
 use Rattle.page_decoder.specs.FileSteps.{HasClosed, HasLeft, Adds}
 
 -- what was closed and counted before stays

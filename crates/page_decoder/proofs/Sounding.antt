@@ -1,13 +1,13 @@
 -- The data of a chunk are as many as its header says once they are complete, and fewer before.
-use Rattle.std.proofs.Common.{◌≡◌, ◌<◌, ◌≤◌, ◌+◌, ℕ, Bool, true, false, Option, Some, None, List, [], ◌∷◌, ◌++◌, length, refl, sym, ap, ◌∙◌, subst, arith}
+use Rattle.std.proofs.Common.{◌≡◌, ◌<◌, ◌≤◌, ◌+◌, ℕ, Bool, true, false, Option, Some, None, List, [], ◌∷◌, ◌++◌, length, refl, sym, ◌∙◌, subst, arith}
 use Rattle.std.specs.List.{AllByRecursion}
 use Rattle.std.proofs.lemmas.List.{length-append}
-use Rattle.iff_chunks.specs.Chunks.{Form, Chunk, Chunks, Tail, InHead, InHeader, InData, InPad, FormEnd, Broken, chunks_of}
+use Rattle.iff_chunks.specs.Chunks.{Form, Chunk, Tail, chunks_of}
 use Rattle.iff_chunks.specs.Events.{events_of}
 use Rattle.iff_chunks.specs.Order.{AtForm, InOrder}
 use Rattle.iff_chunks.specs.Layout.{Laid, AtEnd, TooShort, Beginning, NoId, TooLong, DataArriving, PadMissing, Padded, Unpadded, IsLaidForm}
-use Rattle.iw44_image.specs.Layer.{Data, data_of}
-use Rattle.page_decoder.specs.Headers.{Head, head_of}
+use Rattle.iw44_image.specs.Layer.{Data}
+use Rattle.page_decoder.specs.Headers.{Head}
 use Rattle.page_decoder.specs.Acts.{Act, Kind, Reads, form_acts, complete_acts, tail_acts, acts_of}
 use Rattle.page_decoder.proofs.Acting.{none_before}
 

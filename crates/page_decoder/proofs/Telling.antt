@@ -1,8 +1,7 @@
 -- The reader of a file at one more event of its walker.
-use Rattle.std.proofs.Common.{◌≡◌, ◌≢◌, ◌≤◌, ◌<◌, ◌+◌, ◌-◌, ◌^◌, ℕ, zero, suc, min, Bool, true, false, cond, eqb, Option, Some, None, inl, inr, List, [], ◌∷◌, ◌++◌, length, take, drop, refl, sym, ap, ◌∙◌, subst, arith, append_assoc}
-use Rattle.std.proofs.lemmas.List.{append-nil, length-append, take-append-drop, take_all, drop_all}
+use Rattle.std.proofs.Common.{◌≡◌, ◌≢◌, ◌≤◌, ◌<◌, ◌+◌, ◌-◌, ◌^◌, ℕ, zero, suc, min, Bool, true, false, cond, eqb, Option, Some, None, inl, List, [], ◌∷◌, ◌++◌, length, take, drop, refl, sym, ap, ◌∙◌, subst, arith, append_assoc}
+use Rattle.std.proofs.lemmas.List.{length-append, take-append-drop, take_all, drop_all}
 use Rattle.std.proofs.lemmas.Grind.{common_steps}
-use Rattle.djvu_base.specs.declared.faults.FaultKind.{FaultKind}
 use Rattle.djvu_base.specs.Library.{Open}
 use Rattle.iff_chunks.specs.declared.walker.WalkStep.{WalkStep}
 use Rattle.iff_chunks.specs.declared.walker.WalkStep.TheVariants as event
@@ -12,19 +11,17 @@ use Rattle.iff_chunks.specs.Told.{Walking, Told as WasTold}
 use Rattle.iff_chunks.specs.Walk.{IsFed}
 use Rattle.iff_chunks.specs.Order.{Turn, AtForm, AtHeader, AtData, AtEnd, InOrder}
 use Rattle.include_graph.specs.declared.outline.Outline.{Outline}
-use Rattle.include_graph.specs.Verdicts.{fault_at}
 use Rattle.jb2_records.specs.declared.results.FileResult.{FileResult}
 use Rattle.djvu_base.specs.declared.ends.FileEnd.{FileEnd}
 use Rattle.page_decoder.specs.declared.file_reader.FileReader.{FileReader}
 use Rattle.page_decoder.specs.declared.file_reader.Stage.TheVariants as stage
-use Rattle.page_decoder.specs.Given.{Home, Known, Given, KnowsMore, Within}
+use Rattle.page_decoder.specs.Given.{Home, Known, Given, KnowsMore}
 use Rattle.page_decoder.specs.PageRead.{Left, at_start}
-use Rattle.page_decoder.specs.Headers.{Head, header_fault}
+use Rattle.page_decoder.specs.Headers.{header_fault}
 use Rattle.page_decoder.specs.Acts.{Act}
-use Rattle.page_decoder.specs.Read.{Step, On, Ends, and_then, at_header, step_through}
+use Rattle.page_decoder.specs.Read.{On, and_then, at_header, step_through}
 use Rattle.page_decoder.specs.ActsTold.{OpenChunk, ActsTold, nothing_told, after_event, after_events, after_step}
-use Rattle.page_decoder.specs.Resolving.{known_of}
-use Rattle.page_decoder.specs.FileReading.{origin_by, Counts, IsOf, Walks, Holds, Tallies, reached, IsWalking, IsGiven, IsTold, IsInOrder, Settles}
+use Rattle.page_decoder.specs.FileReading.{origin_by, Counts, Holds, reached, IsWalking, IsGiven, IsTold, IsInOrder, Settles}
 use Rattle.page_decoder.specs.FileSteps.{origin_so, origin_with, counted_with}
 use Rattle.page_decoder.proofs.ResolveSteps.{waits_on}
 use Rattle.page_decoder.proofs.Further.{Grows}

@@ -1,13 +1,12 @@
 -- A page's decoder: what contracts see of it, what it answers, and how it stands to what it was given.
-use Rattle.std.specs.Prelude.{ℕ, zero, suc, ◌≡◌, ◌≢◌, ◌≤◌, Bool, true, false, ⊤, List, [], ◌∷◌, ◌++◌, length, take, Option, Some, None, OnOk, OnErr}
-use Rattle.djvu_base.specs.Library.{Mark, Open}
-use Rattle.djvu_base.specs.Meter.{TicksExactly, ticked}
+use Rattle.std.specs.Prelude.{ℕ, zero, suc, ◌≡◌, ◌≢◌, ◌≤◌, ⊤, List, [], ◌∷◌, ◌++◌, length, take, Option, Some, None}
+use Rattle.djvu_base.specs.Meter.{TicksExactly}
 use Rattle.include_graph.specs.declared.outline.Outline.{Outline}
 use Rattle.layer_compose.specs.declared.layers.Layers.{Layers}
 use Rattle.page_decoder.specs.declared.decoder.PageStep.{PageStep}
 use Rattle.page_decoder.specs.declared.decoder.PageStep.TheVariants as step
 use Rattle.page_decoder.specs.Results.{Result}
-use Rattle.page_decoder.specs.Given.{Home, Known, Given}
+use Rattle.page_decoder.specs.Given.{Known}
 use Rattle.page_decoder.specs.PageRead.{Drawing, last_layers, notice_of, Ending, Finished, Refused, NeedBytes, NeedOutline, NeedFile, Told, PageRead}
 
 -- ---- what is answered

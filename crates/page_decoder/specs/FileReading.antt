@@ -1,5 +1,5 @@
 -- How the reader of a file stands to what was given of the file: where it stands among the acts, and what it keeps of those that are complete.
-use Rattle.std.specs.Prelude.{ℕ, suc, ◌≡◌, ◌≢◌, ◌+◌, ◌*◌, ◌≤◌, ◌<◌, ◌^◌, ◌-◌, min, ⊤, List, [], ◌∷◌, ◌++◌, length, Option, Some, None, is_some, IsSome, Bool, true, false, ◌==◌, if◌then◌else◌}
+use Rattle.std.specs.Prelude.{ℕ, ◌≡◌, ◌≢◌, ◌+◌, ◌*◌, ◌≤◌, ◌<◌, ◌^◌, ◌-◌, min, ⊤, List, [], ◌∷◌, ◌++◌, length, Option, Some, None, false, ◌==◌, if◌then◌else◌}
 use Rattle.std.specs.Arc.{arc_value}
 use Rattle.bit_plane.specs.Pixels.{Pixels}
 use Rattle.djvu_base.specs.Library.{Mark, Open, mark_of}

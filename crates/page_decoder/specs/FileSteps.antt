@@ -1,16 +1,11 @@
 -- What the steps of a file's reader do to what it keeps.
-use Rattle.std.specs.Prelude.{ℕ, suc, ◌≡◌, ◌≢◌, ◌+◌, ◌-◌, ◌≤◌, ◌<◌, ◌^◌, ⊤, List, [], ◌∷◌, ◌++◌, length, Option, Some, None, Bool, true, false, ◌==◌, nat_lt, min, if◌then◌else◌}
+use Rattle.std.specs.Prelude.{ℕ, ◌≡◌, ◌≢◌, ◌+◌, ◌-◌, ◌≤◌, ◌<◌, ◌^◌, ⊤, List, [], ◌∷◌, ◌++◌, length, Option, Some, None, Bool, true, false, ◌==◌, min, if◌then◌else◌}
 use Rattle.std.specs.Arc.{arc_value}
 use Rattle.djvu_base.specs.declared.faults.FaultKind.{FaultKind}
-use Rattle.djvu_base.specs.Library.{Mark, Open}
-use Rattle.djvu_base.specs.Announced.{Announced}
-use Rattle.djvu_base.specs.declared.ends.FileEnd.{FileEnd}
+use Rattle.djvu_base.specs.Library.{Mark}
 use Rattle.djvu_base.specs.Meter.{TicksExactly, ticked}
 use Rattle.zp_table.specs.declared.rows.Row.{Row}
 use Rattle.iff_chunks.specs.Chunks.{chunks_of}
-use Rattle.iff_chunks.specs.Events.{Event, events_of, IsOpen, Ends}
-use Rattle.iff_chunks.specs.declared.walker.WalkStep.{WalkStep}
-use Rattle.iff_chunks.specs.declared.walker.WalkStep.TheVariants as event
 use Rattle.iff_chunks.specs.declared.walker.WalkEnd.{WalkEnd}
 use Rattle.iff_chunks.specs.declared.walker.WalkEnd.TheVariants as walk_end
 use Rattle.include_graph.specs.Verdicts.{fault_at}
@@ -27,17 +22,17 @@ use Rattle.page_decoder.specs.declared.closing.Closed.{Closed}
 use Rattle.page_decoder.specs.declared.closing.ChunkCame.TheVariants as came
 use Rattle.page_decoder.specs.declared.resolving.Resolution.{Resolution}
 use Rattle.page_decoder.specs.declared.resolving.Resolution.TheVariants as resolution
-use Rattle.page_decoder.specs.Kinds.{ChunkKind, kind_of}
+use Rattle.page_decoder.specs.Kinds.{ChunkKind}
 use Rattle.page_decoder.specs.Kinds as kind
 use Rattle.page_decoder.specs.Given.{Role, Page, Included, Home, Known, Given}
 use Rattle.page_decoder.specs.PageRead.{NeedOutline, NeedFile, Refused, Include, Decoded, Left}
 use Rattle.page_decoder.specs.Headers.{Head}
-use Rattle.page_decoder.specs.ChunkData.{Outcome, Leaves, Unfinished, Fails, Came, came as data_came}
+use Rattle.page_decoder.specs.ChunkData.{Unfinished, Fails, came as data_came}
 use Rattle.page_decoder.specs.Acts.{close_in, origin_of}
 use Rattle.page_decoder.specs.Resolving.{Resolving, with_include, Resolves, IsResolved, Stops, Needs}
 use Rattle.page_decoder.specs.Kept.{Keeping, Keeps}
 use Rattle.page_decoder.specs.Opened.{Opens, ClosesTo, LayersStay, decisions_of}
-use Rattle.page_decoder.specs.FileReading.{Stands, StandsBefore, close_of, mark_by}
+use Rattle.page_decoder.specs.FileReading.{Stands, StandsBefore, close_of}
 
 -- it was fed something
 pub record IsHeld (reader : FileReader) : Type 0 where

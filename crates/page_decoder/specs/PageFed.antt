@@ -2,7 +2,7 @@
 use Rattle.std.specs.Prelude.{ℕ, ◌≡◌, ◌≢◌, ◌≤◌, ◌<◌, ◌^◌, ⊤, Bool, true, false, List, ◌++◌, length, Option, Some, None, Result, Ok, Err}
 use Rattle.std.specs.Arc.{arc_value}
 use Rattle.djvu_base.specs.Name.{IsAscending}
-use Rattle.djvu_base.specs.Library.{Mark, Open}
+use Rattle.djvu_base.specs.Library.{Mark}
 use Rattle.djvu_base.specs.declared.ends.FileEnd.{FileEnd}
 use Rattle.djvu_base.specs.Meter.{TicksExactly, ticked}
 use Rattle.zp_table.specs.Rows.{IsTable}
@@ -13,7 +13,7 @@ use Rattle.page_decoder.specs.declared.decoder.PageStep.TheVariants as step
 use Rattle.page_decoder.specs.declared.decoder.Standing.{Standing}
 use Rattle.page_decoder.specs.declared.decoder.Standing.TheVariants as standing
 use Rattle.page_decoder.specs.Given.{Page, Home, Known, Given, Within}
-use Rattle.page_decoder.specs.PageRead.{Ending, Finished, Refused, NeedBytes, NeedOutline, NeedFile, PageRead}
+use Rattle.page_decoder.specs.PageRead.{Ending, Finished, Refused, NeedBytes, NeedOutline, NeedFile}
 use Rattle.page_decoder.specs.Read.{read}
 use Rattle.page_decoder.specs.Resolving.{Gifts, home_of, known_by, not_given}
 use Rattle.page_decoder.specs.Decoder.{Ends, next_entry, Shows}

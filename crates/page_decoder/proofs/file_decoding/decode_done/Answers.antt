@@ -1,11 +1,9 @@
-use Rattle.std.proofs.Common.{◌≡◌, ◌≢◌, ◌≤◌, ℕ, Option, Some, None, List, [], drop, inl, inr, refl, sym, ap, ◌∙◌, subst}
+use Rattle.std.proofs.Common.{◌≡◌, ◌≢◌, ◌≤◌, ℕ, Some, List, [], drop, inl, inr, refl, sym, ap, ◌∙◌, subst}
 use Rattle.std.specs.Arc.{arc_value}
 use Rattle.djvu_base.specs.Library.{Open, mark_of}
-use Rattle.djvu_base.specs.Meter.{ticked, TicksExactly}
+use Rattle.djvu_base.specs.Meter.{ticked}
 use Rattle.zp_table.specs.declared.rows.Row.{Row}
 use Rattle.zp_table.specs.Rows.{IsTable}
-use Rattle.jb2_records.specs.declared.results.FileResult.{FileResult}
-use Rattle.page_decoder.specs.declared.decoder.PageStep.{PageStep}
 use Rattle.page_decoder.specs.declared.decoder.PageStep.TheVariants as step
 use Rattle.page_decoder.specs.declared.roles.Role.TheVariants as file_role
 use Rattle.page_decoder.specs.Given.{Known, Given, Within}
@@ -14,7 +12,7 @@ use Rattle.page_decoder.specs.Read.{read, done_by}
 use Rattle.page_decoder.specs.Resolving.{home_of, known_of, result_in}
 use Rattle.page_decoder.specs.Decoder.{RiseTogether}
 use Rattle.page_decoder.specs.FileDecoding.{included, gift_of}
-use Rattle.page_decoder.specs.FileReading.{IsGiven, Answers, decisions_in, dictionary_in}
+use Rattle.page_decoder.specs.FileReading.{IsGiven, Answers, decisions_in}
 use Rattle.page_decoder.proofs.Gifts.{Laws, same_reading, gives, counts, closed_end}
 use Rattle.page_decoder.proofs.file_decoding.decode_done.Goals as goal
 

@@ -1,7 +1,6 @@
-use Rattle.std.proofs.Common.{◌≡◌, rules, of_calls, refl, sym, ap, ◌∙◌, subst}
-use Rattle.djvu_base.specs.Library.{Open, mark_of}
-use Rattle.page_decoder.specs.Given.{Given}
-use Rattle.page_decoder.specs.PageFed.{Fed, IsFed, Decoding, decoding_of}
+use Rattle.std.proofs.Common.{◌≡◌, rules, of_calls, sym, ap, ◌∙◌, subst}
+use Rattle.djvu_base.specs.Library.{mark_of}
+use Rattle.page_decoder.specs.PageFed.{Fed, IsFed, Decoding}
 use Rattle.page_decoder.proofs.Decoding.{GrowthLaws, with_mark, ended_fed}
 use Rattle.page_decoder.proofs.Gifting.{none_open}
 use Rattle.page_decoder.proofs.decoder.PageDecoder.end.Goals as goal

@@ -1,5 +1,4 @@
-use Rattle.std.proofs.Common.{◌≡◌, ◌<◌, length, refl, sym, ap, ◌∙◌, subst}
-use Rattle.std.specs.Arc.{arc_value}
+use Rattle.std.proofs.Common.{◌≡◌, ◌<◌, sym, ap, ◌∙◌, subst}
 use Rattle.page_decoder.specs.Resolving.{result_in}
 use Rattle.page_decoder.specs.PageFed.{Fed, IsFed, Decoding, with_known}
 use Rattle.page_decoder.proofs.Decoding.{GrowthLaws, file_lacks}

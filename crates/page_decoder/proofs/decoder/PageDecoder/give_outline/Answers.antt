@@ -1,6 +1,5 @@
-use Rattle.std.proofs.Common.{◌≡◌, ◌<◌, length, refl, sym, ap, ◌∙◌, subst}
+use Rattle.std.proofs.Common.{◌≡◌, ◌<◌, sym, ap, ◌∙◌, subst}
 use Rattle.std.specs.Arc.{arc_value}
-use Rattle.page_decoder.specs.Resolving.{result_in}
 use Rattle.page_decoder.specs.PageFed.{Fed, IsFed, Decoding, with_known}
 use Rattle.page_decoder.proofs.Decoding.{GrowthLaws, outline_lacks}
 use Rattle.page_decoder.proofs.Gifting.{outlined_too, knows_outline, outline_gifted}

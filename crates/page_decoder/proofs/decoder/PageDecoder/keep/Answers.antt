@@ -1,11 +1,7 @@
-use Rattle.std.proofs.Common.{◌≡◌, ◌++◌, List, ℕ, refl, sym, ap, ◌∙◌, subst}
-use Rattle.std.specs.Arc.{arc_value}
-use Rattle.djvu_base.specs.Library.{Open}
-use Rattle.page_decoder.specs.Given.{Given}
-use Rattle.page_decoder.specs.PageFed.{Fed, IsFed, Kept, Decoding, decoding_of}
+use Rattle.std.proofs.Common.{◌≡◌, ◌++◌, ℕ, refl, sym, ap, ◌∙◌, subst}
+use Rattle.page_decoder.specs.PageFed.{Fed, IsFed, Decoding}
 use Rattle.page_decoder.proofs.Decoding.{GrowthLaws, on_ok, on_err, with_bytes, bytes_within, open_given, pushed_fed, failing_fed}
 use Rattle.page_decoder.proofs.GoingOn.{within_same}
-use Rattle.page_decoder.proofs.Reached.{ran_fed}
 use Rattle.page_decoder.proofs.decoder.PageDecoder.keep.Goals as goal
 
 pub invariant_of-self : goal.invariant_of-self

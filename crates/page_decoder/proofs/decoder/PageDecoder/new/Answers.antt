@@ -1,4 +1,4 @@
-use Rattle.std.proofs.Common.{None, sym, ap, ◌∙◌, length, refl}
+use Rattle.std.proofs.Common.{None, ap, ◌∙◌, length, refl}
 use Rattle.std.specs.Arc.{arc_value}
 use Rattle.page_decoder.specs.Given.{Home, Known}
 use Rattle.page_decoder.specs.PageFed.{Fed}

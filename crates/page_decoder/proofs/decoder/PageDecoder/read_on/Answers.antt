@@ -1,7 +1,6 @@
-use Rattle.std.proofs.Common.{◌≡◌, ◌≢◌, List, ℕ, refl, sym, ap, ◌∙◌, subst}
+use Rattle.std.proofs.Common.{◌≡◌, ◌≢◌, ℕ, sym, ap, ◌∙◌, subst}
 use Rattle.std.specs.Arc.{arc_value}
 use Rattle.djvu_base.specs.Meter.{TicksExactly}
-use Rattle.page_decoder.specs.declared.decoder.PageStep.{PageStep}
 use Rattle.page_decoder.specs.Given.{Home}
 use Rattle.page_decoder.specs.Read.{read}
 use Rattle.page_decoder.specs.Decoder.{next_entry, answer_to, decisions_to, drawn_with}

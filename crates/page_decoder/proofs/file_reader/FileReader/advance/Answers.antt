@@ -1,4 +1,4 @@
-use Rattle.std.proofs.Common.{◌≡◌, Option, Some, None, refl, sym, subst}
+use Rattle.std.proofs.Common.{◌≡◌, Some, None, refl, sym, subst}
 use Rattle.page_decoder.specs.declared.file_reader.ChunkAtHand.{ChunkAtHand}
 use Rattle.page_decoder.specs.FileSteps.{Advances}
 use Rattle.page_decoder.proofs.file_reader.FileReader.advance.Goals as goal

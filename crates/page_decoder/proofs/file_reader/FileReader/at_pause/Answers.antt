@@ -1,6 +1,4 @@
-use Rattle.std.proofs.Common.{List, None, Some, sym, ap, subst, ◌∙◌}
-use Rattle.zp_table.specs.declared.rows.Row.{Row}
-use Rattle.zp_table.specs.Rows.{IsTable}
+use Rattle.std.proofs.Common.{None, Some, sym, ap, subst, ◌∙◌}
 use Rattle.page_decoder.specs.FileReading.{Answers, IsClosing}
 use Rattle.page_decoder.specs.FileSteps.{Advances}
 use Rattle.page_decoder.proofs.Answering.{comes_same}

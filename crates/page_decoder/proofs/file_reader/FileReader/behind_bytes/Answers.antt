@@ -1,13 +1,12 @@
-use Rattle.std.proofs.Common.{◌≡◌, ◌<◌, ◌^◌, ◌-◌, ℕ, Bool, true, false, min, List, length, refl, sym, ap, ◌∙◌, subst, arith, lit<}
+use Rattle.std.proofs.Common.{◌≡◌, ◌<◌, ◌^◌, ◌-◌, ℕ, List, length, refl, sym, ap, ◌∙◌, subst, arith, lit<}
 use Rattle.djvu_base.specs.Library.{Mark, Open, Whole, mark_of, file_limit}
 use Rattle.djvu_base.specs.Library as library
-use Rattle.djvu_base.specs.declared.faults.FaultKind.{FaultKind}
 use Rattle.djvu_base.specs.declared.faults.FaultKind.TheVariants as fault
 use Rattle.iff_chunks.specs.declared.walker.WalkEnd.{WalkEnd}
 use Rattle.iff_chunks.specs.declared.walker.WalkEnd.TheVariants as walk_end
-use Rattle.iff_chunks.specs.Chunks.{Chunk, Tail, InHead, InHeader, InData, InPad, FormEnd, Broken, chunks_of, chunks_in_all, end_of}
-use Rattle.iff_chunks.specs.Ends.{broken_off, closed, file_end, tail_of, is_cut}
-use Rattle.page_decoder.specs.Acts.{close_in, origin_of}
+use Rattle.iff_chunks.specs.Chunks.{Chunk, Tail, InHead, InHeader, InData, InPad, FormEnd, Broken, chunks_of, end_of}
+use Rattle.iff_chunks.specs.Ends.{broken_off, closed, tail_of}
+use Rattle.page_decoder.specs.Acts.{origin_of}
 use Rattle.page_decoder.specs.Acts as acts
 use Rattle.page_decoder.specs.FileReading.{close_of, mark_by}
 use Rattle.page_decoder.specs.FileSteps.{IsBehind, close_by}

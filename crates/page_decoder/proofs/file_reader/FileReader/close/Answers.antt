@@ -1,4 +1,4 @@
-use Rattle.std.proofs.Common.{rules, ◌≡◌, ◌+◌, ◌-◌, ◌^◌, ℕ, min, sym, ap, ◌∙◌}
+use Rattle.std.proofs.Common.{rules, ◌≡◌, ◌+◌, ◌-◌, ◌^◌, ℕ, min, ◌∙◌}
 use Rattle.djvu_base.specs.Meter.{ticked}
 use Rattle.page_decoder.specs.Opened.{decisions_of}
 use Rattle.page_decoder.proofs.Shutting.{closed_so, counts_together, left_decisions}

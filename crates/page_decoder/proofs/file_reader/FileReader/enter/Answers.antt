@@ -1,8 +1,7 @@
-use Rattle.std.proofs.Common.{None, Some, map, sym, ap, subst, ◌∙◌}
+use Rattle.std.proofs.Common.{map, sym, subst, ◌∙◌}
 use Rattle.std.specs.Arc.{arc_value}
 use Rattle.include_graph.specs.Verdicts.{outline_in}
 use Rattle.page_decoder.specs.Kinds.{kind_of}
-use Rattle.page_decoder.specs.PageRead.{Left}
 use Rattle.page_decoder.specs.Resolving.{home_of, known_of}
 use Rattle.page_decoder.specs.FileReading.{Answers, StandsAt}
 use Rattle.page_decoder.specs.FileSteps.{ResolvesBefore}

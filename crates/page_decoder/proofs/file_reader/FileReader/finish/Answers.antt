@@ -1,4 +1,4 @@
-use Rattle.std.proofs.Common.{None, Some, map, sym, subst}
+use Rattle.std.proofs.Common.{map, sym, subst}
 use Rattle.std.specs.Arc.{arc_value}
 use Rattle.include_graph.specs.Verdicts.{outline_in}
 use Rattle.page_decoder.specs.declared.decoder.PageStep.TheVariants as step

@@ -1,6 +1,5 @@
-use Rattle.std.proofs.Common.{rules, subst, sym, refl, ◌≡◌, ℕ, List, [], None}
+use Rattle.std.proofs.Common.{subst, sym, refl, ◌≡◌, ℕ, List, []}
 use Rattle.std.specs.Arc.{arc_value}
-use Rattle.page_decoder.specs.Decoder.{RiseTogether}
 use Rattle.page_decoder.specs.Resolving.{home_of}
 use Rattle.page_decoder.proofs.file_reader.FileReader.new.Goals as goal
 use Rattle.zp_table.specs.declared.rows.Row.{Row}

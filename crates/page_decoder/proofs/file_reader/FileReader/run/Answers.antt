@@ -1,7 +1,5 @@
-use Rattle.std.proofs.Common.{rules, ◌≡◌, ◌-◌, ℕ, List, Option, Some, None, drop, length, map, refl, sym, ap, ◌∙◌, subst, arith}
-use Rattle.include_graph.specs.declared.outline.Outline.{Outline}
+use Rattle.std.proofs.Common.{rules, ◌≡◌, ◌-◌, ℕ, List, None, drop, map, refl, sym, ◌∙◌, subst, arith}
 use Rattle.include_graph.specs.Verdicts.{outline_in}
-use Rattle.page_decoder.specs.declared.file_reader.FileReader.{FileReader}
 use Rattle.page_decoder.specs.FileReading.{decisions_in, IsReady, Moves, ComesTo, Answers}
 use Rattle.page_decoder.proofs.Further.{Grows}
 use Rattle.page_decoder.proofs.Coming.{data_on}

@@ -1,4 +1,4 @@
-use Rattle.std.proofs.Common.{◌≡◌, ◌-◌, ◌≤◌, ℕ, List, drop, length, map}
+use Rattle.std.proofs.Common.{◌≡◌, ◌-◌, ◌≤◌, ℕ, drop, length, map}
 use Rattle.include_graph.specs.Verdicts.{outline_in}
 use Rattle.page_decoder.specs.Given.{Given}
 use Rattle.page_decoder.specs.Decoder.{RiseTogether}

@@ -1,4 +1,4 @@
-use Rattle.std.proofs.Common.{◌≡◌, List, ℕ, Some, take, drop, refl, sym, ap, ◌∙◌, subst}
+use Rattle.std.proofs.Common.{◌≡◌, List, ℕ, take, drop, sym, ap, ◌∙◌, subst}
 use Rattle.page_decoder.specs.declared.file_reader.FileReader.{FileReader}
 use Rattle.iff_chunks.specs.Told.{Walking}
 use Rattle.page_decoder.specs.FileSteps.{origin_with, counted_with}

@@ -4,7 +4,6 @@ use Rattle.iw44_image.specs.Layer.{data_of}
 use Rattle.page_decoder.specs.declared.layer_reader.LayerStep.{LayerStep}
 use Rattle.page_decoder.specs.declared.layer_reader.LayerStep.TheVariants as step
 use Rattle.page_decoder.specs.declared.closing.Closed.{Closed}
-use Rattle.page_decoder.specs.Kinds.{kind_of}
 use Rattle.page_decoder.specs.Kinds as kind
 use Rattle.page_decoder.specs.ChunkData.{Came, back_limit, back_came}
 use Rattle.page_decoder.specs.LayerState.{LayerState, Answers, KeepsOpen, decisions_with}

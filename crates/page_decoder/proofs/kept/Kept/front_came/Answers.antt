@@ -3,7 +3,6 @@ use Rattle.djvu_base.specs.Meter.{ticked, TicksExactly}
 use Rattle.iw44_image.specs.Layer.{data_of}
 use Rattle.page_decoder.specs.declared.layer_reader.LayerStep.{LayerStep}
 use Rattle.page_decoder.specs.declared.layer_reader.LayerStep.TheVariants as step
-use Rattle.page_decoder.specs.Kinds.{kind_of}
 use Rattle.page_decoder.specs.Kinds as kind
 use Rattle.page_decoder.specs.ChunkData.{Came, front_limit, front_came}
 use Rattle.page_decoder.specs.LayerState.{LayerState, Answers, KeepsOpen, decisions_with}

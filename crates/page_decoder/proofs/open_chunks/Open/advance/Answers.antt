@@ -1,4 +1,4 @@
-use Rattle.std.proofs.Common.{◌≡◌, ℕ, ◌<◌, ◌≤◌, sym, ap, subst, arith}
+use Rattle.std.proofs.Common.{◌≡◌, ℕ, ◌<◌, ◌≤◌, sym, subst, arith}
 use Rattle.page_decoder.specs.Opened.{OpenState, Opens}
 use Rattle.page_decoder.specs.Kinds.{kind_of}
 use Rattle.page_decoder.proofs.open_chunks.Open.advance.Goals as goal

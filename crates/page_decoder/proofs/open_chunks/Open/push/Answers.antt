@@ -1,4 +1,4 @@
-use Rattle.std.proofs.Common.{◌≡◌, ℕ, ◌-◌, ◌≤◌, min, length, take, ap, subst, arith, length-take, ◌∙◌}
+use Rattle.std.proofs.Common.{◌≡◌, ℕ, ◌-◌, ◌≤◌, min, length, take, subst, arith, length-take, ◌∙◌}
 use Rattle.page_decoder.specs.Opened.{IsRunning}
 use Rattle.page_decoder.proofs.open_chunks.Open.push.Goals as goal
 

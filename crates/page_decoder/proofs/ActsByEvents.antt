@@ -49,7 +49,8 @@ step_told told (step.Broken kind offset) used = refl
 
 -- data of a chunk that has begun
 data_told : (acts : List Act) (head : Head) (bytes : List ℕ)
-    → after_events (record { acts = acts; chunk = begun_at head }) (data_events bytes) ≡ record { acts = acts; chunk = Some (record { head = head; bytes = bytes }) }
+    → after_events (record { acts = acts; chunk = begun_at head }) (data_events bytes)
+    ≡ record { acts = acts; chunk = Some (record { head = head; bytes = bytes }) }
 data_told acts head [] = refl
 data_told acts head (byte ∷ bytes) = refl
 
@@ -111,7 +112,8 @@ behind_open acts None ended all others e = (others, e ∙ ap (λ l. l ++ others)
 behind_open acts (Some chunk) ended all others e = ([], ended, others, e ∙ no_rest acts chunk ended others)
 
 -- what goes on from one more event goes on from what was told before it
-pub before_data : (acts : List Act) (chunk : Option OpenChunk) (bytes : List ℕ) (all : List Act) → GoOnFrom acts (with_bytes bytes chunk) all → GoOnFrom acts chunk all
+pub before_data : (acts : List Act) (chunk : Option OpenChunk) (bytes : List ℕ) (all : List Act)
+    → GoOnFrom acts (with_bytes bytes chunk) all → GoOnFrom acts chunk all
 before_data acts None bytes all g = g
 before_data acts (Some chunk) bytes all g =
     (bytes ++ g.0, g.1, g.2, g.3 ∙ ap (λ b. acts ++ Reads chunk.head (data_of b g.1) ∷ g.2) (append_assoc chunk.bytes bytes g.0))

@@ -2,11 +2,9 @@
 use Rattle.std.proofs.Common.{◌≡◌, ◌≢◌, ◌≤◌, ◌<◌, ◌+◌, ◌-◌, ◌^◌, ℕ, suc, min, true, false, Option, Some, None, List, [], ◌∷◌, ◌++◌, length, refl, sym, ap, ◌∙◌, subst, arith, append_assoc}
 use Rattle.std.proofs.lemmas.Bool.{true≢false}
 use Rattle.std.proofs.lemmas.List.{append-nil, length-append}
-use Rattle.std.proofs.lemmas.Grind.{common_steps}
 use Rattle.djvu_base.specs.declared.faults.FaultKind.{FaultKind}
 use Rattle.djvu_base.specs.Announced.{Announced}
 use Rattle.djvu_base.specs.Meter.{ticked, TicksExactly}
-use Rattle.layer_compose.specs.declared.layers.Layers.{Layers}
 use Rattle.zp_table.specs.declared.rows.Row.{Row}
 use Rattle.iff_chunks.specs.declared.walker.WalkStep.TheVariants as event
 use Rattle.iff_chunks.specs.Events.{ChunkEnd}
@@ -34,6 +32,7 @@ use Rattle.page_decoder.specs.Kept.{Keeps}
 use Rattle.page_decoder.specs.Opened.{Opens, Closes, ClosesTo, Draws, LayersStay, announced}
 use Rattle.page_decoder.specs.FileReading.{Walks, HoldsChunk, reached, decisions_in, IsWalking, StandsAt, StandsBefore, Answers, Moves, ComesTo, IsTold}
 use Rattle.page_decoder.specs.FileSteps.{HasClosed, HasLeft, Adds}
+use Rattle.page_decoder.proofs.ChunkCounts.{none_drawn, one_drawn, both_ticks, both_within, counted, small}
 use Rattle.page_decoder.proofs.ResolveSteps.{waits_along, waits_with}
 use Rattle.page_decoder.proofs.Leaving.{Brings, brings}
 use Rattle.page_decoder.proofs.Retaining.{from_below, outcome_below, after_below}
@@ -57,43 +56,6 @@ same_includes kind.Front table data_ offset before after n b = (ap (λ (d : Deco
 same_includes kind.Back table data_ offset before after n b = (ap (λ (d : Decoded). d.inherited) (sym b.4), ap (λ (d : Decoded). d.pending) (sym b.4))
 same_includes kind.Refused table data_ offset before after n b = (ap (λ (d : Decoded). d.inherited) (sym b), ap (λ (d : Decoded). d.pending) (sym b))
 same_includes kind.Passed table data_ offset before after n b = (ap (λ (d : Decoded). d.inherited) (sym b), ap (λ (d : Decoded). d.pending) (sym b))
-
--- ---- drawings
-
-none_drawn : (of : ChunkKind) (chunks decisions : ℕ) (layers : Option Layers) → brings_drawing of ≡ false → drawing_by of chunks decisions layers ≡ []
-none_drawn kind.Info chunks decisions layers b = absurd (true≢false b)
-none_drawn kind.Include chunks decisions layers b = refl
-none_drawn kind.Dictionary chunks decisions layers b = refl
-none_drawn kind.Mask chunks decisions layers b = absurd (true≢false b)
-none_drawn kind.Front chunks decisions layers b = absurd (true≢false b)
-none_drawn kind.Back chunks decisions layers b = absurd (true≢false b)
-none_drawn kind.Refused chunks decisions layers b = refl
-none_drawn kind.Passed chunks decisions layers b = refl
-
-one_drawn : (of : ChunkKind) (chunks decisions : ℕ) (layers : Option Layers) → brings_drawing of ≡ true
-    → (drawing_by of chunks decisions layers ≡ drawing_of chunks decisions layers) × (of ≢ kind.Include)
-one_drawn kind.Info chunks decisions layers b = (refl, λ e. cc)
-one_drawn kind.Include chunks decisions layers b = absurd (true≢false (sym b))
-one_drawn kind.Dictionary chunks decisions layers b = absurd (true≢false (sym b))
-one_drawn kind.Mask chunks decisions layers b = (refl, λ e. cc)
-one_drawn kind.Front chunks decisions layers b = (refl, λ e. cc)
-one_drawn kind.Back chunks decisions layers b = (refl, λ e. cc)
-one_drawn kind.Refused chunks decisions layers b = absurd (true≢false (sym b))
-one_drawn kind.Passed chunks decisions layers b = absurd (true≢false (sym b))
-
--- ---- counts
-
-both_ticks : (more all some before now : ℕ) → TicksExactly more 0 some → TicksExactly all 0 before → now ≡ ticked some before → TicksExactly (all + more) 0 now
-both_ticks more all some before now a b e = grind (arith, common_steps)
-
-both_within : (more all some before now : ℕ) → some ≤ ticked more 0 → TicksExactly all 0 before → now ≡ ticked some before → now ≤ ticked (all + more) 0
-both_within more all some before now a b e = grind (arith, common_steps)
-
-counted : (chunks all : ℕ) → chunks ≡ all → all < 2 ^ 31 → min (chunks + 1) (2 ^ 32 - 1) ≡ suc all
-counted chunks all e few = grind (arith, common_steps)
-
-small : (now most : ℕ) → now ≤ ticked most 0 → ticked 0 now ≡ now
-small now most h = grind (arith, common_steps)
 
 -- ---- the chunk that ends
 
@@ -177,7 +139,9 @@ module _ (given : Given) (rest used : List ℕ) (reader : FileReader) (law : Con
 
     total : next.decisions ≡ ticked h.closed.decisions reader.decisions → h.closed.came ≢ came.OutOfMemory
         → TicksExactly (t.left.told.decisions + mine.decisions) 0 next.decisions
-    total d n = both_ticks mine.decisions t.left.told.decisions h.closed.decisions reader.decisions next.decisions ((closes t chunk e answer next h).all n) t.holds.decisions_are d
+    total d n =
+        both_ticks mine.decisions t.left.told.decisions h.closed.decisions reader.decisions next.decisions
+        ((closes t chunk e answer next h).all n) t.holds.decisions_are d
 
     -- all decisions are those of complete chunks
     none_open : (all : ℕ) → TicksExactly all 0 next.decisions → TicksExactly all 0 (decisions_in next)
@@ -270,7 +234,8 @@ module _ (given : Given) (rest used : List ℕ) (reader : FileReader) (law : Con
         → Answers given rest step.OutOfMemory reader next
     lacks d l n =
         let most : next.decisions ≤ ticked (t.left.told.decisions + mine.decisions) 0 =
-        both_within mine.decisions t.left.told.decisions h.closed.decisions reader.decisions next.decisions (closes t chunk e answer next h).at_most t.holds.decisions_are n in
+        both_within mine.decisions t.left.told.decisions h.closed.decisions reader.decisions next.decisions
+        (closes t chunk e answer next h).at_most t.holds.decisions_are n in
         let alone : decisions_in next ≡ next.decisions = none_more next none ∙ small next.decisions (t.left.told.decisions + mine.decisions) most in
         memory_answer given rest reader next t.left.told (t.left.told.decisions + mine.decisions) told_more.drawings told_more.decisions
         t.holds.tallies.drawn_are d (subst (λ k. k ≤ ticked (t.left.told.decisions + mine.decisions) 0) (sym alone) most) (unlaid l)

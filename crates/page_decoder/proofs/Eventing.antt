@@ -43,7 +43,8 @@ pub no_chunk : (table : _) (chunk : Option ChunkAtHand) (decoded : Decoded) (kep
 no_chunk table None decoded kept h = refl
 no_chunk table (Some chunk) decoded kept h = absurd h
 
-pub kept_so : (table : _) (chunk : Option ChunkAtHand) (decoded : Decoded) (kept : Keeping) → HoldsChunk table None chunk decoded kept → Keeps table decoded kept
+pub kept_so : (table : _) (chunk : Option ChunkAtHand) (decoded : Decoded) (kept : Keeping)
+    → HoldsChunk table None chunk decoded kept → Keeps table decoded kept
 kept_so table None decoded kept h = h
 kept_so table (Some chunk) decoded kept h = absurd h
 

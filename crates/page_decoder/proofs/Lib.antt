@@ -120,6 +120,8 @@ mod Bounded
 mod Origins
 -- at_close, at_form_end
 mod FileEnds
+-- ChunkEnds
+mod ChunkCounts
 mod ChunkEnds
 mod Shutting
 -- at_pause

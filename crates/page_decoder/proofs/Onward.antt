@@ -36,7 +36,8 @@ module _ (home : Home) (a b : Known) (on : KnowsMore a b) (grows : Grows home.ta
   act_on : (act : Act) (left now : Left) → at_act home a act left ≡ On now → at_act home b act left ≡ On now
   act_on act left now e = on_later false b (at_act home a act left) (at_act home b act left) now (act_later false home a b on grows act left) e
 
-  pub header_on : (head : Head) (fault : Option FaultKind) (left now : Left) → at_header home a head fault left ≡ On now → at_header home b head fault left ≡ On now
+  pub header_on : (head : Head) (fault : Option FaultKind) (left now : Left) → at_header home a head fault left ≡ On now
+      → at_header home b head fault left ≡ On now
   header_on head fault left now e =
       on_later false b (at_header home a head fault left) (at_header home b head fault left) now (header_later false home a b on grows head fault left) e
 
@@ -59,7 +60,8 @@ pub through_both : (home : Home) (known : Known) (acts others : List Act) (left 
 through_both home known [] others left = refl
 through_both home known (act ∷ acts) others left = by (through_both home known acts others) (at_act home known act left)
   where
-    by : ((now : Left) → step_through home known (acts ++ others) now ≡ and_then (step_through home known acts now) (step_through home known others)) → (s : Step)
+    by : ((now : Left) → step_through home known (acts ++ others) now ≡ and_then (step_through home known acts now) (step_through home known others))
+        → (s : Step)
         → and_then s (step_through home known (acts ++ others)) ≡ and_then (and_then s (step_through home known acts)) (step_through home known others)
     by all (On now) = all now
     by all (Ends ended) = refl

@@ -24,7 +24,8 @@ Same before after = (after.kept ≡ before.kept) × (after.decisions ≡ before.
 same_by : (before after : FileReader) → after ≡ before → Same before after
 same_by before after e = (ap (λ (r : FileReader). r.kept) e, ap (λ (r : FileReader). r.decisions) e)
 
-adds_same : (include : Include) (chunks : ℕ) (answer : Option PageStep) (before after : FileReader) → Adds include chunks answer before after → Same before after
+adds_same : (include : Include) (chunks : ℕ) (answer : Option PageStep) (before after : FileReader)
+    → Adds include chunks answer before after → Same before after
 adds_same include chunks None before after a = (ap (λ (r : FileReader). r.kept) a, ap (λ (r : FileReader). r.decisions) a)
 adds_same include chunks (Some answer) before after a = same_by before after a.1
 

@@ -138,7 +138,8 @@ none_then AtEnd so_far (Begun kind size ∷ told) next f o none = absurd o
 none_then AtEnd so_far (Header id offset size ∷ told) next f o none = absurd o
 none_then AtEnd so_far (Data bytes ∷ told) next f o none = absurd o
 
-pub none_at_form : (told : List Event) (kind : List ℕ) (size : ℕ) → InOrder AtForm (told ++ Begun kind size ∷ []) → (after_events nothing_told told).chunk ≡ None
+pub none_at_form : (told : List Event) (kind : List ℕ) (size : ℕ) → InOrder AtForm (told ++ Begun kind size ∷ [])
+    → (after_events nothing_told told).chunk ≡ None
 none_at_form told kind size o = none_then AtForm nothing_told told (Begun kind size) refl o at
   where
     at : (turn : Turn) (chunk : Option OpenChunk) → InOrder turn (Begun kind size ∷ []) → Fits turn chunk → chunk ≡ None

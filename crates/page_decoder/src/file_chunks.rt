@@ -131,7 +131,8 @@ impl FileReader {
         requires few { length names.now < 2 ^ 32 }
         requires places { IsPlaced (length names.now) outlines.now }
         ensures resolves { (table : List Row) (left : Left) → ResolvesBefore (kind_of head.id)
-            (home_of self.old.role table names.now self.old.file) (known_of (map outline_in outlines.now) results.now) left result self.old.includes self.new.includes }
+            (home_of self.old.role table names.now self.old.file) (known_of (map outline_in outlines.now) results.now) left result
+            self.old.includes self.new.includes }
         ensures rest { self.new ≡ record self.old { includes = self.new.includes } }
     {
         match ChunkKind::of(head.id) {
@@ -156,7 +157,8 @@ impl FileReader {
         requires few { length names.now < 2 ^ 32 }
         requires places { IsPlaced (length names.now) outlines.now }
         ensures resolves { (table : List Row) (left : Left) → HasResolved
-            (home_of self.old.role table names.now self.old.file) (known_of (map outline_in outlines.now) results.now) left result self.old.includes self.new.includes }
+            (home_of self.old.role table names.now self.old.file) (known_of (map outline_in outlines.now) results.now) left result
+            self.old.includes self.new.includes }
         ensures rest { self.new ≡ record self.old { includes = self.new.includes } }
     {
         let resolution = self

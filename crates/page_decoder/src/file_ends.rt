@@ -34,7 +34,8 @@ impl FileReader {
         requires ascending { IsAscending names.now }
         requires few { length names.now < 2 ^ 32 }
         requires places { IsPlaced (length names.now) outlines.now }
-        ensures answers { (given : Given) (rest taken : List ℕ) → IsKnown names.now (known_of (map outline_in outlines.now) results.now) given → given.mark ≡ mark_by end
+        ensures answers { (given : Given) (rest taken : List ℕ) → IsKnown names.now (known_of (map outline_in outlines.now) results.now) given
+            → given.mark ≡ mark_by end
             → IsTold given rest WalkStep.NeedBytes taken self.old → Answers given rest result self.old self.new }
         ensures rise { RiseTogether (decisions_in self.old) (decisions_in self.new) (M.count meter.old) (M.count meter.new) }
         ensures home { SameFile self.old self.new }

@@ -55,7 +55,10 @@ impl FileReader {
 
     /// Counts bytes that the walker took.
     pub(crate) fn count(&mut self, taken: &[u8])
-        ensures { self.new ≡ record self.old { origin = origin_with self.old.arrived taken.now self.old.origin; arrived = counted_with self.old.arrived taken.now } }
+        ensures { self.new ≡ record self.old {
+            origin = origin_with self.old.arrived taken.now self.old.origin;
+            arrived = counted_with self.old.arrived taken.now;
+        } }
     {
         if self.arrived == 0 {
             self.origin = origin_behind(self.origin, taken);
@@ -77,7 +80,8 @@ impl FileReader {
         requires ascending { IsAscending names.now }
         requires few { length names.now < 2 ^ 32 }
         requires places { IsPlaced (length names.now) outlines.now }
-        ensures comes { (given : Given) (rest : List ℕ) → IsKnown names.now (known_of (map outline_in outlines.now) results.now) given → given.mark ≡ mark_by end
+        ensures comes { (given : Given) (rest : List ℕ) → IsKnown names.now (known_of (map outline_in outlines.now) results.now) given
+            → given.mark ≡ mark_by end
             → IsTold given rest event taken.now self.old → ComesTo given rest result self.old self.new }
         ensures fewer { result ≡ None → (self.new.walker ≡ self.old.walker) × (stage_left self.new.stage ≤ 1) }
         ensures events { is_event event ≡ false → IsSome result }

@@ -21,4 +21,6 @@ returns-clause-answers g c = λ given rest taken so m t.
     (c.at_pause.ensures.answers given rest so paused)
 
 pub returns-clause-home : goal.returns-clause-home
-returns-clause-home g c names = c.at_pause.ensures.home names ∙ ap (λ (r : FileReader). home_of r.role (arc_value r.table) names r.file) c.behind_bytes-behind.ensures.rest
+returns-clause-home g c names =
+    c.at_pause.ensures.home names
+    ∙ ap (λ (r : FileReader). home_of r.role (arc_value r.table) names r.file) c.behind_bytes-behind.ensures.rest

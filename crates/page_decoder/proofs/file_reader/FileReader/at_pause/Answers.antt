@@ -46,4 +46,6 @@ returns-in-None-clause-answers g c = λ given rest so k.
     (c.at_close.ensures.answers given rest so closing)
 
 pub returns-in-None-clause-home : goal.returns-in-None-clause-home
-returns-in-None-clause-home g c names = c.at_close.ensures.home names ∙ ap (λ (r : FileReader). home_of r.role (arc_value r.table) names r.file) c.advance.ensures.rest
+returns-in-None-clause-home g c names =
+    c.at_close.ensures.home names
+    ∙ ap (λ (r : FileReader). home_of r.role (arc_value r.table) names r.file) c.advance.ensures.rest

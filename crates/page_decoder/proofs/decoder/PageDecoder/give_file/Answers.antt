@@ -1,5 +1,7 @@
-use Rattle.std.proofs.Common.{◌≡◌, ◌<◌, sym, ap, ◌∙◌, subst}
-use Rattle.page_decoder.specs.Resolving.{result_in}
+use Rattle.std.proofs.Common.{◌≡◌, ◌≢◌, ◌<◌, sym, ap, ◌∙◌, subst}
+use Rattle.std.specs.Prelude.{OnOk}
+use Rattle.jb2_records.specs.declared.results.FileResult.TheVariants as gift_of
+use Rattle.page_decoder.specs.Resolving.{result_in, not_given}
 use Rattle.page_decoder.specs.PageFed.{Fed, IsFed, Decoding, with_known}
 use Rattle.page_decoder.proofs.Decoding.{GrowthLaws, file_lacks}
 use Rattle.page_decoder.proofs.Gifting.{resulted_too, knows_result, file_gifted}
@@ -38,8 +40,10 @@ returns-clause-to_ask c =
     record { told = c.growth.ensures.told; unmet = c.growth.ensures.unmet; outline = c.needs.ensures.outline; file = c.needs.ensures.file } in
     let i = c.self.invariant in
     let lacks = file_lacks laws _ i.given c.args.file (ap (λ (d : Decoding). d.stands) c.self.view_is ∙ c.requires) i.fed in
-    result_less _ c.give_file-given.new.self c.args.file c.give_file-given.ensures.count (subst (λ n. c.args.file < n) (sym i.places) lacks.2)
-    c.args.gift c.give_file-given.result lacks.1 c.give_file-given.ensures.result c.give_file-given.ensures.others c.give_file-given.ensures.outlines
+    subst (λ n. OnOk c.give_file-given.result (c.args.gift ≢ gift_of.NoMemory → not_given c.give_file-given.new.self < n))
+    (ap (λ (d : Decoding). d.to_ask) c.self.view_is)
+    (result_less _ c.give_file-given.new.self c.args.file c.give_file-given.ensures.count (subst (λ n. c.args.file < n) (sym i.places) lacks.2)
+    c.args.gift c.give_file-given.result lacks.1 c.give_file-given.ensures.result c.give_file-given.ensures.others c.give_file-given.ensures.outlines)
 
 pub invariant_of-self : goal.invariant_of-self
 unfolding Fed

@@ -1,5 +1,7 @@
 use Rattle.std.proofs.Common.{◌≡◌, ◌<◌, sym, ap, ◌∙◌, subst}
+use Rattle.std.specs.Prelude.{OnOk}
 use Rattle.std.specs.Arc.{arc_value}
+use Rattle.page_decoder.specs.Resolving.{not_given}
 use Rattle.page_decoder.specs.PageFed.{Fed, IsFed, Decoding, with_known}
 use Rattle.page_decoder.proofs.Decoding.{GrowthLaws, outline_lacks}
 use Rattle.page_decoder.proofs.Gifting.{outlined_too, knows_outline, outline_gifted}
@@ -38,9 +40,9 @@ returns-clause-to_ask c =
     record { told = c.growth.ensures.told; unmet = c.growth.ensures.unmet; outline = c.needs.ensures.outline; file = c.needs.ensures.file } in
     let i = c.self.invariant in
     let lacks = outline_lacks laws _ i.given c.args.file (ap (λ (d : Decoding). d.stands) c.self.view_is ∙ c.requires) i.fed in
-    outline_less _ c.give_outline-given.new.self c.args.file c.give_outline-given.ensures.count (subst (λ n. c.args.file < n) (sym i.places) lacks.2)
-    (arc_value c.args.outline) c.give_outline-given.result lacks.1 c.give_outline-given.ensures.outline
-    c.give_outline-given.ensures.others c.give_outline-given.ensures.results
+    subst (λ n. OnOk c.give_outline-given.result (not_given c.give_outline-given.new.self < n)) (ap (λ (d : Decoding). d.to_ask) c.self.view_is)
+    (outline_less _ c.give_outline-given.new.self c.args.file c.give_outline-given.ensures.count (subst (λ n. c.args.file < n) (sym i.places) lacks.2)
+    (arc_value c.args.outline) c.give_outline-given.result lacks.1 c.give_outline-given.ensures.outline c.give_outline-given.ensures.others c.give_outline-given.ensures.results)
 
 pub invariant_of-self : goal.invariant_of-self
 unfolding Fed

@@ -42,7 +42,8 @@ returns-clause-to_ask c =
     let lacks = outline_lacks laws _ i.given c.args.file (ap (λ (d : Decoding). d.stands) c.self.view_is ∙ c.requires) i.fed in
     subst (λ n. OnOk c.give_outline-given.result (not_given c.give_outline-given.new.self < n)) (ap (λ (d : Decoding). d.to_ask) c.self.view_is)
     (outline_less _ c.give_outline-given.new.self c.args.file c.give_outline-given.ensures.count (subst (λ n. c.args.file < n) (sym i.places) lacks.2)
-    (arc_value c.args.outline) c.give_outline-given.result lacks.1 c.give_outline-given.ensures.outline c.give_outline-given.ensures.others c.give_outline-given.ensures.results)
+    (arc_value c.args.outline) c.give_outline-given.result lacks.1 c.give_outline-given.ensures.outline
+    c.give_outline-given.ensures.others c.give_outline-given.ensures.results)
 
 pub invariant_of-self : goal.invariant_of-self
 unfolding Fed

@@ -34,7 +34,7 @@ pub library_goes_on : (names : List (List ℕ)) (from : ℕ) (less more : ℕ �
 library_goes_on [] from less more prefix = tt
 library_goes_on (name ∷ names) from less more prefix = (
   file_goes_on name (less from) (more from) (prefix from (omega arith)),
-  library_goes_on names (suc from) less more (λ file inside. prefix file (omega (arith, inside)))
+  library_goes_on names (suc from) less more (λ file inside. prefix file (omega (arith, inside))),
 )
 
 pub names_are : (names : List (List ℕ)) (from : ℕ) (pieces : ℕ → List Piece) → names_in (library_from from names pieces) ≡ names

@@ -16,7 +16,8 @@ pub record Claims (Q : DecoderView → Type 0) (file spent : ℕ) : Type 0 where
   pub holds : Q pass
   pub is : spent_of pass file ≡ Some spent
 
-pub find_spent : (Q : DecoderView → Type 0) (passes : List DecoderView) (file spent : ℕ) → All Q passes → spent_in passes file ≡ Some spent → Claims Q file spent
+pub find_spent : (Q : DecoderView → Type 0) (passes : List DecoderView) (file spent : ℕ) → All Q passes → spent_in passes file ≡ Some spent
+    → Claims Q file spent
 find_spent Q [] file spent all e = absurd (let wrong : None ≡ Some spent = e in cc)
 find_spent Q (pass ∷ passes) file spent all e = by (spent_of pass file) refl e
   where

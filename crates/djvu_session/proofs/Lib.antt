@@ -12,3 +12,5 @@ mod Finding
 mod Summing
 mod Meeting
 mod Ending
+-- joined_passes_are_together
+mod Joining

@@ -1,9 +1,7 @@
 -- Passes whose seats are joined: what each of them published and told, over the library that goes on from what each has seen.
-use Rattle.std.proofs.Common.{◌≡◌, ◌≢◌, ◌≤◌, ◌<◌, ◌+◌, ◌^◌, ◌-◌, ℕ, zero, suc, min, true, false, Option, Some, None, List, [], ◌∷◌, length, ◌⊎◌, inl, inr, refl, sym, ap, ◌∙◌, subst, arith}
-use Rattle.std.specs.Prelude.{slice_get, slice_index_or, All}
-use Rattle.std.specs.List.{list_any}
+use Rattle.std.proofs.Common.{◌≡◌, ◌<◌, ◌^◌, ◌-◌, ℕ, min, Option, Some, None, List, length, refl, sym, ap, ◌∙◌, subst, arith}
+use Rattle.std.specs.Prelude.{All}
 use Rattle.std.proofs.lemmas.Grind.{common_steps}
-use Rattle.std.proofs.lemmas.Option.{slice_get-get_or}
 use Rattle.djvu_base.specs.Library.{Library}
 use Rattle.djvu_base.specs.Meter.{ticked, TicksExactly}
 use Rattle.jb2_records.specs.declared.results.FileResult.{FileResult}
@@ -15,10 +13,10 @@ use Rattle.page_decoder.specs.Given.{Page, Given, Within}
 use Rattle.page_decoder.specs.Read.{read}
 use Rattle.page_decoder.specs.Libraries.{given_in, LibraryGoesOn}
 use Rattle.page_decoder.specs.Needs.{Built}
-use Rattle.djvu_session.specs.Passes.{Setup, PageState, DecoderView, file_at, page_of, spent_of}
+use Rattle.djvu_session.specs.Passes.{Setup, PageState, DecoderView, file_at, spent_of}
 use Rattle.djvu_session.specs.Seen.{seen, result_at, results_known, given_of}
 use Rattle.djvu_session.specs.Pages.{IsTold}
-use Rattle.djvu_session.specs.Spent.{IsSpent, IsPublished, HasPublished, results_from}
+use Rattle.djvu_session.specs.Spent.{IsSpent, IsPublished, results_from}
 use Rattle.djvu_session.specs.Keeps.{DecoderKeeps}
 use Rattle.djvu_session.specs.Everyone.{state_in, spent_in}
 use Rattle.djvu_session.specs.Together.{KnowsResults, AreTogether}
@@ -46,7 +44,7 @@ results_on known pass knows file it e = by (result_at pass.shelf.hold file) refl
     by (Some found) is e = ap result_from (knows file found is) ∙ e
 
 -- how decodings and what was told stay, as laws have it
-pub abbrev SpentStays : Type 0
+abbrev pub SpentStays : Type 0
 SpentStays = (table : List Row) (library later : Library) (less more : ℕ → Option Result) (page file spent : ℕ) (result : FileResult) → IsTable table
     → LibraryGoesOn library later → ((other : ℕ) (it : Result) → less other ≡ Some it → more other ≡ Some it)
     → IsSpent table library less page file spent result → IsSpent table later more page file spent result
@@ -103,10 +101,10 @@ all_built stays setup library known passes all =
 
 -- ---- pages
 
-pub abbrev ToldStays : Type 0
+abbrev pub ToldStays : Type 0
 ToldStays = (less more : Given) (page : PageState) → IsTable less.home.table → Within less more → IsTold (read less) page → IsTold (read more) page
 
-pub abbrev FilesGoOn : Type 0
+abbrev pub FilesGoOn : Type 0
 FilesGoOn = (table : List Row) (library later : Library) (file : ℕ) (less more : ℕ → Option Result) → LibraryGoesOn library later
     → ((other : ℕ) (it : Result) → less other ≡ Some it → more other ≡ Some it)
     → Within (given_in Page table library file less) (given_in Page table later file more)

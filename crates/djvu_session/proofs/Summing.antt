@@ -51,7 +51,7 @@ span_items count (it ∷ its) (x ∷ xs) from f each long =
     let start : from ≡ from + 0 = omega arith in
     let here : f from ≡ count it = ap f start ∙ each 0 in
     let rest = span_items count its xs (suc from) f (λ k. let on : suc from + k ≡ from + suc k = omega arith in ap f on ∙ each (suc k))
-        (omega (arith, long)) in
+    (omega (arith, long)) in
     let more = sum_by-cons count it its in
     omega (arith, here, rest, more)
 
@@ -117,11 +117,11 @@ sums_add_up setup (pass ∷ passes) places alone once =
     let pages_both = span_both (λ k. decisions_of (state_in (pass ∷ passes) k)) (λ k. decisions_of (page_of pass k))
     (λ k. decisions_of (state_in passes k)) 0 setup.pages (λ k. page_parts pass passes k (alone k)) in
     let pages_own = span_items decisions_of pass.pages setup.pages 0 (λ k. decisions_of (page_of pass k))
-        (λ k. let same : 0 + k ≡ k = omega arith in ap (λ n. decisions_of (page_of pass n)) same) has.pages in
+    (λ k. let same : 0 + k ≡ k = omega arith in ap (λ n. decisions_of (page_of pass n)) same) has.pages in
     let files = span_files (pass ∷ passes) 0 setup.names in
     let files_rest = span_files passes 0 setup.names in
     let files_both = span_both (λ k. spent_on (spent_in (pass ∷ passes) k)) (λ k. spent_on (spent_of pass k))
     (λ k. spent_on (spent_in passes k)) 0 setup.names (λ k. file_parts pass passes k (once k)) in
     let files_own = span_items spent_on pass.spent setup.names 0 (λ k. spent_on (spent_of pass k))
-        (λ k. let same : 0 + k ≡ k = omega arith in ap (λ n. spent_on (spent_of pass n)) same) has.files in
+    (λ k. let same : 0 + k ≡ k = omega arith in ap (λ n. spent_on (spent_of pass n)) same) has.files in
     omega (arith, rest, sums, pages, pages_rest, pages_both, pages_own, files, files_rest, files_both, files_own)

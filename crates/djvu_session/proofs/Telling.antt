@@ -1,12 +1,11 @@
 -- What was told of a page stays true of readings that tell more.
-use Rattle.std.proofs.Common.{◌≡◌, ◌≤◌, ◌<◌, ℕ, suc, Option, Some, None, List, [], ◌∷◌, ◌++◌, length, ◌⊎◌, inl, inr, refl, sym, ap, ◌∙◌, subst, arith, append_assoc, length-append}
-use Rattle.std.specs.Prelude.{map, take}
+use Rattle.std.proofs.Common.{◌≡◌, ◌≤◌, ◌<◌, ℕ, suc, Option, Some, None, List, ◌++◌, length, ◌⊎◌, inl, inr, sym, ap, ◌∙◌, subst, arith}
+use Rattle.std.proofs.Common.{append_assoc, length-append}
+use Rattle.std.specs.Prelude.{take}
 use Rattle.std.proofs.lemmas.List.{take-append-le, length-map}
-use Rattle.djvu_base.specs.Announced.{Announced}
 use Rattle.djvu_base.specs.declared.faults.Fault.{Fault}
-use Rattle.layer_compose.specs.declared.layers.Layers.{Layers}
 use Rattle.page_decoder.specs.Given.{Front}
-use Rattle.page_decoder.specs.PageRead.{Drawing, Ending, notice_of, notices_of, PageRead}
+use Rattle.page_decoder.specs.PageRead.{Drawing, notice_of, notices_of, PageRead}
 use Rattle.page_decoder.specs.PageRead as reading
 use Rattle.page_decoder.specs.Needs.{Below}
 use Rattle.page_decoder.specs.Libraries.{run_end}

@@ -7,7 +7,8 @@ use Rattle.once_board.specs.declared.holds.Hold.{Hold}
 use Rattle.data_pool.specs.declared.pieces.Piece.{Piece}
 use Rattle.data_pool.specs.declared.pool.Append.{Append}
 use Rattle.data_pool.specs.Calls as pools
-use Rattle.djvu_session.specs.Passes.{Setup, SessionView, FeederView, PageState, DecoderView, ViewerView, SeatGoesOn, IsFeederOf, IsDecoderOf, IsViewerOf, read_of, page_of, spent_of, position_of}
+use Rattle.djvu_session.specs.Passes.{Setup, SessionView, FeederView, PageState, DecoderView, ViewerView, SeatGoesOn}
+use Rattle.djvu_session.specs.Passes.{IsFeederOf, IsDecoderOf, IsViewerOf, read_of, page_of, spent_of, position_of}
 use Rattle.djvu_session.specs.Pages.{untold}
 use Rattle.djvu_session.specs.Everyone.{IsAll}
 
@@ -69,7 +70,8 @@ pub record TellsViewer (from : DecoderView) (before after : ViewerView) : Type 0
   pub log : SeatGoesOn before.log.hold after.log.hold
   pub knows : Extends from.log.hold after.log.hold
   pub read : (page : ℕ) → (position_of after page).read ≡ (position_of before page).read
-  pub told : (page : ℕ) → page < length before.positions → (position_of after page).told ≡ max (position_of before page).told (used (count_of from.log.counts page))
+  pub told : (page : ℕ) → page < length before.positions
+      → (position_of after page).told ≡ max (position_of before page).told (used (count_of from.log.counts page))
 
 -- a decoder's pass is told of all pieces that a feeder's pass put, and of their ends. It has read none of them yet
 pub record Briefs (from : FeederView) (before after : DecoderView) : Type 0 where

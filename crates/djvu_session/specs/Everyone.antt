@@ -2,7 +2,8 @@
 use Rattle.std.specs.Prelude.{ℕ, suc, ◌≡◌, ◌+◌, ◌<◌, List, [], ◌∷◌, All, Option, Some, None, ◌^◌, ◌-◌, slice_get}
 use Rattle.once_board.specs.Numbers.{times, total}
 use Rattle.replay_core.specs.Counts.{PageCount, Counts}
-use Rattle.djvu_session.specs.Passes.{Setup, SessionView, FeederView, PageState, DecoderView, ViewerView, IsFeederOf, IsDecoderOf, IsViewerOf, page_of, spent_of}
+use Rattle.djvu_session.specs.Passes.{Setup, SessionView, FeederView, PageState, DecoderView, ViewerView}
+use Rattle.djvu_session.specs.Passes.{IsFeederOf, IsDecoderOf, IsViewerOf, page_of, spent_of}
 use Rattle.djvu_session.specs.Pages.{HasEnded}
 use Rattle.djvu_session.specs.Spent.{decisions_of}
 
@@ -50,7 +51,8 @@ counts_in setup passes = record { pages = page_counts passes 0 setup.pages; file
 
 -- every page ended, and none for want of memory
 abbrev pub AllEnded : Setup → List DecoderView → Type 0
-AllEnded setup passes = (page file : ℕ) → slice_get setup.pages page ≡ Some file → (state : PageState) × (state_in passes page ≡ Some state) × HasEnded state.end
+AllEnded setup passes = (page file : ℕ) → slice_get setup.pages page ≡ Some file
+    → (state : PageState) × (state_in passes page ≡ Some state) × HasEnded state.end
 
 -- no count of decisions stands at its type's end
 pub record CountsGoOn (passes : List DecoderView) : Type 0 where

@@ -5,6 +5,9 @@ ghost use Rattle.djvu_base.specs.Library.{Open, Whole, Broken, Library};
 ghost use Rattle.djvu_base.specs.Meter.{TicksExactly};
 ghost use Rattle.jb2_records.specs.declared.results.FileResult.{FileResult};
 ghost use Rattle.jb2_records.specs.declared.results.FileResult.TheVariants.{NoMemory};
+ghost use Rattle.once_board.specs.declared.holds.Hold.{Hold};
+ghost use Rattle.once_board.specs.Gathered.{Gathered, GatheredTwice};
+ghost use Rattle.once_board.specs.Holds.{ClaimsAll, IsLawful, IsOnce};
 ghost use Rattle.once_board.specs.Numbers.{times, total};
 ghost use Rattle.once_board.specs.Rows.{IsPrefix};
 ghost use Rattle.data_pool.specs.declared.pieces.Piece.{Piece};
@@ -21,13 +24,13 @@ ghost use Rattle.page_decoder.specs.Libraries.{names_in, given_in, res_of, run, 
 ghost use Rattle.page_decoder.specs.Needs.{Built};
 ghost use Rattle.djvu_session.specs.Arrived.{file_of, library_by};
 ghost use Rattle.replay_core.specs.Counts.{counted, CountsWithin, CountsAll};
-ghost use Rattle.djvu_session.specs.Passes.{Setup, SessionView, FeederView, PageState, DecoderView, IsFeederOf, file_at};
-ghost use Rattle.djvu_session.specs.Seen.{fed_pieces};
-ghost use Rattle.djvu_session.specs.Keeps.{FeederKeeps};
+ghost use Rattle.djvu_session.specs.Passes.{Setup, SessionView, FeederView, PageState, DecoderView, ViewerView, IsFeederOf, IsSession, file_at};
+ghost use Rattle.djvu_session.specs.Seen.{fed_pieces, held, result_at};
+ghost use Rattle.djvu_session.specs.Keeps.{FeederKeeps, DecoderKeeps};
 ghost use Rattle.djvu_session.specs.Looks.{last_notice, has_end};
 ghost use Rattle.djvu_session.specs.Pages.{IsTold, entries_of};
 ghost use Rattle.djvu_session.specs.Spent.{IsSpent, IsPublished, results_from, sum_of};
-ghost use Rattle.djvu_session.specs.Everyone.{state_in, counts_in, AllEnded, CountsGoOn};
+ghost use Rattle.djvu_session.specs.Everyone.{IsAll, state_in, counts_in, AllEnded, CountsGoOn};
 ghost use Rattle.djvu_session.specs.Together.{AreTogether};
 
 /// Files of whose pieces one has a prefix of another's go on to that one, and so do libraries.
@@ -43,7 +46,7 @@ pub fn held_is_the_owners()
     ensures { (session : SessionView) (feeders : List FeederView) (owner file : ℕ) (pass : FeederView) → All FeederKeeps feeders
         → All (IsFeederOf session) feeders → file < session.pool.files
         → total (λ (f : FeederView). times (file % session.pool.feeders) f.pool.hold.rights) feeders ≡ 1 → slice_get feeders owner ≡ Some pass
-        → pass.number ≡ file % session.pool.feeders → fed_pieces feeders file ≡ put_pieces pass.pool file }
+        → 1 ≤ times (file % session.pool.feeders) pass.pool.hold.rights → fed_pieces feeders file ≡ put_pieces pass.pool file }
 {}
 
 /// What was told of a page stays true when more of the page is given, and where its file's bytes, their end and what is known of
@@ -108,6 +111,20 @@ pub fn passes_tell_the_library()
     told_stays();
     spent_stays();
     published_files_are_the_librarys();
+}
+
+/// Once all seats of the pool and of the shelf are joined, so that the shelf's have all parts, what `passes_tell_the_library` wants is
+/// known of the decoders' passes: the library is what the feeders hold, and the results are those that the joined seat knows.
+pub fn joined_passes_are_together()
+    ensures { (session : SessionView) (feeders : List FeederView) (decoders : List DecoderView) (viewers : List ViewerView) (pool : Hold Piece)
+        (shelf : Hold FileResult) → IsSession session → IsAll session feeders decoders viewers → All FeederKeeps feeders → All DecoderKeeps decoders
+        → GatheredTwice (λ (f : FeederView). f.pool.hold) (λ (d : DecoderView). d.pool.hold) session.pool.board.owners session.kept.pool.hold feeders
+        decoders pool → IsLawful pool
+        → Gathered (λ (d : DecoderView). d.shelf.hold) session.shelf.owners session.kept.shelf.hold decoders shelf
+        → IsLawful shelf → IsOnce shelf → ClaimsAll shelf
+        → AreTogether session.setup (held session.setup.names feeders) (result_at shelf) decoders }
+{
+    data_pool::laws::reads_are_prefixes();
 }
 
 /// Files of pieces: with an end, broken off, and without one.

@@ -1,6 +1,6 @@
 -- Files and libraries by their pieces: more pieces go on.
 use Rattle.std.proofs.Common.{◌≡◌, ◌<◌, ◌+◌, ℕ, suc, List, [], ◌∷◌, ◌++◌, length, ◌⊎◌, inl, inr, refl, sym, ap, ◌∙◌, append_assoc, subst, arith}
-use Rattle.djvu_base.specs.Library.{Mark, Open}
+use Rattle.djvu_base.specs.Library.{Open}
 use Rattle.once_board.specs.Rows.{IsPrefix}
 use Rattle.data_pool.specs.declared.pieces.Piece.{Piece}
 use Rattle.data_pool.specs.declared.pieces.Piece.TheVariants as piece
@@ -12,11 +12,11 @@ abbrev BytesGoOn : List Piece → List Piece → Type 0
 BytesGoOn xs ys = ((mark_of xs ≡ Open) × Front (bytes_of xs) (bytes_of ys)) ⊎ ((bytes_of xs ≡ bytes_of ys) × (mark_of xs ≡ mark_of ys))
 
 with_bytes : (bytes : List ℕ) (xs ys : List Piece) → BytesGoOn xs ys → BytesGoOn (piece.Bytes bytes ∷ xs) (piece.Bytes bytes ∷ ys)
-with_bytes bytes xs ys (inl more) = inl (more.0, more.1.0, ap (λ l. bytes ++ l) more.1.1 ∙ sym (append_assoc bytes (bytes_of xs) more.1.0))
+with_bytes bytes xs ys (inl more) = inl (more.0, (more.1.0, ap (λ l. bytes ++ l) more.1.1 ∙ sym (append_assoc bytes (bytes_of xs) more.1.0)))
 with_bytes bytes xs ys (inr same) = inr (ap (λ l. bytes ++ l) same.0, same.1)
 
 bytes_go_on : (xs rest : List Piece) → BytesGoOn xs (xs ++ rest)
-bytes_go_on [] rest = inl (refl, bytes_of rest, refl)
+bytes_go_on [] rest = inl (refl, (bytes_of rest, refl))
 bytes_go_on (piece.Bytes bytes ∷ xs) rest = with_bytes bytes xs (xs ++ rest) (bytes_go_on xs rest)
 bytes_go_on (piece.End ∷ xs) rest = inr (refl, refl)
 bytes_go_on (piece.Broken ∷ xs) rest = inr (refl, refl)

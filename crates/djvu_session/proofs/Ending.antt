@@ -1,19 +1,18 @@
 -- Pages that ended, and all that their readings reached.
-use Rattle.std.proofs.Common.{◌≡◌, ◌≢◌, ◌<◌, ◌^◌, ◌-◌, ℕ, min, true, Option, Some, None, List, length, ◌⊎◌, inl, inr, refl, sym, ap, ◌∙◌, subst}
-use Rattle.djvu_base.specs.Library.{Library}
-use Rattle.djvu_base.specs.Meter.{ticked, TicksExactly}
+use Rattle.std.proofs.Common.{◌≡◌, ◌≢◌, ℕ, true, Option, Some, None, ◌⊎◌, inl, inr, refl, sym, ◌∙◌, subst}
+use Rattle.djvu_base.specs.Meter.{TicksExactly}
 use Rattle.djvu_base.specs.declared.faults.Fault.{Fault}
 use Rattle.jb2_records.specs.declared.results.FileResult.{FileResult}
 use Rattle.jb2_records.specs.declared.results.FileResult.TheVariants as gift
 use Rattle.include_graph.specs.Verdicts.{is_among}
 use Rattle.page_decoder.specs.Results.{Result}
-use Rattle.page_decoder.specs.Resolving.{result_in, result_from}
+use Rattle.page_decoder.specs.Resolving.{result_from}
 use Rattle.page_decoder.specs.PageRead.{NeedFile, PageRead}
 use Rattle.page_decoder.specs.PageRead as reading
 use Rattle.port_log.specs.declared.entries.PageEnd.{PageEnd}
 use Rattle.port_log.specs.declared.entries.PageEnd.TheVariants as page_end
 use Rattle.djvu_session.specs.Passes.{PageState}
-use Rattle.djvu_session.specs.Pages.{EndsAs, EndsSo, HasEnded}
+use Rattle.djvu_session.specs.Pages.{EndsSo, HasEnded}
 use Rattle.djvu_session.specs.Spent.{results_from}
 use Rattle.djvu_session.proofs.Spending.{memory_for}
 

@@ -19,11 +19,12 @@ pub record Claims (Q : DecoderView → Type 0) (file spent : ℕ) : Type 0 where
 pub find_spent : (Q : DecoderView → Type 0) (passes : List DecoderView) (file spent : ℕ) → All Q passes → spent_in passes file ≡ Some spent
     → Claims Q file spent
 find_spent Q [] file spent all e = absurd (let wrong : None ≡ Some spent = e in cc)
-find_spent Q (pass ∷ passes) file spent all e = by (spent_of pass file) refl e
+find_spent Q (pass ∷ passes) file spent all e = by (spent_of pass file) refl e (find_spent Q passes file spent (All-tail Q pass passes all))
   where
-    by : (own : Option ℕ) → spent_of pass file ≡ own → or_else own (spent_in passes file) ≡ Some spent → Claims Q file spent
-    by None is later = find_spent Q passes file spent (All-tail Q pass passes all) later
-    by (Some n) is now = record { pass = pass; holds = All-head Q pass passes all; is = is ∙ now }
+    by : (own : Option ℕ) → spent_of pass file ≡ own → or_else own (spent_in passes file) ≡ Some spent
+        → (spent_in passes file ≡ Some spent → Claims Q file spent) → Claims Q file spent
+    by None is later rest = rest later
+    by (Some n) is now rest = record { pass = pass; holds = All-head Q pass passes all; is = is ∙ now }
 
 pub record Owns (Q : DecoderView → Type 0) (page : ℕ) (state : PageState) : Type 0 where
   pub pass : DecoderView
@@ -33,22 +34,24 @@ pub record Owns (Q : DecoderView → Type 0) (page : ℕ) (state : PageState) : 
 pub find_state : (Q : DecoderView → Type 0) (passes : List DecoderView) (page : ℕ) (state : PageState) → All Q passes → state_in passes page ≡ Some state
     → Owns Q page state
 find_state Q [] page state all e = absurd (let wrong : None ≡ Some state = e in cc)
-find_state Q (pass ∷ passes) page state all e = by (page_of pass page) refl e
+find_state Q (pass ∷ passes) page state all e = by (page_of pass page) refl e (find_state Q passes page state (All-tail Q pass passes all))
   where
-    by : (own : Option PageState) → page_of pass page ≡ own → or_else own (state_in passes page) ≡ Some state → Owns Q page state
-    by None is later = find_state Q passes page state (All-tail Q pass passes all) later
-    by (Some it) is now = record { pass = pass; holds = All-head Q pass passes all; is = is ∙ now }
+    by : (own : Option PageState) → page_of pass page ≡ own → or_else own (state_in passes page) ≡ Some state
+        → (state_in passes page ≡ Some state → Owns Q page state) → Owns Q page state
+    by None is later rest = rest later
+    by (Some it) is now rest = record { pass = pass; holds = All-head Q pass passes all; is = is ∙ now }
 
 -- where one of them claimed the file, so many decisions were read
 pub some_spent : (passes : List DecoderView) (file : ℕ) → total (λ pass. one_if (spent_of pass file)) passes ≡ 1
     → (spent : ℕ) × (spent_in passes file ≡ Some spent)
 some_spent [] file e = absurd (omega (arith, e))
-some_spent (pass ∷ passes) file e = by (spent_of pass file) e
+some_spent (pass ∷ passes) file e = by (spent_of pass file) e (some_spent passes file)
   where
     by : (own : Option ℕ) → one_if own + total (λ pass. one_if (spent_of pass file)) passes ≡ 1
+        → (total (λ pass. one_if (spent_of pass file)) passes ≡ 1 → (spent : ℕ) × (spent_in passes file ≡ Some spent))
         → (spent : ℕ) × (or_else own (spent_in passes file) ≡ Some spent)
-    by None e = some_spent passes file (omega (arith, e))
-    by (Some n) e = (n, refl)
+    by None e rest = rest (omega (arith, e))
+    by (Some n) e rest = (n, refl)
 
 -- ---- counts of pages and of files, by their numbers
 

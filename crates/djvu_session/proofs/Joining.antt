@@ -1,14 +1,13 @@
 -- Seats that are joined, and what is known then of the passes whose they were.
-use Rattle.std.proofs.Common.{◌≡◌, ◌≤◌, ◌<◌, ◌+◌, ℕ, zero, suc, true, cond, eqb, Option, Some, None, List, [], ◌∷◌, length, refl, sym, ap, ◌∙◌, subst, arith}
-use Rattle.std.proofs.Common.{mod-lt}
+use Rattle.std.proofs.Common.{◌≡◌, ◌≤◌, ◌<◌, ℕ, zero, suc, true, cond, eqb, Option, Some, None, List, [], ◌∷◌, length, refl, sym, ap, ◌∙◌, subst, arith}
+use Rattle.std.proofs.Common.{mod-lt, eq-eqb}
 use Rattle.std.specs.Prelude.{slice_get, ◌%◌, All}
 use Rattle.std.proofs.lemmas.List.{length-map}
 use Rattle.std.proofs.lemmas.List.Elements.{All-head, All-tail}
-use Rattle.djvu_base.specs.Library.{File, Library}
+use Rattle.djvu_base.specs.Library.{File}
 use Rattle.jb2_records.specs.declared.results.FileResult.{FileResult}
 use Rattle.once_board.specs.declared.holds.Hold.{Hold}
-use Rattle.once_board.specs.Holds.{ClaimsAll, IsLawful, IsOnce}
-use Rattle.once_board.specs.Gathered.{Gathered, GatheredTwice}
+use Rattle.once_board.specs.Gathered.{Gathered}
 use Rattle.once_board.specs.Numbers.{times, total}
 use Rattle.once_board.specs.Rows.{IsPrefix}
 use Rattle.data_pool.specs.declared.pieces.Piece.{Piece}
@@ -17,10 +16,10 @@ use Rattle.once_board.specs.Holds.{Extends}
 use Rattle.page_decoder.specs.Libraries.{LibraryGoesOn}
 use Rattle.djvu_session.specs.Arrived.{library_by}
 use Rattle.djvu_session.specs.Passes.{Setup, SessionView, FeederView, PageState, DecoderView, IsFeederOf, IsDecoderOf, IsSession, read_of, page_of, spent_of}
-use Rattle.djvu_session.specs.Seen.{pieces_read, seen, result_at, fed_pieces, held}
+use Rattle.djvu_session.specs.Seen.{pieces_read, seen, fed_pieces, held}
 use Rattle.djvu_session.specs.Spent.{one_if}
 use Rattle.djvu_session.specs.Keeps.{FeederKeeps, DecoderKeeps}
-use Rattle.djvu_session.specs.Together.{one_page, AreTogether}
+use Rattle.djvu_session.specs.Together.{one_page}
 use Rattle.djvu_session.proofs.Arriving.{library_goes_on, names_are}
 use Rattle.djvu_session.proofs.Feeding.{owners_pieces}
 
@@ -56,11 +55,14 @@ later_one Q first feeders right it = record { owner = suc it.owner; pass = it.pa
 some_feeder : (Q : FeederView → Type 0) (feeders : List FeederView) (right : ℕ) → All Q feeders
     → 1 ≤ total (λ (f : FeederView). times right f.pool.hold.rights) feeders → HasRight Q feeders right
 some_feeder Q [] right all some = absurd (omega (arith, some))
-some_feeder Q (first ∷ feeders) right all some = by (times right first.pool.hold.rights) refl
+some_feeder Q (first ∷ feeders) right all some =
+    by (times right first.pool.hold.rights) refl (λ more. later_one Q first feeders right (some_feeder Q feeders right (All-tail Q first feeders all) more))
   where
-    by : (n : ℕ) → times right first.pool.hold.rights ≡ n → HasRight Q (first ∷ feeders) right
-    by zero none = later_one Q first feeders right (some_feeder Q feeders right (All-tail Q first feeders all) (omega (arith, some, none)))
-    by (suc n) one = record { owner = zero; pass = first; is = refl; right_so = omega (arith, one); holds = All-head Q first feeders all }
+    by : (n : ℕ) → times right first.pool.hold.rights ≡ n
+        → (1 ≤ total (λ (f : FeederView). times right f.pool.hold.rights) feeders → HasRight Q (first ∷ feeders) right)
+        → HasRight Q (first ∷ feeders) right
+    by zero none rest = rest (omega (arith, some, none))
+    by (suc n) one rest = record { owner = zero; pass = first; is = refl; right_so = omega (arith, one); holds = All-head Q first feeders all }
 
 -- ---- what passes have seen
 
@@ -95,7 +97,7 @@ seen_goes_on reads session pool feeders reader is fed keeps are one of kept exte
     (λ file inside.
     let files = is.pool.1 in
     piece_prefix reads session pool feeders reader file is fed keeps are (omega (arith, inside, files))
-    (one (file % session.pool.feeders) (mod-lt file session.pool.feeders is.pool.0.laid.shared)) of kept extends))
+    (one (file % session.pool.feeders) (mod-lt file is.pool.0.laid.shared)) of kept extends))
 
 pub long_held : (names : List (List ℕ)) (feeders : List FeederView) → length (held names feeders) ≡ length names
 long_held names feeders =
@@ -115,10 +117,6 @@ claims_are session shelf decoders file is keeps all =
 
 -- ---- own pages
 
-eqb_same : (n : ℕ) → eqb n n ≡ true
-eqb_same zero = refl
-eqb_same (suc n) = eqb_same n
-
 one_owner : (session : SessionView) (pass : DecoderView) (page : ℕ) → IsDecoderOf session pass → DecoderKeeps pass
     → one_page (page_of pass page) ≤ times (page % session.log.workers) pass.log.hold.rights
 one_owner session pass page of kept = by (page_of pass page) refl
@@ -129,7 +127,7 @@ one_owner session pass page of kept = by (page_of pass page) refl
         let mine = subst (λ n. page % n ≡ pass.number) of.log.same_rights (kept.pages page state e).own in
         let right = of.right (page % session.log.workers) in
         let yes : eqb (page % session.log.workers) pass.number ≡ true = subst (λ n. eqb (page % session.log.workers) n ≡ true) mine
-        (eqb_same (page % session.log.workers)) in
+        (eq-eqb (page % session.log.workers) (page % session.log.workers) refl) in
         let has = right ∙ ap (λ b. cond b 1 0) yes in
         omega (arith, has)
 
@@ -140,5 +138,5 @@ pub one_page_each : (session : SessionView) (decoders : List DecoderView) (page 
 one_page_each session decoders page is are keeps one =
     let most = total_most (λ pass. one_page (page_of pass page)) (λ (d : DecoderView). times (page % session.log.workers) d.log.hold.rights) decoders
     (λ k d inside. one_owner session _ page (are k d inside) (keeps k d inside)) in
-    let sum = one (page % session.log.workers) (mod-lt page session.log.workers is.log.0.laid.shared) in
+    let sum = one (page % session.log.workers) (mod-lt page is.log.0.laid.shared) in
     omega (arith, most, sum)

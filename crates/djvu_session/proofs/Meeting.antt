@@ -64,7 +64,7 @@ found_by stays setup library known pass file spent is it e =
     let by_pass = stays pass.setup.table (seen pass) library (results_known pass.shelf.hold) (results_from known) (file_at pass.setup kept.page) file spent
     kept.published.result (subst (λ (s : Setup). IsTable s.table) (sym it.same) is) it.seen (results_on known pass it.knows) kept.published.is_spent in
     let own = state_inside pass.pages kept.page kept.state kept.own in
-    let many = it.keeps.many.1.0 in
+    let many = it.keeps.many.1 in
     let same = ap (λ (s : Setup). length s.pages) it.same in
     record {
       page = kept.page;

@@ -11,12 +11,12 @@ use Rattle.include_graph.specs.declared.outline.OutlineItem.{OutlineItem}
 use Rattle.include_graph.specs.declared.outline.OutlineItem.TheVariants as item
 use Rattle.include_graph.specs.Outlines.{outline_of}
 use Rattle.include_graph.specs.Verdicts.{Graph, is_among}
-use Rattle.include_graph.specs.Graphs.{IncludesAmong, IsServed, InOrder, Includes}
+use Rattle.include_graph.specs.Graphs.{IncludesAmong, IsServed, InOrder}
 use Rattle.zp_table.specs.declared.rows.Row.{Row}
 use Rattle.page_decoder.specs.Results.{Result}
 use Rattle.page_decoder.specs.Resolving.{result_in, result_from}
 use Rattle.page_decoder.specs.Given.{Included}
-use Rattle.page_decoder.specs.Read.{FileDone, decode}
+use Rattle.page_decoder.specs.Read.{FileDone}
 use Rattle.page_decoder.specs.Libraries.{outline_in_file, bytes_in, mark_in, graph_of, given_in}
 use Rattle.page_decoder.specs.Needs.{HasNoFault, IncludesFile, IsMade, IsOutlined, IsBuilt, Built}
 use Rattle.djvu_session.specs.Spent.{decoded, IsSpent, IsPublished, results_from}
@@ -79,7 +79,7 @@ spent_on_too table library later less more page file spent result same made it =
 }
 
 -- a result that is known isn't a want of memory
-memory_for : (found : FileResult) (result : Result) → result_in found ≡ Some result → found ≢ gift.NoMemory
+pub memory_for : (found : FileResult) (result : Result) → result_in found ≡ Some result → found ≢ gift.NoMemory
 memory_for found result e none = absurd (let wrong : None ≡ Some result = ap result_in (sym none) ∙ e in cc)
 
 built_by : (table : List Row) (library : Library) (known : ℕ → Option FileResult) (file : ℕ) (found : FileResult) (result : Result)

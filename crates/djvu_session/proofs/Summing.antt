@@ -1,5 +1,5 @@
 -- The sums of passes are those of their pages and of the files that they claimed.
-use Rattle.std.proofs.Common.{◌≡◌, ◌≤◌, ℕ, zero, suc, ◌+◌, Option, Some, None, List, [], ◌∷◌, length, refl, sym, ap, ◌∙◌, subst, arith}
+use Rattle.std.proofs.Common.{◌≡◌, ◌≤◌, ℕ, suc, ◌+◌, Option, Some, None, List, [], ◌∷◌, length, refl, ap, ◌∙◌, arith}
 use Rattle.std.specs.Prelude.{slice_get, sum_by, All}
 use Rattle.std.proofs.lemmas.List.Sums.{sum_by-cons}
 use Rattle.std.proofs.lemmas.List.Elements.{All-head, All-tail}
@@ -59,19 +59,21 @@ span_items count (it ∷ its) (x ∷ xs) from f each long =
 
 no_state : (passes : List DecoderView) (page : ℕ) → total (λ pass. one_page (page_of pass page)) passes ≡ 0 → state_in passes page ≡ None
 no_state [] page e = refl
-no_state (pass ∷ passes) page e = by (page_of pass page) e
+no_state (pass ∷ passes) page e = by (page_of pass page) e (no_state passes page)
   where
-    by : (own : Option PageState) → one_page own + total (λ pass. one_page (page_of pass page)) passes ≡ 0 → or_else own (state_in passes page) ≡ None
-    by None e = no_state passes page (omega (arith, e))
-    by (Some state) e = absurd (omega (arith, e))
+    by : (own : Option PageState) → one_page own + total (λ pass. one_page (page_of pass page)) passes ≡ 0
+        → (total (λ pass. one_page (page_of pass page)) passes ≡ 0 → state_in passes page ≡ None) → or_else own (state_in passes page) ≡ None
+    by None e rest = rest (omega (arith, e))
+    by (Some state) e rest = absurd (omega (arith, e))
 
 no_spent : (passes : List DecoderView) (file : ℕ) → total (λ pass. one_if (spent_of pass file)) passes ≡ 0 → spent_in passes file ≡ None
 no_spent [] file e = refl
-no_spent (pass ∷ passes) file e = by (spent_of pass file) e
+no_spent (pass ∷ passes) file e = by (spent_of pass file) e (no_spent passes file)
   where
-    by : (own : Option ℕ) → one_if own + total (λ pass. one_if (spent_of pass file)) passes ≡ 0 → or_else own (spent_in passes file) ≡ None
-    by None e = no_spent passes file (omega (arith, e))
-    by (Some spent) e = absurd (omega (arith, e))
+    by : (own : Option ℕ) → one_if own + total (λ pass. one_if (spent_of pass file)) passes ≡ 0
+        → (total (λ pass. one_if (spent_of pass file)) passes ≡ 0 → spent_in passes file ≡ None) → or_else own (spent_in passes file) ≡ None
+    by None e rest = rest (omega (arith, e))
+    by (Some spent) e rest = absurd (omega (arith, e))
 
 page_parts : (pass : DecoderView) (passes : List DecoderView) (page : ℕ) → total (λ p. one_page (page_of p page)) (pass ∷ passes) ≤ 1
     → decisions_of (state_in (pass ∷ passes) page) ≡ decisions_of (page_of pass page) + decisions_of (state_in passes page)

@@ -1,5 +1,5 @@
 -- What the other calls of a session make of passes.
-use Rattle.std.specs.Prelude.{ℕ, ◌≡◌, ◌<◌, max, Bool, true, List, [], length, Option, Some, None, slice_get}
+use Rattle.std.specs.Prelude.{ℕ, ◌≡◌, ◌<◌, max, Bool, true, List, [], length, Some, None, slice_get}
 use Rattle.once_board.specs.Filled.{count_of, used}
 use Rattle.once_board.specs.Holds.{Extends}
 use Rattle.once_board.specs.Places.{unknown, record_of}

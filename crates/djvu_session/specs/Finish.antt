@@ -1,11 +1,8 @@
 -- What `finish` answers once all passes are joined, and what holds of the passes then.
-use Rattle.std.specs.Prelude.{ℕ, ◌≡◌, ◌≢◌, ◌≤◌, List, length, map, Option, Some, Contains, All, slice_get, sum_by}
+use Rattle.std.specs.Prelude.{ℕ, ◌≡◌, ◌≤◌, List, length, Some, All, slice_get, sum_by}
 use Rattle.djvu_base.specs.Library.{Library}
-use Rattle.jb2_records.specs.declared.results.FileResult.{FileResult}
 use Rattle.once_board.specs.declared.holds.Hold.{Hold}
 use Rattle.once_board.specs.Holds.{Agrees}
-use Rattle.data_pool.specs.declared.pieces.Piece.{Piece}
-use Rattle.port_log.specs.declared.entries.Entry.{Entry}
 use Rattle.page_decoder.specs.Given.{Front}
 use Rattle.page_decoder.specs.Libraries.{run, LibraryGoesOn}
 use Rattle.replay_core.specs.Counts.{counted, CountsWithin, CountsAll}
@@ -14,7 +11,7 @@ use Rattle.djvu_session.specs.Passes.{SessionView, FeederView, PageState, Decode
 use Rattle.djvu_session.specs.Seen.{seen, held}
 use Rattle.djvu_session.specs.Pages.{entries_of, IsTold}
 use Rattle.djvu_session.specs.Spent.{sum_of}
-use Rattle.djvu_session.specs.Everyone.{state_in, spent_in, counts_in, AllEnded, CountsGoOn}
+use Rattle.djvu_session.specs.Everyone.{state_in, counts_in, AllEnded, CountsGoOn}
 use Rattle.djvu_session.specs.Looks.{entries_read}
 
 abbrev pub answer_of : PageState → PageAnswer
@@ -32,7 +29,7 @@ pub record Agree (feeders : List FeederView) (decoders : List DecoderView) (view
   pub shelf : AllAgree (λ (d : DecoderView). d.shelf.hold) (λ (e : DecoderView). e.shelf.hold) decoders decoders
   pub log : AllAgree (λ (d : DecoderView). d.log.hold) (λ (e : DecoderView). e.log.hold) decoders decoders
   pub seen : AllAgree (λ (v : ViewerView). v.log.hold) (λ (d : DecoderView). d.log.hold) viewers decoders
-  pub viewers : AllAgree (λ (v : ViewerView). v.log.hold) (λ (w : ViewerView). w.log.hold) viewers viewers
+  pub looked : AllAgree (λ (v : ViewerView). v.log.hold) (λ (w : ViewerView). w.log.hold) viewers viewers
 
 -- one page: it is told, answered and looked at as it is in the folder that the feeders hold
 pub record FinishesPage (session : SessionView) (library : Library) (viewers : List ViewerView) (page : ℕ) (state : PageState)

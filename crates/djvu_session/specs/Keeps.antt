@@ -1,5 +1,5 @@
 -- What holds of each pass between calls.
-use Rattle.std.specs.Prelude.{ℕ, ◌≡◌, ◌≤◌, ◌<◌, ◌%◌, List, length, Option, Some}
+use Rattle.std.specs.Prelude.{ℕ, ◌≡◌, ◌≤◌, ◌<◌, ◌%◌, length, Some}
 use Rattle.once_board.specs.Filled.{EndsByLast}
 use Rattle.once_board.specs.Numbers.{times}
 use Rattle.once_board.specs.Told.{IsSound}

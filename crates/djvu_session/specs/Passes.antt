@@ -1,5 +1,5 @@
 -- What contracts see of a session and of its passes, and which passes are a session's.
-use Rattle.std.specs.Prelude.{◌≡◌, ◌≢◌, ℕ, ◌≤◌, ◌<◌, ◌==◌, if◌then◌else◌, List, length, Option, Some, None, slice_get, slice_index_or}
+use Rattle.std.specs.Prelude.{◌≡◌, ℕ, ◌≤◌, ◌<◌, ◌==◌, if◌then◌else◌, List, length, Option, Some, None, slice_get, slice_index_or}
 use Rattle.djvu_base.specs.Announced.{Announced}
 use Rattle.djvu_base.specs.Name.{IsAscending}
 use Rattle.zp_table.specs.declared.rows.Row.{Row}

@@ -12,7 +12,7 @@ use Rattle.page_decoder.specs.Read.{FileDone, decode}
 use Rattle.page_decoder.specs.Libraries.{given_in}
 use Rattle.page_decoder.specs.Needs.{IsMade}
 use Rattle.replay_core.specs.Counts.{spent_on}
-use Rattle.djvu_session.specs.Passes.{PageState, DecoderView, file_at, page_of}
+use Rattle.djvu_session.specs.Passes.{PageState, DecoderView, file_at}
 use Rattle.djvu_session.specs.Seen.{seen, results_known, result_at}
 
 -- the decoding of a file of a library as an included one, over these results

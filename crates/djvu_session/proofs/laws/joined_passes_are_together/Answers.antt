@@ -1,4 +1,4 @@
-use Rattle.std.proofs.Common.{◌≡◌, ◌≤◌, arith, ◌∙◌, sym}
+use Rattle.std.proofs.Common.{arith, ◌∙◌, sym}
 use Rattle.djvu_session.proofs.Joining.{seen_goes_on, long_held, claims_are, one_page_each}
 use Rattle.djvu_session.proofs.laws.joined_passes_are_together.Goals as goal
 

@@ -1,14 +1,13 @@
-use Rattle.std.proofs.Common.{◌≡◌, ◌≤◌, ℕ, true, Option, Some, None, List, length, refl, sym, ap, ◌∙◌, subst, arith}
+use Rattle.std.proofs.Common.{◌≡◌, ◌≤◌, ℕ, true, Option, Some, None, length, refl, sym, ap, ◌∙◌, subst, arith}
 use Rattle.std.specs.List.{list_any}
 use Rattle.std.proofs.lemmas.List.Folds.{Any-from_list_any, list_any_at}
 use Rattle.std.proofs.lemmas.Option.{slice_get-get_or, get_or_from_slice_get}
 use Rattle.page_decoder.specs.Given.{Page}
 use Rattle.page_decoder.specs.Read.{read}
 use Rattle.page_decoder.specs.Libraries.{given_in, run_given, run, res_of, is_reached}
-use Rattle.replay_core.specs.Counts.{files_of}
-use Rattle.djvu_session.specs.Passes.{Setup, PageState, DecoderView, file_at}
+use Rattle.djvu_session.specs.Passes.{Setup, PageState, file_at}
 use Rattle.djvu_session.specs.Spent.{decisions_of, results_from}
-use Rattle.djvu_session.specs.Everyone.{state_in, spent_in, page_counts}
+use Rattle.djvu_session.specs.Everyone.{state_in}
 use Rattle.djvu_session.proofs.Finding.{first_page_at, first_file_at, files_are, length_counts, some_spent}
 use Rattle.djvu_session.proofs.Summing.{sums_add_up}
 use Rattle.djvu_session.proofs.Meeting.{found, all_built, page_told, not_at_end}
@@ -55,8 +54,8 @@ returns-clause-sums c setup library known passes all =
     let many = (all.keeps k d inside).many in
     let same = all.same k d inside in
     record {
-      pages = many.1.0 ∙ ap (λ (s : Setup). length s.pages) same;
-      files = many.1.1 ∙ ap (λ (s : Setup). length s.names) same;
+      pages = many.1 ∙ ap (λ (s : Setup). length s.pages) same;
+      files = many.2 ∙ ap (λ (s : Setup). length s.names) same;
     }) all.alone all.once
 
 pub returns-clause-all : goal.returns-clause-all
@@ -69,11 +68,11 @@ returns-clause-all c setup library known passes all ended below =
           let at = first_page_at passes setup.pages number page e in
           let end = ended number page.file at.0 in
           let reading = run table library (file_at setup number) in
-          let told = returns-clause-told c setup library known passes number end.0 all end.1.0 in
+          let told = returns-clause-told c setup library known passes number end.0 all end.1 in
           let exact = not_at_end reading.left.told.decisions end.0.decisions (c.ticks_add_up.ensures.from_zero reading.left.told.decisions)
-          (decisions_at_end reading end.0 end.0.end end.1.1 told.end) (below.own number end.0 end.1.0) in
+          (decisions_at_end reading end.0 end.0.end end.2 told.end) (below.own number end.0 end.1) in
           subst (λ file. page.decisions ≡ (run table library file).left.told.decisions) (get_or_from_slice_get setup.pages number page.file 0 at.0)
-          (at.1 ∙ ap decisions_of end.1.0 ∙ exact);
+          (at.1 ∙ ap decisions_of end.1 ∙ exact);
       reached = λ file it e among.
           let some = Any-from_list_any (is_reached table library file) setup.pages
           (subst (λ pages. list_any (is_reached table library file) pages ≡ true) (files_are passes 0 setup.pages) among) in
@@ -82,9 +81,9 @@ returns-clause-all c setup library known passes all ended below =
           let less = given_in Page table library (file_at setup some.0) results in
           let more = run_given table library (file_at setup some.0) in
           let told = page_told c.told_stays.ensures.more (λ table one later file less more. c.libraries_go_on.ensures.files Page table one later file less more)
-          setup library known passes some.0 end.0 all end.1.0 in
+          setup library known passes some.0 end.0 all end.1 in
           let within = c.results_are_the_librarys.ensures.pages table library results (file_at setup some.0) built in
-          let done = is_done (read less) (read more) end.0 end.0.end end.1.1 told.end (c.growth.ensures.finished less more all.is_setup.table within)
+          let done = is_done (read less) (read more) end.0 end.0.end end.2 told.end (c.growth.ensures.finished less more all.is_setup.table within)
           (λ fault. c.growth.ensures.refused less more fault all.is_setup.table within) in
           let reached = subst (λ page. is_reached table library file page ≡ true) (sym (get_or_from_slice_get setup.pages some.0 some.1 0 slice)) some.4 in
           let gives = reached_gives known (read less) (read more) end.0 file done (c.needs.ensures.reached less file) reached in

@@ -56,8 +56,8 @@ impl FileReader {
     /// Counts bytes that the walker took.
     pub(crate) fn count(&mut self, taken: &[u8])
         ensures { self.new ≡ record self.old {
-            origin = origin_with self.old.arrived taken.now self.old.origin;
-            arrived = counted_with self.old.arrived taken.now;
+          origin = origin_with self.old.arrived taken.now self.old.origin;
+          arrived = counted_with self.old.arrived taken.now;
         } }
     {
         if self.arrived == 0 {

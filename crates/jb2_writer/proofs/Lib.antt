@@ -15,3 +15,11 @@ mod Bounding
 mod Listing
 -- bits that were written: law written_records_are_read
 mod Deciding
+-- a bit behind others: Coding
+mod Adding
+-- states by keys: Coding
+mod Keying
+-- decisions of a number: Coding::number
+mod Pathing
+-- pixels of a shape: Coding::direct, Coding::refined
+mod Sketching

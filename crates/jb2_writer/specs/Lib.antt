@@ -4,3 +4,6 @@ pub mod Refusal
 pub mod Contexts
 pub mod Decided
 pub mod Worked
+pub mod Coding
+pub mod Numbers
+pub mod Pixels

@@ -52,9 +52,11 @@ adds_bit old new context bit state wrote contexts sound table = record {
   on = λ before has. record {
     decisions = has.decisions ++ written (Adaptive (state_in (contexts_of old) context)) bit state ∷ [];
     wrote = wrote has.decisions has.wrote;
-    coded = subst (AreCodedAs all_fresh (before ++ Bit context bit ∷ []) (has.decisions ++ written (Adaptive (state_in (contexts_of old) context)) bit state ∷ []))
+    coded = subst (AreCodedAs all_fresh (before ++ Bit context bit ∷ []) (has.decisions ++ written (Adaptive (state_in
+        (contexts_of old) context)) bit state ∷ []))
         (sym contexts)
-        (coded_more before has.decisions all_fresh (contexts_of old) context bit (written (Adaptive (state_in (contexts_of old) context)) bit state) has.coded refl refl);
+        (coded_more before has.decisions all_fresh (contexts_of old) context bit (written (Adaptive (state_in
+        (contexts_of old) context)) bit state) has.coded refl refl);
   };
   sound = sound;
   table = table;
@@ -66,7 +68,8 @@ adds_anew old new same contexts sound = record {
   on = λ before has. record {
     decisions = has.decisions;
     wrote = subst (λ encoder. Wrote has.decisions encoder) (sym same) has.wrote;
-    coded = subst (AreCodedAs all_fresh (before ++ Anew ∷ []) has.decisions) (sym contexts) (anew_more before has.decisions all_fresh (contexts_of old) has.coded);
+    coded = subst (AreCodedAs all_fresh (before ++ Anew ∷ []) has.decisions) (sym contexts) (anew_more before has.decisions all_fresh
+        (contexts_of old) has.coded);
   };
   sound = sound;
   table = ap (λ (encoder : Encoder). encoder.table) same;

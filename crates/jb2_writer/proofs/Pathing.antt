@@ -1,5 +1,6 @@
 -- The decisions of a number, one after the other.
-use Rattle.std.proofs.Common.{◌≡◌, ◌<◌, ◌≤◌, ◌+◌, ◌-◌, ◌*◌, ◌^◌, ℕ, zero, suc, ℤ, Bool, true, false, not, List, [], ◌∷◌, add-one, refl, sym, ap, subst, ◌∙◌, arith}
+use Rattle.std.proofs.Common.{◌≡◌, ◌<◌, ◌≤◌, ◌+◌, ◌-◌, ◌*◌, ◌^◌, ℕ, zero, suc, ℤ, Bool}
+use Rattle.std.proofs.Common.{true, false, not, List, [], ◌∷◌, add-one, refl, sym, ap, subst, ◌∙◌, arith}
 use Rattle.std.proofs.Math.Nat.{pow-suc}
 use Rattle.std.proofs.Math.Pow.{pow_mono}
 use Rattle.std.specs.Prelude.{Option, Some, None, is_some, nat_le}
@@ -50,7 +51,8 @@ all_of_36 number value count e = ap (λ (n : ℕ). first_decisions n number valu
 
 -- ---- one decision more
 
-pub one_more : (number : Wanted) (value : ℤ) (side : Side) (at : Kept) (cutoff count : ℕ) → Keeps side at (phase_after number (first_decisions count number value)) →
+pub one_more : (number : Wanted) (value : ℤ) (side : Side) (at : Kept) (cutoff count : ℕ) →
+    Keeps side at (phase_after number (first_decisions count number value)) →
     cutoff_of at ≡ Some cutoff →
     first_decisions (suc count) number value ≡ nat_le cutoff (size_of value) ∷ first_decisions count number value
 one_more number value side (kept.Doubling c) cutoff count keeps e =
@@ -95,12 +97,14 @@ digit_few false = omega arith
 
 -- ---- the decisions of a value, one after the other
 
-coded_there : (given : Option Bool) (is_open : Bool) (at : Name) (bit : Bool) (old new : Coding) → is_open ≡ not (is_some given) → Adds (coded_if is_open at bit) old new →
+coded_there : (given : Option Bool) (is_open : Bool) (at : Name) (bit : Bool) (old new : Coding) → is_open ≡ not (is_some given) →
+    Adds (coded_if is_open at bit) old new →
     Adds (coded_where given at bit) old new
 coded_there given is_open at bit old new e adds =
     subst (λ (bits : List Coded). Adds bits old new) (ap (λ (o : Bool). coded_if o at bit) e ∙ coded_so given at bit) adds
 
-pub first_decided : (number : Wanted) (value : ℤ) (is_open sign : Bool) (path : ℕ) (old new : Coding) → is_open ≡ not (is_some (implied_by number.low number.high 0)) →
+pub first_decided : (number : Wanted) (value : ℤ) (is_open sign : Bool) (path : ℕ) (old new : Coding) →
+    is_open ≡ not (is_some (implied_by number.low number.high 0)) →
     Adds (coded_if is_open (name number.root []) sign) old new → sign ≡ at_least value 0 → path ≡ 2 * 1 + digit_of sign →
     HasDecided number value 1 path (kept.Doubling 1) old new
 first_decided number value is_open sign path old new e adds s d =

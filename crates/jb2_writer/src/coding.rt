@@ -85,7 +85,8 @@ impl Coding {
     pub(crate) fn decision(&mut self, root: Root, path: u64, bit: bool) -> Result<(), AllocError>
         requires sound { IsSound self.old }
         requires path { (decisions : List Bool) × (path_number decisions ≡ path) }
-        ensures { (decisions : List Bool) → path_number decisions ≡ path → IfOk result (λ _. Adds (Bit (Number (name root decisions)) bit ∷ []) self.old self.new) }
+        ensures { (decisions : List Bool) → path_number decisions ≡ path →
+            IfOk result (λ _. Adds (Bit (Number (name root decisions)) bit ∷ []) self.old self.new) }
     {
         let key = key_of(root, path);
         let mut state = self.numbers.get(&key).copied().unwrap_or(0);

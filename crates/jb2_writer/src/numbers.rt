@@ -3,7 +3,8 @@ ghost use Rattle.std.specs.Prelude.{◌≡◌, ◌+◌, ◌*◌, ◌/◌, ◌^�
 ghost use Rattle.bit_plane.specs.Bits.{digit_of};
 ghost use Rattle.jb2_numbers.specs.Contexts.{name};
 ghost use Rattle.jb2_numbers.specs.Number.{Wanted, wanted};
-ghost use Rattle.jb2_numbers.specs.Phases.{Phase as Known, Side as SizeSide, Doubling, Halving, at_least, size_of, side_of, next_phase, settled, halved, implied_by};
+ghost use Rattle.jb2_numbers.specs.Phases.{Phase as Known, Side as SizeSide, Doubling, Halving, at_least};
+ghost use Rattle.jb2_numbers.specs.Phases.{size_of, side_of, next_phase, settled, halved, implied_by};
 ghost use Rattle.jb2_numbers.specs.Reader.{AreBounds};
 ghost use Rattle.jb2_writer.specs.Coded.{number_coded};
 ghost use Rattle.jb2_writer.specs.Coding.{IsSound, Adds, path_number};
@@ -176,7 +177,8 @@ impl Coding {
     ) -> Result<(), AllocError>
         requires sound { IsSound self.old }
         requires path { (decisions : List Bool) × (path_number decisions ≡ path) }
-        ensures { (decisions : List Bool) → path_number decisions ≡ path → IfOk result (λ _. Adds (coded_if is_open (name root decisions) decision) self.old self.new) }
+        ensures { (decisions : List Bool) → path_number decisions ≡ path →
+            IfOk result (λ _. Adds (coded_if is_open (name root decisions) decision) self.old self.new) }
     {
         if is_open {
             self.decision(root, path, decision)

@@ -9,7 +9,8 @@ joined-number-requires c = few_number c.args.colours.now c.loop-colour.colour-in
 
 pub loop-colour-preserved : goal.loop-colour-preserved
 loop-colour-preserved c =
-    colour_added c.args.colours.now c.loop-colour.colour-index c.loop-colour.number c.joined-number.result _ c.loop-colour-test.true refl c.loop-colour.invariant
+    colour_added c.args.colours.now c.loop-colour.colour-index c.loop-colour.number c.joined-number.result _ c.loop-colour-test.true refl
+    c.loop-colour.invariant
     c.joined-number.ensures
 
 pub returns-clause-number : goal.returns-clause-number

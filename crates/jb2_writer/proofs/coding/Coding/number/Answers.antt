@@ -15,10 +15,12 @@ returns-in_default c =
     let low : to_z w32 (of_z w32 c.args.low) ≡ c.args.low = search rules in
     let high : to_z w32 (of_z w32 c.args.high) ≡ c.args.high = search rules in
     let value : to_z w32 (of_z w32 c.args.value) ≡ c.args.value = search rules in
-    let has : HasDecided (wanted c.args.root c.args.low c.args.high) c.args.value c.loop-count.count c.loop-count.path c.loop-count.phase c.args.self.now c.loop-count.self =
+    let has : HasDecided (wanted c.args.root c.args.low c.args.high) c.args.value c.loop-count.count c.loop-count.path c.loop-count.phase
+    c.args.self.now c.loop-count.self =
     same_number c.args.root _ _ _ _ _ _ c.loop-count.count c.loop-count.path c.loop-count.phase c.args.self.now c.loop-count.self low high value
     c.loop-count.invariant in
-    none_left (wanted c.args.root c.args.low c.args.high) c.args.value c.loop-count.count c.loop-count.path c.loop-count.phase c.args.self.now c.loop-count.self has
+    none_left (wanted c.args.root c.args.low c.args.high) c.args.value c.loop-count.count c.loop-count.path c.loop-count.phase c.args.self.now
+    c.loop-count.self has
     (sym c.cutoff.ensures ∙ c.in_default.is) (omega (arith, c.loop-count-test.true))
 
 pub further-path-requires-in-loop-count : goal.further-path-requires-in-loop-count
@@ -38,8 +40,10 @@ returns c =
     let low : to_z w32 (of_z w32 c.args.low) ≡ c.args.low = search rules in
     let high : to_z w32 (of_z w32 c.args.high) ≡ c.args.high = search rules in
     let value : to_z w32 (of_z w32 c.args.value) ≡ c.args.value = search rules in
-    let has : HasDecided (wanted c.args.root c.args.low c.args.high) c.args.value c.loop-count.count c.loop-count.path c.loop-count.phase c.args.self.now c.loop-count.self =
+    let has : HasDecided (wanted c.args.root c.args.low c.args.high) c.args.value c.loop-count.count c.loop-count.path c.loop-count.phase
+    c.args.self.now c.loop-count.self =
     same_number c.args.root _ _ _ _ _ _ c.loop-count.count c.loop-count.path c.loop-count.phase c.args.self.now c.loop-count.self low high value
     c.loop-count.invariant in
-    all_decided (wanted c.args.root c.args.low c.args.high) c.args.value c.loop-count.count c.loop-count.path c.loop-count.phase c.args.self.now c.loop-count.self has
+    all_decided (wanted c.args.root c.args.low c.args.high) c.args.value c.loop-count.count c.loop-count.path c.loop-count.phase c.args.self.now
+    c.loop-count.self has
     (omega (arith, c.loop-count-test.false, c.loop-count.auto.count-end))

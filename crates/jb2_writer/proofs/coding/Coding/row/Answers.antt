@@ -7,6 +7,7 @@ use Rattle.jb2_writer.proofs.coding.Coding.row.Goals as goal
 pub returns : goal.returns
 returns c =
     let new : Coding = record c.args.self.now { encoder = c.encode.new.self; row = c.encode.new.ctx } in
-    let sound = flags_sound c.args.self.now new c.requires c.encode.ensures.table refl refl (same_below c.args.self.now new c.args.self.now.flag c.encode.ensures.table c.requires.flag) c.encode.ensures.below in
+    let sound = flags_sound c.args.self.now new c.requires c.encode.ensures.table refl refl
+    (same_below c.args.self.now new c.args.self.now.flag c.encode.ensures.table c.requires.flag) c.encode.ensures.below in
     if_ok _ _ _ c.encode.result c.encode.ensures.wrote (λ wrote.
     adds_bit c.args.self.now new RowStart c.args.bit c.encode.new.ctx wrote refl sound c.encode.ensures.table)

@@ -142,6 +142,27 @@ impl Reading {
         }
     }
 
+    /// Feeds a whole file in pieces, and reads on to the page's end.
+    fn read_file(&mut self, files: &[File], file: &File, pieces: Pieces) -> Option<()>
+        requires { self.old.decoder.mark ≡ Open }
+    {
+        let (first, others) = file.bytes.split_at(pieces.first.min(file.bytes.len()));
+        self.feed(files, first)?;
+        self.feed_pieces(files, others, pieces.others)?;
+        self.end(files, file.end)
+    }
+
+    /// Feeds bytes in pieces of so many.
+    fn feed_pieces(&mut self, files: &[File], bytes: &[u8], length: usize) -> Option<()>
+        requires { self.old.decoder.mark ≡ Open }
+        ensures { self.new.decoder.mark ≡ Open }
+    {
+        'pieces: for piece in bytes.chunks(length.max(1)) {
+            self.feed(files, piece)?;
+        }
+        Some(())
+    }
+
     /// Reads on until the page stands for want of bytes, or at its end.
     fn read_on(&mut self, files: &[File]) -> Option<()>
         ensures { self.new.decoder.mark ≡ self.old.decoder.mark }
@@ -249,13 +270,8 @@ impl Reading {
 /// What a page of a folder tells that comes in pieces.
 fn read_in_pieces(alloc: Global, files: &[File], page: u32, pieces: Pieces) -> Option<Reading> {
     let file = files.get(page as usize)?;
-    let (first, others) = file.bytes.split_at(pieces.first.min(file.bytes.len()));
     let mut reading = Reading::new(alloc, flat(alloc)?, files, page)?;
-    reading.feed(files, first)?;
-    'pieces: for piece in others.chunks(pieces.others.max(1)) {
-        reading.feed(files, piece)?;
-    }
-    reading.end(files, file.end)?;
+    reading.read_file(files, file, pieces)?;
     Some(reading)
 }
 

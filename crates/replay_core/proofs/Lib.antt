@@ -6,3 +6,4 @@ mod Drawings
 mod Needing
 mod Stepwise
 mod Counting
+mod Cutting

@@ -3,24 +3,10 @@
 #![tactic(auto)]
 
 #[cfg(test)]
-mod broken_pages;
-#[cfg(test)]
 mod chunks;
-#[cfg(test)]
-mod decoded_files;
-#[cfg(test)]
-mod fed;
 #[cfg(test)]
 mod graphs;
 #[cfg(test)]
-mod library_cuts;
-#[cfg(test)]
-mod names;
-#[cfg(test)]
 mod outlines;
-#[cfg(test)]
-mod page_cuts;
-#[cfg(test)]
-mod page_steps;
 #[cfg(test)]
 mod pages;

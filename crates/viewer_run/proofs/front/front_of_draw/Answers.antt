@@ -3,7 +3,8 @@ use Rattle.std.proofs.lemmas.Result.{err_from_is_err_and}
 use Rattle.djvu_outside.specs.declared.stops.Stop.{Stop}
 use Rattle.viewer_run.specs.declared.front.Front.{Front}
 use Rattle.djvu_base.specs.Library.{library_of}
-use Rattle.viewer_run.specs.Plan.{names_in, numbers_of, plan_by_table, refused_or, table_of}
+use Rattle.page_decoder.specs.Libraries.{names_in}
+use Rattle.viewer_run.specs.Plan.{numbers_of, plan_by_table, refused_or, table_of}
 use Rattle.viewer_run.specs.Start.{Starts}
 use Rattle.viewer_run.proofs.Starting.{none_there}
 use Rattle.viewer_run.proofs.front.front_of_draw.Goals as goal

@@ -1,7 +1,8 @@
 use Rattle.std.proofs.Common.{sym, ap, ◌∙◌}
 use Rattle.djvu_base.specs.Library.{library_of}
 use Rattle.viewer_words.specs.declared.commands.TableChoice.TheVariants as choice
-use Rattle.viewer_run.specs.Plan.{Lists, names_in, numbers_of, refused_or}
+use Rattle.page_decoder.specs.Libraries.{names_in}
+use Rattle.viewer_run.specs.Plan.{Lists, numbers_of, refused_or}
 use Rattle.viewer_run.proofs.front.front_of_info.Goals as goal
 
 pub returns-in-Some-clause-failure : goal.returns-in-Some-clause-failure

@@ -25,3 +25,4 @@ mod Taking
 mod Joining
 mod Going
 mod Cutting
+mod Scripting

@@ -9,3 +9,5 @@ pub mod Core
 pub mod CoreSteps
 pub mod Script
 pub mod ScriptRead
+pub mod ScriptLaws
+pub mod Replays

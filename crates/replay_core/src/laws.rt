@@ -13,6 +13,7 @@ ghost use Rattle.replay_core.specs.Machine.{State, PageState, Event, Step, Look,
 
 pub mod counts;
 pub mod standing;
+pub mod scripts;
 pub mod worked;
 
 /// Events only bring more: the library goes on, and so does each page. Lists of events can be joined. A state before the first

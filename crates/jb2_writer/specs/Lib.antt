@@ -7,3 +7,5 @@ pub mod Worked
 pub mod Coding
 pub mod Numbers
 pub mod Pixels
+pub mod Given
+pub mod Standing

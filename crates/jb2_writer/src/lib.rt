@@ -7,7 +7,10 @@
 //! the coding of a number or a shape stands). The law says that a reading finds what was written.
 #![tactic(auto)]
 
+mod bodies;
 mod coding;
+mod fields;
+mod given;
 pub mod laws;
 mod numbers;
 mod pixels;

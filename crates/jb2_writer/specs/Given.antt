@@ -1,0 +1,44 @@
+-- Records as a writer is given them, and the fields that it can code.
+use Rattle.std.specs.Prelude.{ℤ, ◌≤ℤ◌}
+use Rattle.bit_plane.specs.Pixels.{Pixels}
+use Rattle.bit_plane.specs.Ink.{ink_box_of}
+use Rattle.jb2_records.specs.Records.{Record, Start, MarkBoth, MarkLibrary, MarkImage, RefineBoth, RefineLibrary, RefineImage, Copy, Plain, Require}
+use Rattle.jb2_records.specs.Records.{Comment, End, Relative, NewRow, SameRow}
+use Rattle.jb2_records.specs.Reading.{most, least}
+use Rattle.jb2_writer.specs.declared.given.Relative.{Relative as GivenRelative}
+use Rattle.jb2_writer.specs.declared.given.Relative.TheVariants as place
+use Rattle.jb2_writer.specs.declared.given.Record.{Record as Given}
+use Rattle.jb2_writer.specs.declared.given.Record.TheVariants as given
+use Rattle.jb2_writer.specs.Fields.{side_difference}
+
+abbrev pub relative_of : GivenRelative → Relative
+relative_of (place.NewRow dx dy) = NewRow dx dy
+relative_of (place.SameRow dx dy) = SameRow dx dy
+
+abbrev pub record_of : Given → Record
+record_of (given.Start width height flag) = Start width height flag
+record_of (given.MarkBoth shape at) = MarkBoth shape (relative_of at)
+record_of (given.MarkLibrary shape) = MarkLibrary shape
+record_of (given.MarkImage shape at) = MarkImage shape (relative_of at)
+record_of (given.RefineBoth matched shape at) = RefineBoth matched shape (relative_of at)
+record_of (given.RefineLibrary matched shape) = RefineLibrary matched shape
+record_of (given.RefineImage matched shape at) = RefineImage matched shape (relative_of at)
+record_of (given.Copy matched at) = Copy matched (relative_of at)
+record_of (given.Plain shape left top) = Plain shape left top
+record_of (given.Require count) = Require count
+record_of (given.Comment bytes) = Comment bytes
+record_of given.End = End
+
+-- a difference or a step that is a number of JB2
+pub record IsStep (value : ℤ) : Type 0 where
+  pub low : least ≤ℤ value
+  pub high : value ≤ℤ most
+
+abbrev pub ArePlaced : GivenRelative → Type 0
+ArePlaced (place.NewRow dx dy) = IsStep dx × IsStep dy
+ArePlaced (place.SameRow dx dy) = IsStep dx × IsStep dy
+
+-- the sides of a shape differ from the matched ink by numbers of JB2
+pub record IsDifference (shape matched : Pixels) : Type 0 where
+  pub width : IsStep (side_difference shape.width (ink_box_of matched).left (ink_box_of matched).right)
+  pub height : IsStep (side_difference shape.height (ink_box_of matched).bottom (ink_box_of matched).top)

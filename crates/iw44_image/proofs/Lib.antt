@@ -7,7 +7,7 @@ mod Completing
 mod Listing
 -- law sizes_are_checked_first
 mod Checking
--- plane_samples, Samples::colour, picture_samples
+-- full_samples, half_samples, Samples::colour, picture_samples
 mod Painting
 -- open_chunk, read_version, read_sizes, Start::behind
 mod Beginning

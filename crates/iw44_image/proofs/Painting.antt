@@ -9,15 +9,17 @@ use Rattle.std.proofs.lemmas.List.FromFn.{map-range_with_len_more, length-map-ra
 use Rattle.std.proofs.lemmas.Nat.{div-mul-add, mod-mul-add, mul-add-lt, div_below, mod_below}
 use Rattle.std.specs.Prelude.{Option, Some, None}
 use Rattle.iw44_blocks.specs.Plane.{Plane}
-use Rattle.iw44_blocks.proofs.Lemmas.{by_place}
+use Rattle.iw44_blocks.proofs.Lemmas.{by_place, quarter_value, values_same}
 use Rattle.iw44_image.specs.declared.headers.Header.{Header}
 use Rattle.iw44_image.specs.declared.rasters.ChromaSamples.{ChromaSamples}
 use Rattle.iw44_image.specs.declared.colours.Colour.{Colour}
 use Rattle.iw44_image.specs.declared.rasters.Samples.{Samples}
-use Rattle.iw44_blocks.specs.Lattice.{Lattice}
+use Rattle.iw44_blocks.specs.Lattice.{Lattice, values_by, quarter}
 use Rattle.iw44_lifting.specs.Lift.{columns_lifted, rows_lifted, lifted}
 use Rattle.iw44_image.specs.Samples.{Components, last_scale, channel_of, grey, colour, sample_of, plane_value, plane_samples, pixel, sample_at, picture}
+use Rattle.iw44_image.specs.Samples.{placed_value}
 use Rattle.iw44_image.specs.Rasters.{AreChroma, AreSamples, IsOfSize, HaveSize, IsFullChroma, IsFull, number_in, colour_by, colour_at, painted_at, painted}
+use Rattle.iw44_image.specs.Rasters.{shared_sample}
 
 -- the transform leaves a grid's size
 pub width_stays : (half : Bool) (grid : Lattice) → (lifted (last_scale half) grid).width ≡ grid.width
@@ -29,6 +31,13 @@ pub height_stays : (half : Bool) (grid : Lattice) → (lifted (last_scale half) 
 unfolding columns_lifted rows_lifted
 height_stays true grid = refl
 height_stays false grid = refl
+
+-- at half size two by two places have the value of one of the quarter
+pub half_places : (width height : ℕ) (whole : Lattice) → whole.width ≡ width → whole.height ≡ height →
+    values_by width (width * height) (shared_sample true (quarter whole)) ≡ values_by width (width * height) (λ x y. sample_of (placed_value true whole x y))
+half_places width height whole across up =
+    values_same width height (shared_sample true (quarter whole)) (λ x y. sample_of (placed_value true whole x y)) (λ x y wide tall.
+    ap sample_of (quarter_value whole (x / 2) (y / 2) (omega arith) (omega arith)))
 
 three_more : (f : ℕ → ℕ) (n a b c : ℕ) → f n ≡ a → f (n + 1) ≡ b → f (n + 2) ≡ c →
     map f (range_with_len 0 (n + 1 + 1 + 1)) ≡ map f (range_with_len 0 n) ++ a ∷ b ∷ c ∷ []

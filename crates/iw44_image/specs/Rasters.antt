@@ -1,12 +1,14 @@
 -- For the code's own functions: samples at hand, and what they are of.
-use Rattle.std.specs.Prelude.{◌≡◌, ℕ, ◌+◌, ◌-◌, ◌*◌, ◌/◌, ◌%◌, true, false, ℤ, pos, List, length, map, slice_index_or, Option, Some, None, ⊤}
+use Rattle.std.specs.Prelude.{◌≡◌, ℕ, ◌+◌, ◌-◌, ◌*◌, ◌/◌, ◌%◌, ◌<◌, Bool, true, false, if◌then◌else◌, ℤ, pos}
+use Rattle.std.specs.Prelude.{List, length, map, slice_index_or, Option, Some, None, ⊤}
 use Rattle.std.specs.List.{range_with_len}
 use Rattle.iw44_image.specs.declared.colours.Colour.{Colour}
 use Rattle.iw44_blocks.specs.Plane.{Plane}
+use Rattle.iw44_blocks.specs.Lattice.{Lattice, value_at}
 use Rattle.iw44_image.specs.declared.headers.Header.{Header}
 use Rattle.iw44_image.specs.declared.rasters.Samples.{Samples}
 use Rattle.iw44_image.specs.declared.rasters.ChromaSamples.{ChromaSamples}
-use Rattle.iw44_image.specs.Samples.{Components, plane_samples, grey, colour, channel_of}
+use Rattle.iw44_image.specs.Samples.{Components, sample_of, plane_samples, grey, colour, channel_of}
 
 abbrev pub AreChroma : Header → Components → Option ChromaSamples → Type 0
 AreChroma header it None = header.grey ≡ true
@@ -54,3 +56,15 @@ painted_at width height samples n = channel_of (n % 3) (colour_at samples ((heig
 -- the samples of so many pixels of it
 abbrev pub painted : ℕ → ℕ → Samples → ℕ → List ℕ
 painted width height samples count = map (painted_at width height samples) (range_with_len 0 (3 * count))
+
+-- the column or row of a grid that has the value of a place: at half size two share one
+abbrev pub shared_place : Bool → ℕ → ℕ
+shared_place half n = if half then n / 2 else n
+
+-- the sample of a place by a grid
+abbrev pub shared_sample : Bool → Lattice → ℕ → ℕ → ℤ
+shared_sample half grid x y = sample_of (value_at grid (shared_place half x) (shared_place half y))
+
+-- a length of so many places has its columns or rows in a grid
+abbrev pub AreShared : Bool → ℕ → ℕ → Type 0
+AreShared half length count = (n : ℕ) → n < length → shared_place half n < count

@@ -1,18 +1,17 @@
 //! The picture of an image's coefficients.
 ghost use Rattle.std.specs.Prelude.{◌≡◌, ℕ, ◌+◌, ◌-◌, ◌*◌, ◌^◌, ◌<◌, ◌≤◌, ◌⊎◌, Bool, true, false, length, IfOk, IfSome, vec_len, vec_capacity};
 ghost use Rattle.std.specs.List.{range_with_len};
-ghost use Rattle.iw44_blocks.specs.Lattice.{IsWithin, Lattice, value_at, values_by};
-ghost use Rattle.iw44_blocks.specs.Plane.{Plane, IsSmall, grid_of};
-ghost use Rattle.iw44_lifting.specs.Lift.{lifted};
+ghost use Rattle.iw44_blocks.specs.Lattice.{IsWithin, values_by};
+ghost use Rattle.iw44_blocks.specs.Plane.{IsSmall};
 ghost use Rattle.iw44_image.specs.declared.headers.Header.{Header};
-ghost use Rattle.iw44_image.specs.Samples.{Components, placed_value, last_scale, plane_samples, sample_of, sample_at, pixel, picture};
-ghost use Rattle.iw44_image.specs.Rasters.{AreSamples, HaveSize, IsFull, colour_at, painted};
+ghost use Rattle.iw44_image.specs.Samples.{Components, plane_samples, sample_of, sample_at, pixel, picture};
+ghost use Rattle.iw44_image.specs.Rasters.{AreSamples, HaveSize, IsFull, AreShared, shared_place, shared_sample, colour_at, painted};
 
 use crate::colours::{Colour, sample_of};
 use crate::headers::Header;
 use djvu_base::Raster;
 use iw44_blocks::{Coefficients, Grid, laws as blocks};
-use iw44_lifting::inverse_in;
+use iw44_lifting::{inverse_in, inverse_quarter, laws as lifting};
 use std::alloc::{AllocError, Global};
 
 /// The samples of an image's planes, each from -128 to 127, rows from the bottom and each from the left.
@@ -119,8 +118,7 @@ impl Samples {
     }
 }
 
-/// The samples of a plane. At half size a sample stands for two by two places. One grid is made, of numbers of 32 bits: no
-/// value of the transform is larger.
+/// The samples of a plane. At half size a sample stands for two by two places.
 pub(crate) fn plane_samples(
     alloc: Global,
     plane: &Coefficients,
@@ -129,58 +127,78 @@ pub(crate) fn plane_samples(
     requires small { IsSmall 32767 plane.now }
     ensures { IfOk result (λ samples. samples.items ≡ plane_samples half plane.now) }
 {
+    if half {
+        half_samples(alloc, plane)
+    } else {
+        full_samples(alloc, plane)
+    }
+}
+
+/// The samples of a plane of full size. One grid is made, of numbers of 32 bits: no value of the transform is larger.
+fn full_samples(alloc: Global, plane: &Coefficients) -> Result<Vec<i8>, AllocError>
+    requires small { IsSmall 32767 plane.now }
+    ensures { IfOk result (λ samples. samples.items ≡ plane_samples false plane.now) }
+{
     blocks::small_planes();
+    let (width, height) = (plane.width(), plane.height());
     let mut grid: Grid<i32> = plane.grid_in(alloc)?;
-    inverse_in(&mut grid, last_scale(half));
-    grid_samples(alloc, &grid, half)
+    inverse_in(&mut grid, 1);
+    grid_samples(alloc, &grid, false, width, height)
 }
 
-/// The scale at which the inverse transform of a plane ends.
-fn last_scale(half: bool) -> u32
-    ensures value { result ≡ last_scale half }
-    ensures one { (result ≡ 1) ⊎ (result ≡ 2) }
+/// The samples of a plane of half size, out of a grid of a quarter of its places: no others are used.
+fn half_samples(alloc: Global, plane: &Coefficients) -> Result<Vec<i8>, AllocError>
+    requires small { IsSmall 32767 plane.now }
+    ensures { IfOk result (λ samples. samples.items ≡ plane_samples true plane.now) }
 {
-    if half { 2 } else { 1 }
+    blocks::small_planes();
+    lifting::even_places_alone();
+    let (width, height) = (plane.width(), plane.height());
+    let mut grid: Grid<i32> = plane.quarter_in(alloc)?;
+    inverse_quarter(&mut grid);
+    grid_samples(alloc, &grid, true, width, height)
 }
 
-fn grid_samples(alloc: Global, grid: &Grid<i32>, half: bool) -> Result<Vec<i8>, AllocError>
+/// The samples of a plane of this size, whose values stand in a grid.
+fn grid_samples(
+    alloc: Global,
+    grid: &Grid<i32>,
+    half: bool,
+    width: u32,
+    height: u32,
+) -> Result<Vec<i8>, AllocError>
     requires small { IsWithin (2 ^ 31 - 1) grid.now }
-    ensures { IfOk result (λ samples. samples.items ≡ values_by grid.now.width (grid.now.width * grid.now.height)
-        (λ x y. sample_of (placed_value half grid.now x y))) }
+    requires columns { AreShared half width grid.now.width }
+    requires rows { AreShared half height grid.now.height }
+    ensures { IfOk result (λ samples. samples.items ≡ values_by width (width * height) (shared_sample half grid.now)) }
 {
-    let (width, height) = (grid.width(), grid.height());
     let mut samples = Vec::with_capacity(alloc, width as usize * height as usize)?;
     for y in 0..height {
-        push_row(grid, half, y, &mut samples);
+        push_row(grid, half, width, y, &mut samples);
     }
     Ok(samples)
 }
 
 /// Adds the samples of a row to those of the rows below it.
-fn push_row(grid: &Grid<i32>, half: bool, y: u32, samples: &mut Vec<i8>)
+fn push_row(grid: &Grid<i32>, half: bool, width: u32, y: u32, samples: &mut Vec<i8>)
     requires small { IsWithin (2 ^ 31 - 1) grid.now }
-    requires row { y < grid.now.height }
-    requires below { samples.old.items ≡ values_by grid.now.width (y * grid.now.width) (λ x y. sample_of (placed_value half grid.now x y)) }
-    requires count { vec_len samples.old ≡ y * grid.now.width }
-    requires room { grid.now.width * grid.now.height ≤ vec_capacity samples.old }
-    ensures row { samples.new.items ≡ values_by grid.now.width ((y + 1) * grid.now.width) (λ x y. sample_of (placed_value half grid.now x y)) }
-    ensures count { vec_len samples.new ≡ (y + 1) * grid.now.width }
+    requires columns { AreShared half width grid.now.width }
+    requires row { shared_place half y < grid.now.height }
+    requires below { samples.old.items ≡ values_by width (y * width) (shared_sample half grid.now) }
+    requires count { vec_len samples.old ≡ y * width }
+    requires room { (y + 1) * width ≤ vec_capacity samples.old }
+    ensures row { samples.new.items ≡ values_by width ((y + 1) * width) (shared_sample half grid.now) }
+    ensures count { vec_len samples.new ≡ (y + 1) * width }
     ensures room { vec_capacity samples.new ≡ vec_capacity samples.old }
 {
-    for x in 0..grid.width() {
-        samples.push_reserved(sample_at(grid, half, x, y));
+    let row = shared_place(half, y);
+    for x in 0..width {
+        samples.push_reserved(sample_of(grid.value(shared_place(half, x), row)));
     }
 }
 
-fn sample_at(grid: &Grid<i32>, half: bool, x: u32, y: u32) -> i8
-    requires small { IsWithin (2 ^ 31 - 1) grid.now }
-    requires column { x < grid.now.width }
-    requires row { y < grid.now.height }
-    ensures { result ≡ sample_of (placed_value half grid.now x y) }
+fn shared_place(half: bool, place: u32) -> u32
+    ensures { result ≡ shared_place half place }
 {
-    if half {
-        sample_of(grid.value(2 * (x / 2), 2 * (y / 2)))
-    } else {
-        sample_of(grid.value(x, y))
-    }
+    if half { place / 2 } else { place }
 }

@@ -16,4 +16,4 @@ mod runs;
 mod samples;
 mod transform;
 
-pub use transform::{inverse, inverse_in};
+pub use transform::{inverse, inverse_in, inverse_quarter};

@@ -1,12 +1,18 @@
-//! Tests of files and pages, over public calls: what no clause says. Their values were worked out by hand, or by another
+//! Tests of pages and of decoded files, over public calls: what no clause says. Their values were worked out by hand, or by another
 //! program after the rules in `docs/`.
 #![tactic(auto)]
 
 #[cfg(test)]
-mod chunks;
+mod broken_pages;
 #[cfg(test)]
-mod graphs;
+mod decoded_files;
 #[cfg(test)]
-mod outlines;
+mod fed;
+#[cfg(test)]
+mod library_cuts;
+#[cfg(test)]
+mod page_cuts;
+#[cfg(test)]
+mod page_steps;
 #[cfg(test)]
 mod pages;

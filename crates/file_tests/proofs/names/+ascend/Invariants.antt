@@ -1,5 +1,5 @@
 use Rattle.std.proofs.Common.{length}
-use Rattle.page_tests.proofs.graphs.+ascend.Given as goal
+use Rattle.file_tests.proofs.names.+ascend.Given as goal
 
 abbrev pub decreases-ascend : goal.decreases-ascend
 decreases-ascend l = length l.names.now

@@ -1,7 +1,8 @@
 //! Outlines of included files, in every cut, and verdicts over small graphs.
-ghost use Rattle.std.specs.Prelude.{◌≡◌, ◌≤◌, ◌<◌, length, IfSome};
-ghost use Rattle.djvu_base.specs.Name.{IsAscending, is_ascending};
+ghost use Rattle.std.specs.Prelude.{◌≤◌, length, IfSome};
+ghost use Rattle.djvu_base.specs.Name.{IsAscending};
 
+use crate::names::ascend;
 use djvu_base::{FaultKind, FileEnd, Items, Name};
 use include_graph::{
     Outline, OutlineItem, OutlineReader, OutlineStep, Verdict, number_of, verdict,
@@ -172,19 +173,6 @@ fn files_that_break_off(rt: HostRuntime) {
         };
         assert_eq!(rt; text.as_slice(), items, "{} bytes", bytes.len());
     }
-}
-
-/// Whether these names ascend.
-fn ascend(names: &[Name]) -> bool
-    ensures { result ≡ is_ascending names.now }
-{
-    let Some((first, others)) = names.split_first() else {
-        return true;
-    };
-    let Some((next, _)) = others.split_first() else {
-        return true;
-    };
-    first.bytes().cmp(next.bytes()).is_lt() && ascend(others)
 }
 
 /// The names `a` to `d`.

@@ -1,24 +1,12 @@
 //! Verdicts on a long chain of files, on a ladder, and on many files of which each includes all later ones.
-ghost use Rattle.std.specs.Prelude.{◌≡◌, IfSome};
-ghost use Rattle.djvu_base.specs.Name.{IsAscending, is_ascending};
+ghost use Rattle.std.specs.Prelude.{IfSome};
+ghost use Rattle.djvu_base.specs.Name.{IsAscending};
 
+use crate::names::ascend;
 use djvu_base::{Items, Name};
 use include_graph::{Outline, OutlineItem, Verdict, verdict};
 use std::alloc::Global;
 use std::sync::Arc;
-
-/// Whether these names ascend.
-fn ascend(names: &[Name]) -> bool
-    ensures { result ≡ is_ascending names.now }
-{
-    let Some((first, others)) = names.split_first() else {
-        return true;
-    };
-    let Some((next, _)) = others.split_first() else {
-        return true;
-    };
-    first.bytes().cmp(next.bytes()).is_lt() && ascend(others)
-}
 
 fn name_of(alloc: Global, number: u32) -> Option<Name> {
     let text = format!(in alloc; "{}", number.wrapping_add(1_000)).ok()?;

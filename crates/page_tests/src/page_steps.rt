@@ -8,7 +8,7 @@ use crate::library_cuts::{DOT, PAGE, whole};
 use djvu_base::{CountMeter, Fault, FaultKind, FileEnd, Place};
 use jb2_records::FileResult;
 use layer_compose::Layers;
-use page_decoder::{PageDecoder, PageStep, decode_file};
+use page_decoder::{PageDecoder, PageStep};
 use std::alloc::Global;
 use std::process::Abort;
 use std::sync::Arc;
@@ -89,61 +89,6 @@ fn give_file(decoder: &mut PageDecoder, meter: &mut CountMeter, gift: FileResult
         PageStep::NeedFile(file) => decoder.give_file(file, gift).ok(),
         _ => None,
     }
-}
-
-/// What the file `d` gives.
-fn dot(alloc: Global) -> Option<FileResult> {
-    let names = names_of(alloc, &[whole("d", DOT)])?;
-    let table = flat(alloc)?;
-    let mut meter = CountMeter::new();
-    Some(decode_file(
-        alloc,
-        table,
-        0,
-        DOT,
-        FileEnd::Whole,
-        names.slice(),
-        &[None],
-        &mut meter,
-    ))
-}
-
-/// Needs are asked for again at no cost, and the rest is read once they are met.
-#[test]
-fn needs_are_asked_again(rt: HostRuntime) {
-    let (Some(mut decoder), Some(dot)) = (begin(rt.alloc()), dot(rt.alloc())) else {
-        panic!(rt; "memory is ample");
-    };
-    let mut meter = CountMeter::new();
-    expect(&rt, &mut decoder, &mut meter, &[Bytes, Bytes], 0);
-    assert!(rt; decoder.feed(&PAGE[..52]).is_ok());
-    expect(
-        &rt,
-        &mut decoder,
-        &mut meter,
-        &[Notice(1, 765), Outline(0), Outline(0)],
-        0,
-    );
-    assert!(rt; give_outline(rt.alloc(), &mut decoder, &mut meter).is_some());
-    expect(
-        &rt,
-        &mut decoder,
-        &mut meter,
-        &[Answer::File(0), Answer::File(0)],
-        0,
-    );
-    assert!(rt; decoder.feed(&PAGE[52..53]).is_ok());
-    expect(&rt, &mut decoder, &mut meter, &[Answer::File(0)], 0);
-    assert!(rt; give_file(&mut decoder, &mut meter, dot).is_some());
-    expect(&rt, &mut decoder, &mut meter, &[Bytes, Bytes], 0);
-    assert!(rt; decoder.feed(&PAGE[53..]).is_ok());
-    expect(
-        &rt,
-        &mut decoder,
-        &mut meter,
-        &[Notice(3, 0), Finished, Finished],
-        34,
-    );
 }
 
 /// A page without memory for a file that it includes.
@@ -267,44 +212,4 @@ fn usual(alloc: Global) -> Option<PageDecoder>
     let names = names_of(alloc, &[whole("p", b"")])?;
     let table = Arc::new(alloc, Table::djvu(alloc).ok()?).ok()?;
     Some(PageDecoder::new(alloc, table, names, 0))
-}
-
-/// A page up to its first background, of grey, and that background.
-const FIRST_BACKGROUND: &[u8] =
-    b"AT&TFORM\0\0\x0A\x28DJVUINFO\0\0\0\x0A\0\x01\0\x01\x18\0\x2C\x01\x16\x01BG44\0\0\0\x09\0\x01\x81\x02\0\x01\0\x01\0\0";
-
-/// A page has at most 256 backgrounds: the serial of a 257th can't be its number. The later ones have no slices.
-#[test]
-fn backgrounds_past_the_last_serial(rt: HostRuntime) {
-    let Some(mut decoder) = begin(rt.alloc()) else {
-        panic!(rt; "memory is ample");
-    };
-    let mut meter = CountMeter::new();
-    assert!(rt; decoder.feed(FIRST_BACKGROUND).is_ok());
-    expect(
-        &rt,
-        &mut decoder,
-        &mut meter,
-        &[Notice(1, 765), Notice(2, 381), Bytes],
-        1,
-    );
-    'serials: for serial in 1..=255 {
-        let chunk = [b'B', b'G', b'4', b'4', 0, 0, 0, 2, serial, 0];
-        assert!(rt; decoder.feed(&chunk).is_ok());
-        expect(
-            &rt,
-            &mut decoder,
-            &mut meter,
-            &[Notice(serial as u32 + 2, 381), Bytes],
-            1,
-        );
-    }
-    assert!(rt; decoder.feed(b"BG44\0\0\0\x02\0\0").is_ok());
-    expect(
-        &rt,
-        &mut decoder,
-        &mut meter,
-        &[Refused(FaultKind::IwSerial, 2_602)],
-        1,
-    );
 }

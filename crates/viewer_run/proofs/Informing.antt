@@ -16,8 +16,7 @@ use Rattle.iff_chunks.specs.Events.{Event, Begun, Header, Data, ChunkEnd, data_e
 use Rattle.iff_chunks.specs.Ends.{tail_of, file_end}
 use Rattle.iff_chunks.specs.Told.{Walking, Told}
 use Rattle.iff_chunks.specs.Walk.{IsFed}
-use Rattle.viewer_run.specs.Info.{form_lines, header_line, tail_line, heading_lines, event_line, event_lines, step_line, fault_text, has_fault, info_lines, Informs, InformsWhole}
-use Rattle.viewer_run.specs.Texts.{page_fault}
+use Rattle.viewer_run.specs.Info.{page_fault, form_lines, header_line, tail_line, heading_lines, event_line, event_lines, step_line, fault_text, has_fault, info_lines, Informs, InformsWhole}
 use Rattle.iff_chunks.proofs.Lemmas.{Finishes, walk_begins, walk_goes_on, walk_told, walk_over, walk_end}
 
 data_lines : (name bytes : List ℕ) (events : List Event) → event_lines name (data_events bytes ++ events) ≡ event_lines name events

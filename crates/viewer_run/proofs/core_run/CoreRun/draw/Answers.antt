@@ -1,0 +1,1 @@
+use Rattle.viewer_run.proofs.core_run.CoreRun.draw.Goals as goal

@@ -1,5 +1,5 @@
 -- Words of tests, and tests of so many numbers in a row.
-use Rattle.std.proofs.Common.{◌≡◌, ℕ, zero, suc, ◌+◌, ◌-◌, ◌*◌, ◌/◌, ◌%◌, ◌^◌, ◌<◌, ◌≤◌, Bool, true, false, ◌||◌, List, length, get_or, set, refl, ap}
+use Rattle.std.proofs.Common.{◌≡◌, ℕ, zero, suc, ◌+◌, ◌-◌, ◌*◌, ◌/◌, ◌%◌, ◌^◌, ◌<◌, ◌≤◌, Bool, true, false, ◌||◌, ◌&&◌, List, length, get_or, set, refl, ap}
 use Rattle.std.proofs.Common.{sym, ◌∙◌, subst, arith, inl, inr}
 use Rattle.std.specs.Prelude.{◌==◌, not, if◌then◌else◌}
 use Rattle.std.specs.Int.Count.{ones, ones_step, ones-le}
@@ -7,8 +7,9 @@ use Rattle.std.proofs.lemmas.Bool.{cases_eq}
 use Rattle.std.proofs.Math.Pow.{pow_mono}
 use Rattle.std.proofs.lemmas.List.{get_or-set_same, get_or-set_other}
 use Rattle.std.proofs.lemmas.Bool.Decides.{nat_tests}
+use Rattle.iw44_blocks.proofs.Lemmas.{bits_below}
 use Rattle.iw44_slices.specs.Slice.{some_from, count_from}
-use Rattle.iw44_slices.specs.Kept.{AreBits}
+use Rattle.iw44_blocks.specs.Words.{AreBits}
 
 -- tests of numbers in a row, from one of them on
 
@@ -44,10 +45,6 @@ behind : (word : ℕ) (bit : Bool) → (2 * word + (if bit then 1 else 0)) / 2 �
 behind word true = omega arith
 behind word false = omega arith
 
-pub no_bits : (test : ℕ → Bool) (from : ℕ) → AreBits test 0 from 0
-unfolding AreBits
-no_bits test from = refl
-
 pub bit_before : (test : ℕ → Bool) (count from before word : ℕ) (bit : Bool) → before + 1 ≡ from → bit ≡ test before → AreBits test count from word →
     AreBits test (suc count) before (2 * word + (if bit then 1 else 0))
 unfolding AreBits
@@ -56,11 +53,6 @@ bit_before test count from before word bit next is bits = (
   subst (λ (n : ℕ). AreBits test count n ((2 * word + (if bit then 1 else 0)) / 2)) (sym next)
       (subst (λ (w : ℕ). AreBits test count from w) (sym (behind word bit)) bits),
 )
-
-pub bits_below : (test : ℕ → Bool) (count from word : ℕ) → AreBits test count from word → word < 2 ^ count
-unfolding AreBits
-bits_below test zero from word bits = omega (arith, bits)
-bits_below test (suc count) from word bits = let rest : word / 2 < 2 ^ count = bits_below test count (from + 1) (word / 2) bits.1 in omega (arith, rest)
 
 -- the first one
 
@@ -175,12 +167,6 @@ words_more test first words bucket word within earlier here k below =
 
 -- words of which all bits are alike
 
-pub none_bits : (test : ℕ → Bool) (count from : ℕ) → ((i : ℕ) → from ≤ i → i < from + count → test i ≡ false) → AreBits test count from 0
-unfolding AreBits
-none_bits test zero from none = refl
-none_bits test (suc count) from none =
-    (sym (none from (omega arith) (omega arith)), none_bits test count (from + 1) (λ i low high. none i (omega arith) (omega arith)))
-
 pub all_bits : (test : ℕ → Bool) (count from word : ℕ) → word + 1 ≡ 2 ^ count → ((i : ℕ) → from ≤ i → i < from + count → test i ≡ true) →
     AreBits test count from word
 unfolding AreBits
@@ -192,3 +178,46 @@ all_bits test (suc count) from word e all =
       all_bits test count (from + 1) (word / 2) half
           (λ i low high. all i (omega arith) (omega arith)),
     )
+
+-- where a word is 0, its test holds of none
+pub none_of_zero : (test : ℕ → Bool) (count from i : ℕ) → AreBits test count from 0 → from ≤ i → i < from + count → test i ≡ false
+unfolding AreBits
+none_of_zero test zero from i bits low high = absurd (omega arith)
+none_of_zero test (suc count) from i bits low high =
+    elim (cases_eq i from) [
+      | inl here ↦ ap test here ∙ sym bits.0
+      | inr apart ↦ none_of_zero test count (from + 1) i bits.1 (omega arith) (omega arith)
+    ]
+
+pub zeros_of_none : (b : Bool) → not b ≡ false → b ≡ true
+zeros_of_none true e = refl
+zeros_of_none false e = sym e
+
+turned : (b : Bool) (digit new : ℕ) → digit < 2 → digit + new ≡ 1 → (digit == 1) ≡ b → (new == 1) ≡ not b
+turned b digit new low both is =
+    elim (cases_eq digit 1) [
+      | inl one ↦ let none : new ≡ 0 = omega arith in ap (λ n. n == 1) none ∙ ap not (sym (ap (λ n. n == 1) one) ∙ is)
+      | inr zero' ↦ let none : digit ≡ 0 = omega arith in let one : new ≡ 1 = omega arith in ap (λ n. n == 1) one ∙ ap not (sym (ap (λ n. n == 1) none) ∙ is)
+    ]
+
+-- the word of all that a test doesn't hold of
+pub bits_not : (test other : ℕ → Bool) (count from word new : ℕ) → AreBits test count from word → word + new + 1 ≡ 2 ^ count →
+    ((i : ℕ) → other i ≡ not (test i)) → AreBits other count from new
+unfolding AreBits
+bits_not test other zero from word new bits all same = omega (arith, all)
+bits_not test other (suc count) from word new bits all same =
+    let digits : word % 2 + new % 2 ≡ 1 = omega (arith, all) in
+    let rest : word / 2 + new / 2 + 1 ≡ 2 ^ count = omega (arith, all) in (
+      turned (test from) (word % 2) (new % 2) (omega arith) digits bits.0 ∙ sym (same from),
+      bits_not test other count (from + 1) (word / 2) (new / 2) bits.1 rest same,
+    )
+
+-- a test under one that holds
+pub same_and : (used b : Bool) → used ≡ true → (used && b) ≡ not (not b)
+same_and true true e = refl
+same_and true false e = refl
+same_and false true e = e
+same_and false false e = refl
+
+pub no_not : (used b : Bool) → used ≡ true → (used && b) ≡ not (not b)
+no_not = same_and

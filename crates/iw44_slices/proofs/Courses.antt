@@ -5,7 +5,8 @@ use Rattle.std.proofs.lemmas.Bool.{cases_lt, cases_eq}
 use Rattle.std.proofs.lemmas.List.{get_or-set_same, get_or-set_other, get_or_past, set_past, length_push}
 use Rattle.iw44_blocks.specs.Plane.{Plane, block_count, coefficient, with_coefficient}
 use Rattle.iw44_slices.specs.Bands.{band_of, first_bucket, bucket_count, threshold, is_in_use}
-use Rattle.iw44_slices.specs.Slice.{Place, Course, is_zero, threshold_at, before_at, is_active, is_unknown, some_from, is_active_band, has_unknown, unknowns, start_size, signed, is_negative, raised_value, raises, all_raises, starts, all_starts, choices, block_course, blocks_course, does_something, slice_course}
+use Rattle.iw44_slices.specs.Slice.{Place, Course, threshold_at, before_at, is_active, is_unknown, some_from, is_active_band, has_unknown, unknowns, start_size, signed, is_negative, raised_value, raises, all_raises, starts, all_starts, choices, block_course, blocks_course, does_something, slice_course}
+use Rattle.iw44_blocks.specs.Words.{is_zero}
 use Rattle.iw44_slices.specs.Sizes.{IsRaised, IsDue, InBand, Along}
 use Rattle.iw44_slices.proofs.Sizes.{halved_at, start_due, raise_due, idle_due, due_small}
 

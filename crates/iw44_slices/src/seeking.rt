@@ -118,8 +118,8 @@ impl Spot {
         ensures number { self.new.number ≡ self.old.number }
         ensures block { self.new.block ≡ self.old.block }
     {
-        let first = BUCKET * first_bucket(self.number);
-        let count = BUCKET * bucket_count(self.number);
+        let first = first_bucket(self.number);
+        let count = bucket_count(self.number);
         if is_uniform(self.number) && is_blank(coefficients, self.block, first, count) {
             self.is_active = false;
             self.active = [0; 16];

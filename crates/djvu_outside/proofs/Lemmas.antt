@@ -33,7 +33,8 @@ pub none_grows : (before text : List ℕ) → GrowsWithin before text before
 none_grows before text = ([], text, refl, sym (append-nil before))
 
 -- a text after one that was put
-pub delivers_after : {T : Type 0} (result : Result T Stop) (before part mid text after : List ℕ) → mid ≡ before ++ part → Delivers result mid text after → Delivers result before (part ++ text) after
+pub delivers_after : {T : Type 0} (result : Result T Stop) (before part mid text after : List ℕ) → mid ≡ before ++ part → Delivers result mid text after →
+    Delivers result before (part ++ text) after
 delivers_after (Ok value) before part mid text after e d = d ∙ ap (λ l. l ++ text) e ∙ append_assoc before part text
 delivers_after (Err stop) before part mid text after e d =
     let g = grows_after before part text [] after (subst (λ b. GrowsWithin b text after) e d) in
@@ -44,17 +45,21 @@ pub nothing_put : {T : Type 0} (result : Result T Stop) (before : List ℕ) → 
 nothing_put (Ok value) before = sym (append-nil before)
 nothing_put (Err stop) before = none_grows before []
 
-pub gives_same : {T : Type 0} (result : Result T Stop) (old new : Option (List ℕ)) (text other : List ℕ) → text ≡ other → Gives result old new text → Gives result old new other
+pub gives_same : {T : Type 0} (result : Result T Stop) (old new : Option (List ℕ)) (text other : List ℕ) → text ≡ other → Gives result old new text →
+    Gives result old new other
 gives_same {T = T} result old new text other e g = subst (λ t. Gives {T = T} result old new t) e g
 
 -- a part that stops and puts nothing
-pub gives_none : {T : Type 0} (result : Result T Stop) (fault : Stop) (told : Option (List ℕ)) (text : List ℕ) → result ≡ Err fault → Gives result told told text
+pub gives_none : {T : Type 0} (result : Result T Stop) (fault : Stop) (told : Option (List ℕ)) (text : List ℕ) → result ≡ Err fault →
+    Gives result told told text
 gives_none {T = T} result fault told text e = subst (λ r. Gives {T = T} r told told text) (sym e) (λ before given. (before, given, none_grows before text))
 
 -- what stops before further text gave a prefix of it all
-pub gives_more : {T : Type 0} (result : Result T Stop) → IsErr result → (old new : Option (List ℕ)) (text more : List ℕ) → Gives result old new text → Gives result old new (text ++ more)
+pub gives_more : {T : Type 0} (result : Result T Stop) → IsErr result → (old new : Option (List ℕ)) (text more : List ℕ) → Gives result old new text →
+    Gives result old new (text ++ more)
 gives_more (Ok value) is_err old new text more g = absurd (cc)
-gives_more (Err stop) is_err old new text more g = λ before given. let there = g before given in (there.0, there.1, grows_within_more before text more there.0 there.2)
+gives_more (Err stop) is_err old new text more g = λ before given. let there = g before given in
+    (there.0, there.1, grows_within_more before text more there.0 there.2)
 
 pub never_folder : {T : Type 0} (result : Result T Stop) (fault : Stop) → NeverFolder result → result ≡ Err fault → (fault ≡ stop.Folder → ⊥)
 never_folder {T = T} result fault h e f = subst (λ r. NeverFolder {T = T} r) (e ∙ ap Err f) h
@@ -63,16 +68,19 @@ pub sink_only : {T : Type 0} (result : Result T Stop) (before after : ℕ) → S
 sink_only {T = T} result before after h e = subst (λ r. SinkStops {T = T} r before after) e h
 
 -- work after work that was counted
-pub ticks_after : {T : Type 0} (result : Result T Stop) (first last before mid after : ℕ) → TicksExactly first before mid → Ticks result last mid after → Ticks result (first + last) before after
+pub ticks_after : {T : Type 0} (result : Result T Stop) (first last before mid after : ℕ) → TicksExactly first before mid → Ticks result last mid after →
+    Ticks result (first + last) before after
 ticks_after (Ok value) first last before mid after e t = ticks_both first last before mid after e t
 ticks_after (Err stop) first last before mid after e t = at_most_after first last before mid after e t
 
 -- a part that stopped before further work
-pub ticks_before : {T : Type 0} (result : Result T Stop) (work more before after : ℕ) → IsErr result → Ticks result work before after → Ticks result (work + more) before after
+pub ticks_before : {T : Type 0} (result : Result T Stop) (work more before after : ℕ) → IsErr result → Ticks result work before after →
+    Ticks result (work + more) before after
 ticks_before (Ok value) work more before after is_err t = absurd (cc)
 ticks_before (Err stop) work more before after is_err t = at_most_more work (work + more) before after (omega arith) t
 
-pub ticks_of : {T : Type 0} (result : Result T Stop) (work other before after : ℕ) → work ≡ other → Ticks result work before after → Ticks result other before after
+pub ticks_of : {T : Type 0} (result : Result T Stop) (work other before after : ℕ) → work ≡ other → Ticks result work before after →
+    Ticks result other before after
 ticks_of {T = T} result work other before after e t = subst (λ n. Ticks {T = T} result n before after) e t
 
 -- a part that ticks nothing
@@ -135,12 +143,15 @@ got_none told = record {
 -- puts after others
 pub got_both : (a b : List Put) (first mid last : Sinks) → Got a first mid → Got b mid last → Got (a ++ b) first last
 got_both a b first mid last g h = record {
-  out = λ bytes given. h.out (bytes ++ out_part a) (g.out bytes given) ∙ ap Some (append_assoc bytes (out_part a) (out_part b) ∙ ap (λ l. bytes ++ l) (sym (out_append a b)));
-  report = λ bytes given. h.report (bytes ++ report_part a) (g.report bytes given) ∙ ap Some (append_assoc bytes (report_part a) (report_part b) ∙ ap (λ l. bytes ++ l) (sym (report_append a b)));
+  out = λ bytes given. h.out (bytes ++ out_part a) (g.out bytes given)
+      ∙ ap Some (append_assoc bytes (out_part a) (out_part b) ∙ ap (λ l. bytes ++ l) (sym (out_append a b)));
+  report = λ bytes given. h.report (bytes ++ report_part a) (g.report bytes given)
+      ∙ ap Some (append_assoc bytes (report_part a) (report_part b) ∙ ap (λ l. bytes ++ l) (sym (report_append a b)));
 }
 
 -- the puts of a part after those of another
-pub puts_after : {T : Type 0} (result : Result T Stop) (a b : List Put) (first mid last : Sinks) → Got a first mid → GivesBoth result b mid last → GivesBoth result (a ++ b) first last
+pub puts_after : {T : Type 0} (result : Result T Stop) (a b : List Put) (first mid last : Sinks) → Got a first mid → GivesBoth result b mid last →
+    GivesBoth result (a ++ b) first last
 puts_after (Ok value) a b first mid last g h = got_both a b first mid last g h
 puts_after (Err stop) a b first mid last g h = record {
   part = a ++ h.part;
@@ -150,7 +161,8 @@ puts_after (Err stop) a b first mid last g h = record {
 }
 
 -- what stops before further puts gave a prefix of them all
-pub puts_more : {T : Type 0} (result : Result T Stop) (puts more : List Put) (before after : Sinks) → IsErr result → GivesBoth result puts before after → GivesBoth result (puts ++ more) before after
+pub puts_more : {T : Type 0} (result : Result T Stop) (puts more : List Put) (before after : Sinks) → IsErr result → GivesBoth result puts before after →
+    GivesBoth result (puts ++ more) before after
 puts_more (Ok value) puts more before after is_err g = absurd (cc)
 puts_more (Err stop) puts more before after is_err g = record {
   part = g.part;
@@ -159,7 +171,8 @@ puts_more (Err stop) puts more before after is_err g = record {
   got = g.got;
 }
 
-pub puts_same : {T : Type 0} (result : Result T Stop) (puts other : List Put) (before after : Sinks) → puts ≡ other → GivesBoth result puts before after → GivesBoth result other before after
+pub puts_same : {T : Type 0} (result : Result T Stop) (puts other : List Put) (before after : Sinks) → puts ≡ other → GivesBoth result puts before after →
+    GivesBoth result other before after
 puts_same {T = T} result puts other before after e g = subst (λ p. GivesBoth {T = T} result p before after) e g
 
 -- where nothing is to be put, nothing was
@@ -176,7 +189,8 @@ pub all_got : (puts : List Put) (before after : Sinks) → Got puts before after
 all_got puts before after g = record { part = puts; rest = []; puts_are = sym (append-nil puts); got = g }
 
 -- a text that was given to one sink, as puts of both
-pub puts_out : {T : Type 0} (result : Result T Stop) (old new report : Option (List ℕ)) (text : List ℕ) → Gives result old new text → GivesBoth result (to_out text) (sinks old report) (sinks new report)
+pub puts_out : {T : Type 0} (result : Result T Stop) (old new report : Option (List ℕ)) (text : List ℕ) → Gives result old new text →
+    GivesBoth result (to_out text) (sinks old report) (sinks new report)
 puts_out (Ok value) old new report text g = record {
   out = λ bytes given. let there = g bytes given in there.1 ∙ ap Some (there.2 ∙ ap (λ l. bytes ++ l) (sym (out_of_out text)));
   report = λ bytes given. given ∙ ap Some (sym (ap (λ l. bytes ++ l) (report_of_out text) ∙ append-nil bytes));
@@ -194,12 +208,14 @@ puts_out (Err stop) (Some before) new report text g =
       rest = to_out there.2.1;
       puts_are = ap to_out there.2.2 ∙ to_out_append there.2.0 there.2.1;
       got = record {
-        out = λ bytes given. let same : before ≡ bytes = cc in there.1 ∙ ap Some (there.2.3 ∙ ap (λ l. l ++ there.2.0) same ∙ ap (λ l. bytes ++ l) (sym (out_of_out there.2.0)));
+        out = λ bytes given. let same : before ≡ bytes = cc in
+            there.1 ∙ ap Some (there.2.3 ∙ ap (λ l. l ++ there.2.0) same ∙ ap (λ l. bytes ++ l) (sym (out_of_out there.2.0)));
         report = λ bytes given. given ∙ ap Some (sym (ap (λ l. bytes ++ l) (report_of_out there.2.0) ∙ append-nil bytes));
       };
     }
 
-pub puts_report : {T : Type 0} (result : Result T Stop) (old new out : Option (List ℕ)) (text : List ℕ) → Gives result old new text → GivesBoth result (to_report text) (sinks out old) (sinks out new)
+pub puts_report : {T : Type 0} (result : Result T Stop) (old new out : Option (List ℕ)) (text : List ℕ) → Gives result old new text →
+    GivesBoth result (to_report text) (sinks out old) (sinks out new)
 puts_report (Ok value) old new out text g = record {
   out = λ bytes given. given ∙ ap Some (sym (ap (λ l. bytes ++ l) (out_of_report text) ∙ append-nil bytes));
   report = λ bytes given. let there = g bytes given in there.1 ∙ ap Some (there.2 ∙ ap (λ l. bytes ++ l) (sym (report_of_report text)));
@@ -218,6 +234,7 @@ puts_report (Err stop) (Some before) new out text g =
       puts_are = ap to_report there.2.2 ∙ to_report_append there.2.0 there.2.1;
       got = record {
         out = λ bytes given. given ∙ ap Some (sym (ap (λ l. bytes ++ l) (out_of_report there.2.0) ∙ append-nil bytes));
-        report = λ bytes given. let same : before ≡ bytes = cc in there.1 ∙ ap Some (there.2.3 ∙ ap (λ l. l ++ there.2.0) same ∙ ap (λ l. bytes ++ l) (sym (report_of_report there.2.0)));
+        report = λ bytes given. let same : before ≡ bytes = cc in
+            there.1 ∙ ap Some (there.2.3 ∙ ap (λ l. l ++ there.2.0) same ∙ ap (λ l. bytes ++ l) (sym (report_of_report there.2.0)));
       };
     }

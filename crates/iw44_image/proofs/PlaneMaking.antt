@@ -1,5 +1,5 @@
 -- An image whose planes are made.
-use Rattle.std.proofs.Common.{◌≡◌, ℕ, ◌+◌, ◌-◌, Bool, true, false, List, Option, Some, None, refl, ap, sym, ◌∙◌, subst, arith, ◌++◌}
+use Rattle.std.proofs.Common.{◌≡◌, ℕ, ◌+◌, ◌-◌, ◌<◌, Bool, true, false, List, Option, Some, None, length, refl, ap, sym, ◌∙◌, subst, arith, ◌++◌}
 use Rattle.std.specs.Prelude.{is_some, not}
 use Rattle.zp_decoder.specs.Chunk.{chunk}
 use Rattle.zp_decoder.specs.Decoder.{Decoder}
@@ -16,8 +16,10 @@ use Rattle.iw44_image.specs.declared.planes.PlaneReaders.{PlaneReaders}
 use Rattle.iw44_image.specs.declared.steps.Stage.{Stage}
 use Rattle.iw44_image.specs.declared.steps.Stage.TheVariants as stage
 use Rattle.iw44_image.specs.Layer.{Coded, Planes, Layer, Fault, ends, new_coded, new_planes, tasks, chunk_end}
-use Rattle.iw44_image.specs.Readers.{IsNew, AreNewChroma, AreNew, coded_of, coded_b, coded_r, planes_of, IsNext, AreNext, Placed}
-use Rattle.iw44_image.specs.Image.{Frame, header_in, layer_in, read_from, later_tasks, ArePlaced, InSlice, InRest, AreNextAt, HoldsAt}
+use Rattle.iw44_image.specs.Readers.{IsNew, AreNewChroma, AreNew, AreSound, coded_of, coded_b, coded_r, planes_of, IsNext, AreNext, Placed}
+use Rattle.iw44_image.specs.Image.{Image, Frame, image_by, header_in, layer_in, read_from, later_tasks, ArePlaced, InSlice, InRest, AreNextAt, HoldsAt}
+use Rattle.iw44_image.specs.Keeping.{ArePlanesSound, IsAt, IsKept}
+use Rattle.iw44_image.proofs.Growing.{table_some}
 
 coded_new : (header : Header) (plane : PlaneReader) → IsNew header plane → coded_of plane ≡ new_coded header
 coded_new header plane new =
@@ -117,3 +119,38 @@ made_holds (stage.Refused kind) frame layer bytes left decisions planes zp new h
 pub no_planes : (planes : Option PlaneReaders) (none : Bool) → is_some planes ≡ not none → none ≡ true → planes ≡ None
 no_planes None none is e = refl
 no_planes (Some planes) none is e = absurd (let wrong : true ≡ false = is ∙ ap not e in cc)
+
+-- what stays true of the image
+abbrev pub made_of : Image → PlaneReaders → Image
+made_of old planes = image_by old.limit old.header old.to_come (Some planes) old.zp old.left old.chunks old.slices old.stage
+
+made_at : (at : Stage) (old : Image) (planes : PlaneReaders) → IsAt at old → IsAt at (made_of old planes)
+made_at stage.Header old planes here = record { chunks = here.chunks; slices = here.slices }
+made_at (stage.Slice channel done count) old planes here = record {
+  known = here.known;
+  chunks = here.chunks;
+  slices = here.slices;
+  some = here.some;
+  told = here.told;
+  channel_fits = here.channel_fits;
+}
+made_at (stage.Rest count) old planes here = record { known = here.known; chunks = here.chunks; slices = here.slices }
+made_at (stage.Refused kind) old planes here = tt
+
+sound_made : (rows : ℕ) (header : Header) (known : Option Header) (none : Option PlaneReaders) (planes : PlaneReaders) → known ≡ Some header →
+    none ≡ None → ArePlanesSound rows known none → AreSound rows header planes → ArePlanesSound rows known (Some planes)
+sound_made rows header known none planes is none_yet sound new =
+    let area = subst (λ (p : Option PlaneReaders). ArePlanesSound rows (Some header) p) none_yet
+    (subst (λ (h : Option Header). ArePlanesSound rows h none) is sound) in
+    subst (λ (h : Option Header). ArePlanesSound rows h (Some planes)) (sym is) (area, new)
+
+pub made_kept : (old : Image) (header : Header) (planes : PlaneReaders) → IsKept old → old.header ≡ Some header → old.planes ≡ None →
+    ((rows : ℕ) → 0 < rows → AreSound rows header planes) → IsKept (made_of old planes)
+made_kept old header planes kept is none sound = record {
+  table = kept.table;
+  limit = kept.limit;
+  planes = sound_made (length old.zp.table) header old.header old.planes planes is none kept.planes
+      (sound (length old.zp.table) (table_some old.zp.table kept.table));
+  at = made_at old.stage old planes kept.at;
+  closed = kept.closed;
+}

@@ -1,5 +1,5 @@
 -- Words of tests, and tests of so many numbers in a row.
-use Rattle.std.proofs.Common.{◌≡◌, ℕ, zero, suc, ◌+◌, ◌-◌, ◌*◌, ◌/◌, ◌%◌, ◌^◌, ◌<◌, ◌≤◌, Bool, true, false, ◌||◌, List, length, get_or, set, refl, ap}
+use Rattle.std.proofs.Common.{◌≡◌, ℕ, zero, suc, ◌+◌, ◌-◌, ◌*◌, ◌/◌, ◌%◌, ◌^◌, ◌<◌, ◌≤◌, Bool, true, false, ◌||◌, ◌&&◌, List, length, get_or, set, refl, ap}
 use Rattle.std.proofs.Common.{sym, ◌∙◌, subst, arith, inl, inr}
 use Rattle.std.specs.Prelude.{◌==◌, not, if◌then◌else◌}
 use Rattle.std.specs.Int.Count.{ones, ones_step, ones-le}
@@ -7,8 +7,10 @@ use Rattle.std.proofs.lemmas.Bool.{cases_eq}
 use Rattle.std.proofs.Math.Pow.{pow_mono}
 use Rattle.std.proofs.lemmas.List.{get_or-set_same, get_or-set_other}
 use Rattle.std.proofs.lemmas.Bool.Decides.{nat_tests}
+use Rattle.std.proofs.lemmas.Nat.{shr-shr, mod-pow-add}
+use Rattle.iw44_blocks.proofs.Lemmas.{bits_below, bits_like}
 use Rattle.iw44_slices.specs.Slice.{some_from, count_from}
-use Rattle.iw44_slices.specs.Kept.{AreBits}
+use Rattle.iw44_blocks.specs.Words.{AreBits}
 
 -- tests of numbers in a row, from one of them on
 
@@ -44,10 +46,6 @@ behind : (word : ℕ) (bit : Bool) → (2 * word + (if bit then 1 else 0)) / 2 �
 behind word true = omega arith
 behind word false = omega arith
 
-pub no_bits : (test : ℕ → Bool) (from : ℕ) → AreBits test 0 from 0
-unfolding AreBits
-no_bits test from = refl
-
 pub bit_before : (test : ℕ → Bool) (count from before word : ℕ) (bit : Bool) → before + 1 ≡ from → bit ≡ test before → AreBits test count from word →
     AreBits test (suc count) before (2 * word + (if bit then 1 else 0))
 unfolding AreBits
@@ -56,11 +54,6 @@ bit_before test count from before word bit next is bits = (
   subst (λ (n : ℕ). AreBits test count n ((2 * word + (if bit then 1 else 0)) / 2)) (sym next)
       (subst (λ (w : ℕ). AreBits test count from w) (sym (behind word bit)) bits),
 )
-
-pub bits_below : (test : ℕ → Bool) (count from word : ℕ) → AreBits test count from word → word < 2 ^ count
-unfolding AreBits
-bits_below test zero from word bits = omega (arith, bits)
-bits_below test (suc count) from word bits = let rest : word / 2 < 2 ^ count = bits_below test count (from + 1) (word / 2) bits.1 in omega (arith, rest)
 
 -- the first one
 
@@ -175,12 +168,6 @@ words_more test first words bucket word within earlier here k below =
 
 -- words of which all bits are alike
 
-pub none_bits : (test : ℕ → Bool) (count from : ℕ) → ((i : ℕ) → from ≤ i → i < from + count → test i ≡ false) → AreBits test count from 0
-unfolding AreBits
-none_bits test zero from none = refl
-none_bits test (suc count) from none =
-    (sym (none from (omega arith) (omega arith)), none_bits test count (from + 1) (λ i low high. none i (omega arith) (omega arith)))
-
 pub all_bits : (test : ℕ → Bool) (count from word : ℕ) → word + 1 ≡ 2 ^ count → ((i : ℕ) → from ≤ i → i < from + count → test i ≡ true) →
     AreBits test count from word
 unfolding AreBits
@@ -192,3 +179,99 @@ all_bits test (suc count) from word e all =
       all_bits test count (from + 1) (word / 2) half
           (λ i low high. all i (omega arith) (omega arith)),
     )
+
+-- where a word is 0, its test holds of none
+pub none_of_zero : (test : ℕ → Bool) (count from i : ℕ) → AreBits test count from 0 → from ≤ i → i < from + count → test i ≡ false
+unfolding AreBits
+none_of_zero test zero from i bits low high = absurd (omega arith)
+none_of_zero test (suc count) from i bits low high =
+    elim (cases_eq i from) [
+      | inl here ↦ ap test here ∙ sym bits.0
+      | inr apart ↦ none_of_zero test count (from + 1) i bits.1 (omega arith) (omega arith)
+    ]
+
+pub zeros_of_none : (b : Bool) → not b ≡ false → b ≡ true
+zeros_of_none true e = refl
+zeros_of_none false e = sym e
+
+turned : (b : Bool) (digit new : ℕ) → digit < 2 → digit + new ≡ 1 → (digit == 1) ≡ b → (new == 1) ≡ not b
+turned b digit new low both is =
+    elim (cases_eq digit 1) [
+      | inl one ↦ let none : new ≡ 0 = omega arith in ap (λ n. n == 1) none ∙ ap not (sym (ap (λ n. n == 1) one) ∙ is)
+      | inr zero' ↦ let none : digit ≡ 0 = omega arith in let one : new ≡ 1 = omega arith in ap (λ n. n == 1) one ∙ ap not (sym (ap (λ n. n == 1) none) ∙ is)
+    ]
+
+-- the word of all that a test doesn't hold of
+pub bits_not : (test other : ℕ → Bool) (count from word new : ℕ) → AreBits test count from word → word + new + 1 ≡ 2 ^ count →
+    ((i : ℕ) → other i ≡ not (test i)) → AreBits other count from new
+unfolding AreBits
+bits_not test other zero from word new bits all same = omega (arith, all)
+bits_not test other (suc count) from word new bits all same =
+    let digits : word % 2 + new % 2 ≡ 1 = omega (arith, all) in
+    let rest : word / 2 + new / 2 + 1 ≡ 2 ^ count = omega (arith, all) in (
+      turned (test from) (word % 2) (new % 2) (omega arith) digits bits.0 ∙ sym (same from),
+      bits_not test other count (from + 1) (word / 2) (new / 2) bits.1 rest same,
+    )
+
+-- a test under one that holds
+pub and_is : (used b : Bool) → used ≡ true → (used && b) ≡ b
+and_is true b e = refl
+and_is false b e = absurd (let wrong : false ≡ true = e in cc)
+
+pub same_and : (used b : Bool) → used ≡ true → (used && b) ≡ not (not b)
+same_and used true e = and_is used true e
+same_and used false e = and_is used false e
+
+-- the word of a test that says the same
+pub bits_same : (test other : ℕ → Bool) (count from word : ℕ) → AreBits test count from word → ((i : ℕ) → other i ≡ test i) → AreBits other count from word
+bits_same test other count from word bits same =
+    bits_like test other count from from word bits (λ i j low high e. let one : j ≡ i = omega arith in ap other one ∙ same i)
+
+-- some of the bits of a word
+
+-- those from a place on
+pub bits_above : (test : ℕ → Bool) (skip count from word : ℕ) → AreBits test (skip + count) from word →
+    AreBits test count (from + skip) (word / 2 ^ skip)
+bits_above test zero count from word bits =
+    let all : 0 + count ≡ count = omega arith in
+    let here : from ≡ from + 0 = omega arith in
+    let whole : word ≡ word / 2 ^ 0 = omega arith in
+    subst (λ (n : ℕ). AreBits test count n (word / 2 ^ 0)) here
+    (subst (λ (w : ℕ). AreBits test count from w) whole (subst (λ (n : ℕ). AreBits test n from word) all bits))
+bits_above test (suc skip) count from word bits =
+    let all : suc skip + count ≡ suc (skip + count) = omega arith in
+    let there : from + 1 + skip ≡ from + suc skip = omega arith in
+    let next : 1 + skip ≡ suc skip = omega arith in
+    let half : word / 2 / 2 ^ skip ≡ word / 2 ^ suc skip = shr-shr word 1 skip ∙ ap (λ (n : ℕ). word / 2 ^ n) next in
+    let later = first_bit test (skip + count) from word (subst (λ (n : ℕ). AreBits test n from word) all bits) in
+    subst (λ (n : ℕ). AreBits test count n (word / 2 ^ suc skip)) there
+    (subst (λ (w : ℕ). AreBits test count (from + 1 + skip) w) half (bits_above test skip count (from + 1) (word / 2) later.1))
+
+low_digit : (rest digit word : ℕ) → word ≡ rest * 2 + digit → digit < 2 → (word % 2 ≡ digit) × (rest ≡ word / 2)
+low_digit rest digit word is few = (omega arith, omega arith)
+
+-- the lowest ones
+pub bits_low : (test : ℕ → Bool) (count more from word : ℕ) → AreBits test (count + more) from word → AreBits test count from (word % 2 ^ count)
+unfolding AreBits
+bits_low test zero more from word bits = omega arith
+bits_low test (suc count) more from word bits =
+    let all : suc count + more ≡ suc (count + more) = omega arith in
+    let next : count + 1 ≡ suc count = omega arith in
+    let here = first_bit test (count + more) from word (subst (λ (n : ℕ). AreBits test n from word) all bits) in
+    let parts = low_digit (word / 2 % 2 ^ count) (word % 2) (word % 2 ^ suc count)
+    (ap (λ (n : ℕ). word % 2 ^ n) (sym next) ∙ mod-pow-add word count 1) (omega arith) in (
+      ap (λ (n : ℕ). n == 1) parts.0 ∙ here.0,
+      subst (λ (w : ℕ). AreBits test count (from + 1) w) parts.1 (bits_low test count more (from + 1) (word / 2) here.1),
+    )
+
+-- a bucket's four parents lie in one word
+pub parents_word : (test : ℕ → Bool) (bucket word four : ℕ) → AreBits test 16 (16 * (bucket / 4)) word → four ≡ word / 2 ^ (4 * (bucket % 4)) % 16 →
+    AreBits test 4 (4 * bucket) four
+parents_word test bucket word four bits is =
+    let skip : ℕ = 4 * (bucket % 4) in
+    let all : 16 ≡ skip + (4 + (12 - skip)) = omega arith in
+    let there : 16 * (bucket / 4) + skip ≡ 4 * bucket = omega arith in
+    let above = bits_above test skip (4 + (12 - skip)) (16 * (bucket / 4)) word
+    (subst (λ (n : ℕ). AreBits test n (16 * (bucket / 4)) word) all bits) in
+    let low = bits_low test 4 (12 - skip) (16 * (bucket / 4) + skip) (word / 2 ^ skip) above in
+    subst (λ (n : ℕ). AreBits test 4 n four) there (subst (λ (w : ℕ). AreBits test 4 (16 * (bucket / 4) + skip) w) (sym is) low)

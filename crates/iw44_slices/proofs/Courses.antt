@@ -1,11 +1,15 @@
 -- What holds of the coefficients along the course of a slice.
-use Rattle.std.proofs.Common.{◌≡◌, ◌≢◌, ℕ, zero, suc, ◌+◌, ◌-◌, ◌*◌, ◌/◌, ◌<◌, ◌≤◌, Bool, true, false, ◌&&◌, ◌||◌, List, [], ◌∷◌, ◌++◌, length, ℤ, pos, unsigned_abs, eqb-true, inl, inr, refl, ap, sym, ◌∙◌, subst, arith, get_or}
+use Rattle.std.proofs.Common.{◌≡◌, ◌≢◌, ℕ, zero, suc, ◌+◌, ◌-◌, ◌*◌, ◌/◌, ◌<◌, ◌≤◌, Bool, true, false, ◌&&◌, ◌||◌, List, [], ◌∷◌, ◌++◌, length, ℤ, pos}
+use Rattle.std.proofs.Common.{unsigned_abs, eqb-true, inl, inr, refl, ap, sym, ◌∙◌, subst, arith, get_or}
 use Rattle.std.specs.Prelude.{if◌then◌else◌, ◌⊎◌, not, ◌==◌}
 use Rattle.std.proofs.lemmas.Bool.{cases_lt, cases_eq}
 use Rattle.std.proofs.lemmas.List.{get_or-set_same, get_or-set_other, get_or_past, set_past, length_push}
 use Rattle.iw44_blocks.specs.Plane.{Plane, block_count, coefficient, with_coefficient}
 use Rattle.iw44_slices.specs.Bands.{band_of, first_bucket, bucket_count, threshold, is_in_use}
-use Rattle.iw44_slices.specs.Slice.{Place, Course, is_zero, threshold_at, before_at, is_active, is_unknown, some_from, is_active_band, has_unknown, unknowns, start_size, signed, is_negative, raised_value, raises, all_raises, starts, all_starts, choices, block_course, blocks_course, does_something, slice_course}
+use Rattle.iw44_slices.specs.Slice.{Place, Course, threshold_at, before_at, is_active, is_unknown, some_from, is_active_band, has_unknown, unknowns, start_size}
+use Rattle.iw44_slices.specs.Slice.{signed, is_negative, raised_value, raises, all_raises, starts, all_starts, choices, block_course, blocks_course}
+use Rattle.iw44_slices.specs.Slice.{does_something, slice_course}
+use Rattle.iw44_blocks.specs.Words.{is_zero}
 use Rattle.iw44_slices.specs.Sizes.{IsRaised, IsDue, InBand, Along}
 use Rattle.iw44_slices.proofs.Sizes.{halved_at, start_due, raise_due, idle_due, due_small}
 
@@ -20,7 +24,8 @@ end_of band = 16 * first_bucket band + 16 * bucket_count band
 record Kept (at : Place) (K : ℕ → Plane → Type 0) (P Q : Plane → Type 0) (rest : Plane → Course) : Type 0 where
   started : (plane : Plane) (i : ℕ) (negative : Bool) → InBand (band_of at.slice) i → is_unknown at i ≡ true → K (first_of (band_of at.slice)) plane →
       K (first_of (band_of at.slice)) (with_coefficient plane at.block i (signed negative (start_size (threshold_at at i))))
-  raised : (plane : Plane) (i : ℕ) (bit : Bool) → InBand (band_of at.slice) i → is_active at i ≡ true → K i plane → K (i + 1) (with_coefficient plane at.block i (raised_value at i bit))
+  raised : (plane : Plane) (i : ℕ) (bit : Bool) → InBand (band_of at.slice) i → is_active at i ≡ true → K i plane →
+      K (i + 1) (with_coefficient plane at.block i (raised_value at i bit))
   skipped : (plane : Plane) (i : ℕ) → InBand (band_of at.slice) i → is_active at i ≡ false → K i plane → K (i + 1) plane
   asked : (plane : Plane) (i : ℕ) → K i plane → P plane
   goes : (plane : Plane) → K (end_of (band_of at.slice)) plane → Along P Q (rest plane)
@@ -31,16 +36,23 @@ along_if P Q false a b h k = k refl
 
 raises_along : (at : Place) (K : ℕ → Plane → Type 0) (P Q : Plane → Type 0) (rest : Plane → Course) (count i : ℕ) (plane : Plane) → Kept at K P Q rest →
     first_of (band_of at.slice) ≤ i → i + count ≡ end_of (band_of at.slice) → K i plane → Along P Q (raises at rest count i plane)
-raises_along at K P Q rest zero i plane kept low all is = kept.goes plane (subst (λ (n : ℕ). K n plane) (let same : i ≡ end_of (band_of at.slice) = omega arith in same) is)
+raises_along at K P Q rest zero i plane kept low all is = kept.goes plane
+    (subst (λ (n : ℕ). K n plane) (let same : i ≡ end_of (band_of at.slice) = omega arith in same) is)
 raises_along at K P Q rest (suc count) i plane kept low all is =
     let here : InBand (band_of at.slice) i = record { first = low; last = omega arith } in
     along_if P Q (is_active at i) _ _
-    (λ active. (kept.asked plane i is, λ bit. raises_along at K P Q rest count (i + 1) (with_coefficient plane at.block i (raised_value at i bit)) kept (omega arith) (omega arith) (kept.raised plane i bit here active is)))
+    (λ active. (
+      kept.asked plane i is,
+      λ bit. raises_along at K P Q rest count (i + 1) (with_coefficient plane at.block i (raised_value at i bit)) kept
+          (omega arith) (omega arith) (kept.raised plane i bit here active is),
+    ))
     (λ idle. raises_along at K P Q rest count (i + 1) plane kept (omega arith) (omega arith) (kept.skipped plane i here idle is))
 
-starts_along : (at : Place) (K : ℕ → Plane → Type 0) (P Q : Plane → Type 0) (rest later : Plane → Course) (bucket count i left : ℕ) (plane : Plane) → Kept at K P Q rest →
+starts_along : (at : Place) (K : ℕ → Plane → Type 0) (P Q : Plane → Type 0) (rest later : Plane → Course) (bucket count i left : ℕ) (plane : Plane) →
+    Kept at K P Q rest →
     ((after : Plane) → K (first_of (band_of at.slice)) after → Along P Q (later after)) →
-    first_of (band_of at.slice) ≤ i → i + count ≤ end_of (band_of at.slice) → K (first_of (band_of at.slice)) plane → Along P Q (starts at later bucket count i left plane)
+    first_of (band_of at.slice) ≤ i → i + count ≤ end_of (band_of at.slice) → K (first_of (band_of at.slice)) plane →
+    Along P Q (starts at later bucket count i left plane)
 starts_along at K P Q rest later bucket zero i left plane kept goes low all is = goes plane is
 starts_along at K P Q rest later bucket (suc count) i left plane kept goes low all is =
     let here : InBand (band_of at.slice) i = record { first = low; last = omega arith } in
@@ -51,14 +63,16 @@ starts_along at K P Q rest later bucket (suc count) i left plane kept goes low a
       λ starting. along_if P Q starting _ _
           (λ yes'. (
             ask,
-            λ negative. starts_along at K P Q rest later bucket count (i + 1) 0 (with_coefficient plane at.block i (signed negative (start_size (threshold_at at i)))) kept goes (omega arith) (omega arith)
+            λ negative. starts_along at K P Q rest later bucket count (i + 1) 0
+                (with_coefficient plane at.block i (signed negative (start_size (threshold_at at i)))) kept goes (omega arith) (omega arith)
                 (kept.started plane i negative here unknown is),
           ))
           (λ no'. starts_along at K P Q rest later bucket count (i + 1) (left - 1) plane kept goes (omega arith) (omega arith) is),
     ))
     (λ known. starts_along at K P Q rest later bucket count (i + 1) left plane kept goes (omega arith) (omega arith) is)
 
-all_starts_along : (at : Place) (K : ℕ → Plane → Type 0) (P Q : Plane → Type 0) (rest : Plane → Course) (bucket : ℕ) (chosen : List Bool) (plane : Plane) → Kept at K P Q rest →
+all_starts_along : (at : Place) (K : ℕ → Plane → Type 0) (P Q : Plane → Type 0) (rest : Plane → Course) (bucket : ℕ) (chosen : List Bool) (plane : Plane) →
+    Kept at K P Q rest →
     first_bucket (band_of at.slice) ≤ bucket → bucket + length chosen ≤ first_bucket (band_of at.slice) + bucket_count (band_of at.slice) →
     K (first_of (band_of at.slice)) plane → Along P Q (all_starts at (all_raises at rest) bucket chosen plane)
 all_starts_along at K P Q rest bucket [] plane kept low all is =
@@ -66,9 +80,11 @@ all_starts_along at K P Q rest bucket [] plane kept low all is =
 all_starts_along at K P Q rest bucket (true ∷ later) plane kept low all is =
     starts_along at K P Q rest (all_starts at (all_raises at rest) (bucket + 1) later) bucket 16 (16 * bucket) (unknowns at bucket) plane kept
     (λ after holds. all_starts_along at K P Q rest (bucket + 1) later after kept (omega arith) (omega arith) holds) (omega arith) (omega arith) is
-all_starts_along at K P Q rest bucket (false ∷ later) plane kept low all is = all_starts_along at K P Q rest (bucket + 1) later plane kept (omega arith) (omega arith) is
+all_starts_along at K P Q rest bucket (false ∷ later) plane kept low all is =
+    all_starts_along at K P Q rest (bucket + 1) later plane kept (omega arith) (omega arith) is
 
-choices_along : (at : Place) (K : ℕ → Plane → Type 0) (P Q : Plane → Type 0) (rest : Plane → Course) (count bucket : ℕ) (chosen : List Bool) → Kept at K P Q rest →
+choices_along : (at : Place) (K : ℕ → Plane → Type 0) (P Q : Plane → Type 0) (rest : Plane → Course) (count bucket : ℕ) (chosen : List Bool) →
+    Kept at K P Q rest →
     first_bucket (band_of at.slice) + length chosen + count ≡ first_bucket (band_of at.slice) + bucket_count (band_of at.slice) →
     K (first_of (band_of at.slice)) at.before → Along P Q (choices at rest count bucket chosen)
 choices_along at K P Q rest zero bucket chosen kept all is =
@@ -76,7 +92,11 @@ choices_along at K P Q rest zero bucket chosen kept all is =
 choices_along at K P Q rest (suc count) bucket chosen kept all is =
     let more = λ (bit : Bool). length_push chosen bit in
     along_if P Q (has_unknown at bucket) _ _
-    (λ some. (kept.asked at.before (first_of (band_of at.slice)) is, λ bit. choices_along at K P Q rest count (bucket + 1) (chosen ++ bit ∷ []) kept (let e = more bit in omega arith) is))
+    (λ some. (
+      kept.asked at.before (first_of (band_of at.slice)) is,
+      λ bit. choices_along at K P Q rest count (bucket + 1) (chosen ++ bit ∷ []) kept
+          (let e = more bit in omega arith) is,
+    ))
     (λ none. choices_along at K P Q rest count (bucket + 1) (chosen ++ false ∷ []) kept (let e = more false in omega arith) is)
 
 or_false : (a b : Bool) → (a || b) ≡ false → (a ≡ false) × (b ≡ false)
@@ -93,19 +113,22 @@ none_of test (suc count) from i e low high =
     ]
 
 -- where no coefficient is active, none is raised
-skip_all : (at : Place) (K : ℕ → Plane → Type 0) (P Q : Plane → Type 0) (rest : Plane → Course) (count i : ℕ) (plane : Plane) → Kept at K P Q rest → is_active_band at ≡ false →
+skip_all : (at : Place) (K : ℕ → Plane → Type 0) (P Q : Plane → Type 0) (rest : Plane → Course) (count i : ℕ) (plane : Plane) → Kept at K P Q rest →
+    is_active_band at ≡ false →
     first_of (band_of at.slice) ≤ i → i + count ≡ end_of (band_of at.slice) → K i plane → K (end_of (band_of at.slice)) plane
 skip_all at K P Q rest zero i plane kept idle low all is = subst (λ (n : ℕ). K n plane) (let same : i ≡ end_of (band_of at.slice) = omega arith in same) is
 skip_all at K P Q rest (suc count) i plane kept idle low all is =
     skip_all at K P Q rest count (i + 1) plane kept idle (omega arith) (omega arith)
-    (kept.skipped plane i (record { first = low; last = omega arith }) (none_of (is_active at) (16 * bucket_count (band_of at.slice)) (16 * first_bucket (band_of at.slice)) i idle low (omega arith)) is)
+    (kept.skipped plane i (record { first = low; last = omega arith })
+    (none_of (is_active at) (16 * bucket_count (band_of at.slice)) (16 * first_bucket (band_of at.slice)) i idle low (omega arith)) is)
 
 not_and : (a b : Bool) → (a && not b) ≡ true → b ≡ false
 not_and true true e = cc
 not_and true false e = refl
 not_and false b e = cc
 
-block_along : (at : Place) (K : ℕ → Plane → Type 0) (P Q : Plane → Type 0) (rest : Plane → Course) → Kept at K P Q rest → K (first_of (band_of at.slice)) at.before → Along P Q (block_course at rest)
+block_along : (at : Place) (K : ℕ → Plane → Type 0) (P Q : Plane → Type 0) (rest : Plane → Course) → Kept at K P Q rest →
+    K (first_of (band_of at.slice)) at.before → Along P Q (block_course at rest)
 block_along at K P Q rest kept is =
     let goes = choices_along at K P Q rest (bucket_count (band_of at.slice)) (first_bucket (band_of at.slice)) [] kept (omega arith) is in
     along_if P Q ((bucket_count (band_of at.slice) == 16) && not (is_active_band at)) _ _
@@ -120,15 +143,19 @@ block_along at K P Q rest kept is =
 -- one coefficient, by its block and index
 
 -- another one is as it was
-other_value : (plane : Plane) (b i c m : ℕ) (value : ℤ) → i < 1024 → m < 1024 → (b ≢ c) ⊎ (i ≢ m) → coefficient (with_coefficient plane b i value) c m ≡ coefficient plane c m
+other_value : (plane : Plane) (b i c m : ℕ) (value : ℤ) → i < 1024 → m < 1024 → (b ≢ c) ⊎ (i ≢ m) →
+    coefficient (with_coefficient plane b i value) c m ≡ coefficient plane c m
 other_value plane b i c m value low high apart =
-    get_or-set_other plane.numbers (1024 * b + i) (1024 * c + m) value (pos 0) (λ e. elim apart [ inl blocks ↦ blocks (omega arith) | inr indices ↦ indices (omega arith) ])
+    get_or-set_other plane.numbers (1024 * b + i) (1024 * c + m) value (pos 0)
+    (λ e. elim apart [ inl blocks ↦ blocks (omega arith) | inr indices ↦ indices (omega arith) ])
 
 -- the same one is as it was put, where it is one of the plane's
-put_value : (plane : Plane) (b i : ℕ) (value : ℤ) → (coefficient (with_coefficient plane b i value) b i ≡ value) ⊎ (coefficient (with_coefficient plane b i value) b i ≡ pos 0)
+put_value : (plane : Plane) (b i : ℕ) (value : ℤ) → (coefficient (with_coefficient plane b i value) b i ≡ value) ⊎
+    (coefficient (with_coefficient plane b i value) b i ≡ pos 0)
 put_value plane b i value = elim (cases_lt (1024 * b + i) (length plane.numbers)) [
   | inl inside ↦ inl (get_or-set_same plane.numbers (1024 * b + i) value (pos 0) inside)
-  | inr past ↦ inr (ap (λ (numbers : List ℤ). get_or numbers (1024 * b + i) (pos 0)) (set_past plane.numbers (1024 * b + i) value past) ∙ get_or_past plane.numbers (1024 * b + i) (pos 0) past)
+  | inr past ↦ inr (ap (λ (numbers : List ℤ). get_or numbers (1024 * b + i) (pos 0)) (set_past plane.numbers (1024 * b + i) value past)
+      ∙ get_or_past plane.numbers (1024 * b + i) (pos 0) past)
 ]
 
 due_is : (t : ℕ) (v w : ℤ) → v ≡ w → IsDue t w → IsDue t v
@@ -161,7 +188,8 @@ and_true false b e = cc
 
 -- an active coefficient isn't 0
 active_facts : (at : Place) (i : ℕ) → is_active at i ≡ true → (is_in_use (threshold_at at i) ≡ true) × (is_zero (before_at at i) ≡ false)
-active_facts at i e = let both = and_true (is_in_use (threshold_at at i)) (not (is_zero (before_at at i))) e in (both.0, not_and true (is_zero (before_at at i)) both.1)
+active_facts at i e = let both = and_true (is_in_use (threshold_at at i)) (not (is_zero (before_at at i))) e in
+    (both.0, not_and true (is_zero (before_at at i)) both.1)
 
 raised_of : (t : ℕ) (value : ℤ) → IsDue t value → is_zero value ≡ false → IsRaised t (unsigned_abs value)
 raised_of t value (inl empty) e = absurd (let same : is_zero value ≡ true = ap (λ (n : ℕ). n == 0) empty in let wrong = sym same ∙ e in cc)
@@ -171,7 +199,8 @@ zero_size : (value : ℤ) → is_zero value ≡ true → unsigned_abs value ≡ 
 zero_size value e = eqb-true (unsigned_abs value) 0 e
 
 -- a coefficient that isn't active is 0, or its threshold isn't in use
-idle_after : (t : ℕ) (value : ℤ) (used : Bool) (empty : Bool) → is_in_use t ≡ used → is_zero value ≡ empty → (used && not empty) ≡ false → IsDue t value → IsDue (t / 2) value
+idle_after : (t : ℕ) (value : ℤ) (used : Bool) (empty : Bool) → is_in_use t ≡ used → is_zero value ≡ empty → (used && not empty) ≡ false → IsDue t value →
+    IsDue (t / 2) value
 idle_after t value false empty u z e is = idle_due t value u is
 idle_after t value true true u z e is = inl (zero_size value z)
 idle_after t value true false u z e is = cc
@@ -189,7 +218,8 @@ earlier : (active : Bool) (i m : ℕ) → i ≢ m → (active ≡ false) ⊎ (m 
 earlier active i m apart (inl idle) = inl idle
 earlier active i m apart (inr low) = inr (omega arith)
 
-doing : (at : Place) (m : ℕ) (P Q : Plane → Type 0) (rest : Plane → Course) → InBand (band_of at.slice) m → m < 1024 → end_of (band_of at.slice) ≤ 1024 → IsDue (threshold at.slice m) (before_at at m) →
+doing : (at : Place) (m : ℕ) (P Q : Plane → Type 0) (rest : Plane → Course) → InBand (band_of at.slice) m → m < 1024 → end_of (band_of at.slice) ≤ 1024 →
+    IsDue (threshold at.slice m) (before_at at m) →
     ((plane : Plane) → Small at.block m plane → P plane) → ((plane : Plane) → After at.slice at.block m plane → Along P Q (rest plane)) →
     Kept at (Doing at at.block m) P Q rest
 doing at m P Q rest here small within is_due asks goes = record {
@@ -236,7 +266,8 @@ as_it_was : (at : Place) (c m : ℕ) (x : ℤ) (P Q : Plane → Type 0) (rest : 
     ((i : ℕ) → InBand (band_of at.slice) i → (at.block ≢ c) ⊎ (i ≢ m)) → ((plane : Plane) → coefficient plane c m ≡ x → P plane) →
     ((plane : Plane) → coefficient plane c m ≡ x → Along P Q (rest plane)) → Kept at (λ i plane. coefficient plane c m ≡ x) P Q rest
 as_it_was at c m x P Q rest small within apart asks goes = record {
-  started = λ plane i negative there unknown is. other_value plane at.block i c m (signed negative (start_size (threshold_at at i))) (below at i there within) small (apart i there) ∙ is;
+  started = λ plane i negative there unknown is. other_value plane at.block i c m (signed negative (start_size (threshold_at at i)))
+      (below at i there within) small (apart i there) ∙ is;
   raised = λ plane i bit there active is. other_value plane at.block i c m (raised_value at i bit) (below at i there within) small (apart i there) ∙ is;
   skipped = λ plane i there idle is. is;
   asked = λ plane i is. asks plane is;
@@ -258,7 +289,8 @@ ends_within (suc (suc (suc (suc (suc (suc (suc (suc (suc zero))))))))) = omega a
 ends_within (suc (suc (suc (suc (suc (suc (suc (suc (suc (suc band)))))))))) = omega arith
 
 -- blocks in order: a coefficient of the slice's band
-blocks_do : (slice c m count b : ℕ) (plane : Plane) → InBand (band_of slice) m → c < b + count → (b ≤ c → IsDue (threshold slice m) (coefficient plane c m)) → (c < b → After slice c m plane) →
+blocks_do : (slice c m count b : ℕ) (plane : Plane) → InBand (band_of slice) m → c < b + count → (b ≤ c → IsDue (threshold slice m) (coefficient plane c m)) →
+    (c < b → After slice c m plane) →
     Along (Small c m) (After slice c m) (blocks_course slice count b plane)
 blocks_do slice c m zero b plane here all before after = after (omega arith)
 blocks_do slice c m (suc count) b plane here all before after =
@@ -268,25 +300,33 @@ blocks_do slice c m (suc count) b plane here all before after =
     let rest : Plane → Course = λ then'. blocks_course slice count (b + 1) then' in
     elim (cases_eq b c) [
       | inl same ↦
-          let is : IsDue (threshold slice m) (coefficient plane b m) = subst (λ (n : ℕ). IsDue (threshold slice m) (coefficient plane n m)) (sym same) (before (omega arith)) in
+          let is : IsDue (threshold slice m) (coefficient plane b m) =
+          subst (λ (n : ℕ). IsDue (threshold slice m) (coefficient plane n m)) (sym same) (before (omega arith)) in
           let first : Doing at b m (first_of (band_of slice)) plane = (
             due_small (threshold slice m) (coefficient plane b m) is,
             λ done. elim done [
-              | inl idle ↦ idle_after (threshold slice m) (coefficient plane b m) (is_in_use (threshold slice m)) (is_zero (coefficient plane b m)) refl refl idle is
+              | inl idle ↦ idle_after (threshold slice m) (coefficient plane b m) (is_in_use (threshold slice m))
+                  (is_zero (coefficient plane b m)) refl refl idle is
               | inr low ↦ absurd (let high = here.first in omega arith)
             ],
           ) in
           block_along at (Doing at b m) (Small c m) (After slice c m) rest
           (doing at m (Small c m) (After slice c m) rest here small within is
           (λ then' low. subst (λ (n : ℕ). Small n m then') same low)
-          (λ then' done. blocks_do slice c m count (b + 1) then' here (omega arith) (λ late. absurd (omega arith)) (λ early. subst (λ (n : ℕ). After slice n m then') same done)))
+          (λ then' done. blocks_do slice c m count (b + 1) then' here (omega arith) (λ late. absurd (omega arith))
+          (λ early. subst (λ (n : ℕ). After slice n m then') same done)))
           first
       | inr apart ↦
           let value = coefficient plane c m in
-          let low : Small c m plane = elim (cases_lt c b) [ inl done ↦ after_small slice c m plane (after done) | inr later ↦ due_small (threshold slice m) (coefficient plane c m) (before (omega arith)) ] in
+          let low : Small c m plane = elim (cases_lt c b) [
+            | inl done ↦ after_small slice c m plane (after done)
+            | inr later ↦ due_small (threshold slice m)
+                (coefficient plane c m) (before (omega arith))
+          ] in
           block_along at (λ i then'. coefficient then' c m ≡ value) (Small c m) (After slice c m) rest
           (as_it_was at c m value (Small c m) (After slice c m) rest small within (λ i there. inl apart) (λ then' is. small_as _ _ is low)
-          (λ then' is. blocks_do slice c m count (b + 1) then' here (omega arith) (λ late. due_is _ _ _ is (before (omega arith))) (λ early. due_is _ _ _ is (after (omega arith)))))
+          (λ then' is. blocks_do slice c m count (b + 1) then' here (omega arith) (λ late. due_is _ _ _ is (before (omega arith)))
+          (λ early. due_is _ _ _ is (after (omega arith)))))
           refl
     ]
 
@@ -309,7 +349,8 @@ slice_does slice c m plane here inside is =
     along_if (Small c m) (After slice c m) (does_something slice) _ _
     (λ some. blocks_do slice c m (block_count plane) 0 plane here (omega arith) (λ late. is) (λ early. absurd (omega arith)))
     (λ none. idle_due (threshold slice m) (coefficient plane c m)
-    (none_of (λ index. is_in_use (threshold slice index)) (16 * bucket_count (band_of slice)) (16 * first_bucket (band_of slice)) m none here.first here.last) is)
+    (none_of (λ index. is_in_use (threshold slice index)) (16 * bucket_count (band_of slice)) (16 * first_bucket (band_of slice)) m none here.first here.last)
+    is)
 
 pub slice_keeps : (slice c m : ℕ) (plane : Plane) → m < 1024 → (InBand (band_of slice) m → ⊥) → unsigned_abs (coefficient plane c m) ≤ 32767 →
     Along (Small c m) (λ after. coefficient after c m ≡ coefficient plane c m) (slice_course slice plane)
@@ -318,7 +359,8 @@ slice_keeps slice c m plane small apart low =
     (λ some. blocks_keep slice c m (block_count plane) 0 plane (coefficient plane c m) small apart low refl) (λ none. refl)
 
 -- the size of the plane stays
-same_count : (at : Place) (n : ℕ) (rest : Plane → Course) → ((plane : Plane) → block_count plane ≡ n → Along (λ p. block_count p ≡ n) (λ p. block_count p ≡ n) (rest plane)) →
+same_count : (at : Place) (n : ℕ) (rest : Plane → Course) → ((plane : Plane) → block_count plane ≡ n →
+    Along (λ p. block_count p ≡ n) (λ p. block_count p ≡ n) (rest plane)) →
     Kept at (λ i plane. block_count plane ≡ n) (λ p. block_count p ≡ n) (λ p. block_count p ≡ n) rest
 same_count at n rest goes = record {
   started = λ plane i negative there unknown is. is;
@@ -328,7 +370,8 @@ same_count at n rest goes = record {
   goes = goes;
 }
 
-blocks_count : (slice n count b : ℕ) (plane : Plane) → block_count plane ≡ n → Along (λ p. block_count p ≡ n) (λ p. block_count p ≡ n) (blocks_course slice count b plane)
+blocks_count : (slice n count b : ℕ) (plane : Plane) → block_count plane ≡ n →
+    Along (λ p. block_count p ≡ n) (λ p. block_count p ≡ n) (blocks_course slice count b plane)
 blocks_count slice n zero b plane is = is
 blocks_count slice n (suc count) b plane is =
     let at : Place = record { slice = slice; block = b; before = plane } in
@@ -336,7 +379,8 @@ blocks_count slice n (suc count) b plane is =
     block_along at (λ i then'. block_count then' ≡ n) (λ p. block_count p ≡ n) (λ p. block_count p ≡ n) rest
     (same_count at n rest (λ then' same. blocks_count slice n count (b + 1) then' same)) is
 
-pub slice_counts : (slice : ℕ) (plane : Plane) → Along (λ p. block_count p ≡ block_count plane) (λ p. block_count p ≡ block_count plane) (slice_course slice plane)
+pub slice_counts : (slice : ℕ) (plane : Plane) → Along (λ p. block_count p ≡ block_count plane) (λ p. block_count p ≡ block_count plane)
+    (slice_course slice plane)
 slice_counts slice plane =
     along_if (λ p. block_count p ≡ block_count plane) (λ p. block_count p ≡ block_count plane) (does_something slice) _ _
     (λ some. blocks_count slice (block_count plane) (block_count plane) 0 plane refl) (λ none. refl)

@@ -5,7 +5,8 @@ use Rattle.std.specs.Prelude.{not}
 use Rattle.std.proofs.lemmas.List.{get_or-set_same, get_or-set_other}
 use Rattle.iw44_blocks.specs.Plane.{Plane, IsPlane, IsSmall, block_count, coefficient, with_coefficient}
 use Rattle.iw44_slices.specs.Bands.{band_of, bucket_count, threshold, is_in_use}
-use Rattle.iw44_slices.specs.Slice.{Place, Asked, In, Plain, Course, Asks, is_active, is_unknown, is_zero, is_negative, before_at, threshold_at}
+use Rattle.iw44_slices.specs.Slice.{Place, Asked, In, Plain, Course, Asks, is_active, is_unknown, is_negative, before_at, threshold_at}
+use Rattle.iw44_blocks.specs.Words.{is_zero}
 use Rattle.iw44_slices.specs.Slice.{start_size, signed, raised, raised_value, raise_asked, bucket_context, start_context, starts}
 use Rattle.iw44_slices.specs.Slice.{raises}
 use Rattle.iw44_slices.specs.Reading.{plane_of}

@@ -7,7 +7,8 @@ use Rattle.std.proofs.lemmas.Bool.Decides.{nat_tests}
 use Rattle.iw44_blocks.specs.Plane.{Plane, block_count, coefficient}
 use Rattle.iw44_slices.specs.Bands.{band_of, bucket_count, threshold, is_in_use}
 use Rattle.iw44_slices.specs.Contexts.{Bucket, Start, Mantissa}
-use Rattle.iw44_slices.specs.Slice.{Place, Asked, In, Plain, Course, Ended, Asks, is_active, is_unknown, is_active_band, is_active_bucket, is_zero}
+use Rattle.iw44_slices.specs.Slice.{Place, Asked, In, Plain, Course, Ended, Asks, is_active, is_unknown, is_active_band, is_active_bucket}
+use Rattle.iw44_blocks.specs.Words.{is_zero}
 use Rattle.iw44_slices.specs.Slice.{before_at, threshold_at, parents, parents_in, bucket_context, start_context, raise_asked, is_large, choices, starts}
 use Rattle.iw44_slices.specs.Slice.{raises}
 use Rattle.iw44_slices.specs.Kept.{number_of, Names}

@@ -6,14 +6,16 @@ use Rattle.std.specs.Int.Count.{ones}
 use Rattle.std.proofs.lemmas.Bool.Decides.{nat_tests}
 use Rattle.iw44_blocks.specs.Plane.{Plane}
 use Rattle.iw44_slices.specs.Bands.{band_of, first_bucket, bucket_count, threshold, is_in_use}
-use Rattle.iw44_slices.specs.Slice.{Place, Course, is_active, is_unknown, raises, all_raises, starts, all_starts, choices, is_zero, before_at}
-use Rattle.iw44_slices.specs.Kept.{AreBits}
+use Rattle.iw44_slices.specs.Slice.{Place, Course, is_active, is_unknown, raises, all_raises, starts, all_starts, choices, before_at}
+use Rattle.iw44_blocks.specs.Words.{is_zero}
+use Rattle.iw44_blocks.specs.Words.{AreBits}
 use Rattle.iw44_slices.specs.Reader.{place_in, first_at, count_at, later_blocks, AreMarked, InBucket, from_bucket}
 use Rattle.iw44_slices.specs.Reader.{Left}
 use Rattle.iw44_slices.specs.Moves.{is_settled}
 use Rattle.iw44_slices.specs.declared.spots.Spot.{Spot}
 use Rattle.iw44_slices.specs.declared.spots.Stage.TheVariants as stage
-use Rattle.iw44_slices.proofs.Bits.{none_bits, all_bits, zero_none, first_bit, some_left, ones_are}
+use Rattle.iw44_blocks.proofs.Lemmas.{none_bits}
+use Rattle.iw44_slices.proofs.Bits.{all_bits, zero_none, first_bit, some_left, ones_are}
 use Rattle.iw44_slices.proofs.Courses.{ends_within}
 use Rattle.iw44_slices.proofs.Skipping.{raises_pass, raises_none, starts_pass, starts_none, choices_pass, choice_kept, bucket_left_out, bucket_starts}
 use Rattle.iw44_slices.proofs.Skipping.{buckets_end}

@@ -9,7 +9,7 @@ use Rattle.iw44_slices.specs.Contexts.{Root}
 use Rattle.iw44_slices.specs.Slice.{Place, Course, Ended, Asks, In, Plain, threshold_at, is_active, is_unknown, is_active_band, has_unknown, unknowns}
 use Rattle.iw44_slices.specs.Slice.{start_size, signed, bucket_context, start_context, raise_asked, raised_value, raises, all_raises, starts, all_starts}
 use Rattle.iw44_slices.specs.Slice.{choices, all_choices, block_course, blocks_course}
-use Rattle.iw44_slices.specs.Kept.{AreBits}
+use Rattle.iw44_blocks.specs.Words.{AreBits}
 use Rattle.iw44_slices.specs.Reader.{place_at, first_at, count_at, chosen_from, from_bucket}
 use Rattle.iw44_slices.proofs.Bits.{first_bit}
 

@@ -1,5 +1,5 @@
 -- How contexts and tests are kept.
-use Rattle.std.specs.Prelude.{◌≡◌, ℕ, zero, suc, ◌+◌, ◌*◌, ◌/◌, ◌%◌, ◌<◌, ◌==◌, Bool, ◌&&◌, nat_lt, slice_index, if◌then◌else◌}
+use Rattle.std.specs.Prelude.{◌≡◌, ℕ, ◌+◌, ◌*◌, ◌<◌, ◌&&◌, nat_lt, slice_index, if◌then◌else◌}
 use Rattle.iw44_slices.specs.Contexts.{Context, Root, Bucket, Start, Mantissa}
 use Rattle.iw44_slices.specs.Slice.{Asked, In, Plain}
 use Rattle.iw44_slices.specs.Reading.{States}
@@ -28,8 +28,3 @@ Names (In context) (question.In number) = (number_of context ≡ number) × (num
 Names (In context) question.Plain = ⊥
 Names Plain (question.In number) = ⊥
 Names Plain question.Plain = Unit {0}
-
--- the bits of a word, from the lowest on, are what a test says of so many numbers from one on, and it has no others
-unfoldable pub AreBits : (ℕ → Bool) → ℕ → ℕ → ℕ → Type 0
-AreBits test zero from word = word ≡ 0
-AreBits test (suc count) from word = ((word % 2 == 1) ≡ test from) × AreBits test count (from + 1) (word / 2)

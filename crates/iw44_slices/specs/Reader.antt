@@ -10,7 +10,8 @@ use Rattle.iw44_slices.specs.Slice.{Place, Course, Ended, Asks, In, Plain, thres
 use Rattle.iw44_slices.specs.Slice.{raises, all_raises, starts, all_starts, choices, all_choices, blocks_course, does_something, slice_course}
 use Rattle.iw44_slices.specs.Reading.{States, Reading, standing, read_on}
 use Rattle.iw44_slices.specs.Sizes.{AreDue, Along}
-use Rattle.iw44_slices.specs.Kept.{AreBits, states_in}
+use Rattle.iw44_slices.specs.Kept.{states_in}
+use Rattle.iw44_blocks.specs.Words.{AreBits}
 use Rattle.iw44_slices.specs.declared.contexts.Contexts.{Contexts}
 use Rattle.iw44_slices.specs.declared.spots.Spot.{Spot}
 use Rattle.iw44_slices.specs.declared.spots.Stage.{Stage}

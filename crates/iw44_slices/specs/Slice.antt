@@ -1,6 +1,8 @@
 -- What a slice of a plane reads: its decisions in order, and the coefficients that they make.
-use Rattle.std.specs.Prelude.{ℕ, zero, suc, ◌+◌, ◌-◌, ◌*◌, ◌/◌, ◌==◌, Bool, true, false, not, ◌&&◌, ◌||◌, nat_le, if◌then◌else◌, min, ℤ, pos, negsuc, ◌-ℤ◌, unsigned_abs, List, [], ◌∷◌, ◌++◌}
+use Rattle.std.specs.Prelude.{ℕ, zero, suc, ◌+◌, ◌-◌, ◌*◌, ◌/◌, ◌==◌, Bool, true, false, not, ◌&&◌, ◌||◌, nat_le, if◌then◌else◌}
+use Rattle.std.specs.Prelude.{min, ℤ, pos, negsuc, ◌-ℤ◌, unsigned_abs, List, [], ◌∷◌, ◌++◌}
 use Rattle.iw44_blocks.specs.Plane.{Plane, block_count, coefficient, with_coefficient}
+use Rattle.iw44_blocks.specs.Words.{is_zero}
 use Rattle.iw44_slices.specs.Bands.{band_of, first_bucket, bucket_count, threshold, is_in_use}
 use Rattle.iw44_slices.specs.Contexts.{Context, Root, Bucket, Start, Mantissa}
 
@@ -20,9 +22,6 @@ pub record Place : Type 0 where
   pub slice : ℕ
   pub block : ℕ
   pub before : Plane
-
-abbrev pub is_zero : ℤ → Bool
-is_zero value = unsigned_abs value == 0
 
 abbrev pub threshold_at : Place → ℕ → ℕ
 threshold_at at index = threshold at.slice index

@@ -118,8 +118,8 @@ impl Spot {
         ensures number { self.new.number ≡ self.old.number }
         ensures block { self.new.block ≡ self.old.block }
     {
-        let first = BUCKET * first_bucket(self.number);
-        let count = BUCKET * bucket_count(self.number);
+        let first = first_bucket(self.number);
+        let count = bucket_count(self.number);
         if is_uniform(self.number) && is_blank(coefficients, self.block, first, count) {
             self.is_active = false;
             self.active = [0; 16];
@@ -129,7 +129,7 @@ impl Spot {
         }
     }
 
-    /// Notes the same, coefficient by coefficient.
+    /// Notes the same, bucket by bucket.
     fn mark_each(&mut self, coefficients: &Coefficients)
         requires { self.old.block < block_count coefficients.now }
         ensures marks { AreMarked (place_in coefficients.now self.new) self.new.is_active self.new.active self.new.unknown }

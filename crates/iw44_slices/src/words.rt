@@ -1,11 +1,11 @@
 //! Which coefficients of a bucket are active, and which ones are unknown.
 ghost use Rattle.std.specs.Prelude.{◌≡◌, ℕ, ◌+◌, ◌*◌, ◌<◌, ◌≤◌, true, not, ◌&&◌, if◌then◌else◌};
 ghost use Rattle.iw44_blocks.specs.Plane.{block_count, coefficient};
-ghost use Rattle.iw44_slices.specs.Slice.{is_active, is_unknown, parents, is_zero};
-ghost use Rattle.iw44_slices.specs.Kept.{AreBits};
+ghost use Rattle.iw44_slices.specs.Slice.{is_active, is_unknown, parents};
+ghost use Rattle.iw44_blocks.specs.Words.{AreBits, is_zero};
 ghost use Rattle.iw44_slices.specs.Reader.{place_at};
 
-use crate::bands::{BUCKET, is_in_use, threshold};
+use crate::bands::{BUCKET, is_in_use, is_uniform, threshold};
 use iw44_blocks::Coefficients;
 
 /// A bit for each coefficient of a bucket, that of the first one the lowest.
@@ -17,6 +17,23 @@ pub(crate) struct Words {
 
 /// The active coefficients of a bucket, and the unknown ones.
 pub(crate) fn words_of(number: u8, coefficients: &Coefficients, block: u32, bucket: u16) -> Words
+    requires block { block < block_count coefficients.now }
+    requires bucket { bucket < 64 }
+    ensures active { AreBits (is_active (place_at number block coefficients.now)) 16 (16 * bucket) result.active }
+    ensures unknown { AreBits (is_unknown (place_at number block coefficients.now)) 16 (16 * bucket) result.unknown }
+{
+    if is_uniform(number) {
+        let active = coefficients.nonzero(block, bucket);
+        return Words {
+            active,
+            unknown: u16::MAX - active,
+        };
+    }
+    words_by_one(number, coefficients, block, bucket)
+}
+
+/// The same, coefficient by coefficient.
+fn words_by_one(number: u8, coefficients: &Coefficients, block: u32, bucket: u16) -> Words
     requires block { block < block_count coefficients.now }
     requires bucket { bucket < 64 }
     ensures active { AreBits (is_active (place_at number block coefficients.now)) 16 (16 * bucket) result.active }
@@ -67,33 +84,21 @@ pub(crate) fn parents(coefficients: &Coefficients, block: u32, bucket: u16) -> u
     ensures is { (number : ℕ) → result ≡ parents (place_at number block coefficients.now) bucket }
     ensures most { result ≤ 4 }
 {
-    let first = 4 * bucket;
-    nonzero(coefficients, block, first)
-        + nonzero(coefficients, block, first + 1)
-        + nonzero(coefficients, block, first + 2)
-        + nonzero(coefficients, block, first + 3)
+    let four = coefficients.nonzero(block, bucket / 4) >> (4 * (bucket % 4));
+    (four % 16).count_ones() as u16
 }
 
-/// Whether so many coefficients of a block are 0, from one on. None is read behind the first that isn't.
+/// Whether the coefficients of so many buckets of a block are 0, from one on. No bucket is looked at behind the first that
+/// isn't blank.
 pub(crate) fn is_blank(coefficients: &Coefficients, block: u32, first: u16, count: u16) -> bool
     requires block { block < block_count coefficients.now }
-    requires within { first + count ≤ 1024 }
-    ensures { result ≡ true → (place : ℕ) → place < count → is_zero (coefficient coefficients.now block (first + place)) ≡ true }
+    requires within { first + count ≤ 64 }
+    ensures { result ≡ true → (place : ℕ) → place < 16 * count → is_zero (coefficient coefficients.now block (16 * first + place)) ≡ true }
 {
-    for place in 0..count {
-        if !is_zero(coefficients, block, first + place) {
+    for bucket in 0..count {
+        if coefficients.nonzero(block, first + bucket) != 0 {
             return false;
         }
     }
     true
-}
-
-/// 1 for a coefficient that isn't 0.
-fn nonzero(coefficients: &Coefficients, block: u32, index: u16) -> u16
-    requires block { block < block_count coefficients.now }
-    requires index { index < 1024 }
-    ensures is { result ≡ (if not (is_zero (coefficient coefficients.now block index)) then 1 else 0) }
-    ensures most { result ≤ 1 }
-{
-    u16::from(!is_zero(coefficients, block, index))
 }

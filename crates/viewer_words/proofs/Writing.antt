@@ -1,5 +1,6 @@
 -- Words are a command exactly where they are its first word, then its option or none, and then its pages.
-use Rattle.std.proofs.Common.{◌≡◌, ℕ, ◌+◌, ◌≤◌, Bool, true, false, cond, inl, inr, Option, Some, None, Result, Ok, Err, List, [], ◌∷◌, ◌++◌, length, codes, refl, sym, ap, ◌∙◌, subst, arith}
+use Rattle.std.proofs.Common.{◌≡◌, ℕ, ◌+◌, ◌≤◌, Bool, true, false, cond, inl, inr, Option, Some, None, Result, Ok, Err, List, [], ◌∷◌, ◌++◌, length, codes}
+use Rattle.std.proofs.Common.{refl, sym, ap, ◌∙◌, subst, arith}
 use Rattle.std.specs.Str.{bytes_eq}
 use Rattle.std.proofs.lemmas.List.{append-nil}
 use Rattle.std.proofs.lemmas.List.Elements.{All-nil}
@@ -41,20 +42,23 @@ record IsMade (make : List (List ℕ) → Command) (words : List (List ℕ)) (co
   same : make words ≡ command
   listed : IsPageList words
 
-made : (first : ℕ) (make : List (List ℕ) → Command) (words : List (List ℕ)) (command : Command) (read : Result (List (List ℕ)) ℕ) → pages_of page_limit first words ≡ read → command_of make read ≡ Ok command → IsMade make words command
+made : (first : ℕ) (make : List (List ℕ) → Command) (words : List (List ℕ)) (command : Command) (read : Result (List (List ℕ)) ℕ) →
+    pages_of page_limit first words ≡ read → command_of make read ≡ Ok command → IsMade make words command
 made first make words command (Ok pages) e m =
     let read : IsRead words pages = pages_read first words pages e in
     let here : make pages ≡ command = cc in
     record { same = ap make (sym read.same) ∙ here; listed = subst IsPageList read.same read.listed }
 made first make words command (Err number) e m = cc
 
-plain_written : (word : List ℕ) (words : List (List ℕ)) (command : Command) → word ≡ codes "draw" → IsMade (Draw Djvu) words command → IsWritten (word ∷ words) command
+plain_written : (word : List ℕ) (words : List (List ℕ)) (command : Command) → word ≡ codes "draw" → IsMade (Draw Djvu) words command →
+    IsWritten (word ∷ words) command
 plain_written word words command first of =
     let spelled : word ∷ words ≡ codes "draw" ∷ ([] ++ words) = ap (λ (w : List ℕ). w ∷ words) first in
     let drawing : IsWritten (word ∷ words) (Draw Djvu words) = ([], spelled, inl (refl, refl), of.listed) in
     subst (λ (c : Command). IsWritten (word ∷ words) c) of.same drawing
 
-option_written : (word mark name : List ℕ) (words : List (List ℕ)) (table : TableChoice) (command : Command) → word ≡ codes "draw" → mark ≡ codes "--table" → IsTableWord name table → IsMade (Draw table) words command
+option_written : (word mark name : List ℕ) (words : List (List ℕ)) (table : TableChoice) (command : Command) → word ≡ codes "draw" → mark ≡ codes "--table" →
+    IsTableWord name table → IsMade (Draw table) words command
     → IsWritten (word ∷ mark ∷ name ∷ words) command
 option_written word mark name words table command first marked said of =
     let spelled : word ∷ mark ∷ name ∷ words ≡ codes "draw" ∷ ((codes "--table" ∷ name ∷ []) ++ words) =
@@ -62,23 +66,29 @@ option_written word mark name words table command first marked said of =
     let drawing : IsWritten (word ∷ mark ∷ name ∷ words) (Draw table words) = (codes "--table" ∷ name ∷ [], spelled, inr (name, refl, said), of.listed) in
     subst (λ (c : Command). IsWritten (word ∷ mark ∷ name ∷ words) c) of.same drawing
 
-by_table : (word mark name : List ℕ) (words : List (List ℕ)) (command : Command) (said : Option TableChoice) → word ≡ codes "draw" → mark ≡ codes "--table" → table_of name ≡ said → drawing_with said words ≡ Ok command
+by_table : (word mark name : List ℕ) (words : List (List ℕ)) (command : Command) (said : Option TableChoice) → word ≡ codes "draw" → mark ≡ codes "--table" →
+    table_of name ≡ said → drawing_with said words ≡ Ok command
     → IsWritten (word ∷ mark ∷ name ∷ words) command
-by_table word mark name words command (Some table) first marked said e = option_written word mark name words table command first marked (table_written name table said) (made 3 (Draw table) words command (pages_of page_limit 3 words) refl e)
+by_table word mark name words command (Some table) first marked said e =
+    option_written word mark name words table command first marked (table_written name table said)
+    (made 3 (Draw table) words command (pages_of page_limit 3 words) refl e)
 by_table word mark name words command None first marked said e = cc
 
-by_option : (word mark : List ℕ) (words : List (List ℕ)) (command : Command) → word ≡ codes "draw" → mark ≡ codes "--table" → drawing_by_word words ≡ Ok command → IsWritten (word ∷ mark ∷ words) command
+by_option : (word mark : List ℕ) (words : List (List ℕ)) (command : Command) → word ≡ codes "draw" → mark ≡ codes "--table" →
+    drawing_by_word words ≡ Ok command → IsWritten (word ∷ mark ∷ words) command
 by_option word mark [] command first marked e = cc
 by_option word mark (name ∷ words) command first marked e = by_table word mark name words command (table_of name) first marked refl e
 
 by_mark : (word mark : List ℕ) (words : List (List ℕ)) (command : Command) (t : Bool) → word ≡ codes "draw" → (t ≡ true → mark ≡ codes "--table")
     → cond t (drawing_by_word words) (command_of (Draw Djvu) (pages_of page_limit 1 (mark ∷ words))) ≡ Ok command → IsWritten (word ∷ mark ∷ words) command
 by_mark word mark words command true first marked e = by_option word mark words command first (marked refl) e
-by_mark word mark words command false first marked e = plain_written word (mark ∷ words) command first (made 1 (Draw Djvu) (mark ∷ words) command (pages_of page_limit 1 (mark ∷ words)) refl e)
+by_mark word mark words command false first marked e = plain_written word (mark ∷ words) command first
+    (made 1 (Draw Djvu) (mark ∷ words) command (pages_of page_limit 1 (mark ∷ words)) refl e)
 
 drawn : (word : List ℕ) (words : List (List ℕ)) (command : Command) → word ≡ codes "draw" → drawing_of words ≡ Ok command → IsWritten (word ∷ words) command
 drawn word [] command first e = cc
-drawn word (mark ∷ words) command first e = by_mark word mark words command (bytes_eq mark (codes "--table")) first (bytes_eq-Decides mark (codes "--table")).0 (sym (drawing_split mark words) ∙ e)
+drawn word (mark ∷ words) command first e = by_mark word mark words command (bytes_eq mark (codes "--table")) first (bytes_eq-Decides mark (codes "--table")).0
+    (sym (drawing_split mark words) ∙ e)
 
 shown : (word : List ℕ) (words : List (List ℕ)) (command : Command) → word ≡ codes "info" → IsMade Info words command → IsWritten (word ∷ words) command
 shown word words command first of =
@@ -93,7 +103,8 @@ by_first word words command false false draw info e = cc
 
 pub read_written : (words : List (List ℕ)) (command : Command) → words_of words ≡ Ok command → IsWritten words command
 read_written [] command e = cc
-read_written (word ∷ words) command e = by_first word words command (bytes_eq word (codes "draw")) (bytes_eq word (codes "info")) (bytes_eq-Decides word (codes "draw")).0 (bytes_eq-Decides word (codes "info")).0 e
+read_written (word ∷ words) command e = by_first word words command (bytes_eq word (codes "draw")) (bytes_eq word (codes "info"))
+    (bytes_eq-Decides word (codes "draw")).0 (bytes_eq-Decides word (codes "info")).0 e
 
 -- the first page isn't the option's word
 plain_drawing : (pages words : List (List ℕ)) → IsPageList pages → drawing_of (pages ++ words) ≡ command_of (Draw Djvu) (pages_of page_limit 1 (pages ++ words))
@@ -104,25 +115,34 @@ plain_drawing (page ∷ pages) words listed =
     drawing_split page (pages ++ words) ∙ rw unmarked refl
 
 plain_read : (pages : List (List ℕ)) → IsPageList pages → drawing_of pages ≡ Ok (Draw Djvu pages)
-plain_read pages listed = ap drawing_of (sym (append-nil pages)) ∙ plain_drawing pages [] listed ∙ ap (λ (ws : List (List ℕ)). command_of (Draw Djvu) (pages_of page_limit 1 ws)) (append-nil pages) ∙ ap (command_of (Draw Djvu)) (pages_listed 1 pages listed)
+plain_read pages listed = ap drawing_of (sym (append-nil pages)) ∙ plain_drawing pages [] listed
+    ∙ ap (λ (ws : List (List ℕ)). command_of (Draw Djvu) (pages_of page_limit 1 ws)) (append-nil pages)
+    ∙ ap (command_of (Draw Djvu)) (pages_listed 1 pages listed)
 
-option_read : (name : List ℕ) (pages : List (List ℕ)) (table : TableChoice) → IsTableWord name table → IsPageList pages → drawing_by_word (name ∷ pages) ≡ Ok (Draw table pages)
-option_read name pages table said listed = ap (λ (t : Option TableChoice). drawing_with t pages) (table_said name table said) ∙ ap (command_of (Draw table)) (pages_listed 3 pages listed)
+option_read : (name : List ℕ) (pages : List (List ℕ)) (table : TableChoice) → IsTableWord name table → IsPageList pages →
+    drawing_by_word (name ∷ pages) ≡ Ok (Draw table pages)
+option_read name pages table said listed = ap (λ (t : Option TableChoice). drawing_with t pages) (table_said name table said)
+    ∙ ap (command_of (Draw table)) (pages_listed 3 pages listed)
 
-drawing_read : (option pages : List (List ℕ)) (table : TableChoice) → IsOption option table → IsPageList pages → drawing_of (option ++ pages) ≡ Ok (Draw table pages)
+drawing_read : (option pages : List (List ℕ)) (table : TableChoice) → IsOption option table → IsPageList pages →
+    drawing_of (option ++ pages) ≡ Ok (Draw table pages)
 drawing_read option pages table (inl none) listed =
     let drawing : TableChoice → Result Command ℕ = λ choice. Ok (Draw choice pages) in
     ap (λ (ws : List (List ℕ)). drawing_of (ws ++ pages)) none.0 ∙ plain_read pages listed ∙ ap drawing (sym none.1)
-drawing_read option pages table (inr some) listed = ap (λ (ws : List (List ℕ)). drawing_of (ws ++ pages)) some.1 ∙ drawing_split (codes "--table") (some.0 ∷ pages) ∙ option_read some.0 pages table some.2 listed
+drawing_read option pages table (inr some) listed = ap (λ (ws : List (List ℕ)). drawing_of (ws ++ pages)) some.1
+    ∙ drawing_split (codes "--table") (some.0 ∷ pages) ∙ option_read some.0 pages table some.2 listed
 
 pub written_read : (words : List (List ℕ)) (command : Command) → IsWritten words command → words_of words ≡ Ok command
 written_read words (Draw table pages) written = ap words_of written.1 ∙ drawing_read written.0 pages table written.2 written.3
 written_read words (Info pages) written = ap words_of written.0 ∙ ap (command_of Info) (pages_listed 1 pages written.1)
 
-pages_full : (pages words : List (List ℕ)) (word : List ℕ) → IsPageList pages → length pages ≡ page_limit → pages_of page_limit 1 (pages ++ (word ∷ words)) ≡ Err (1 + length pages)
+pages_full : (pages words : List (List ℕ)) (word : List ℕ) → IsPageList pages → length pages ≡ page_limit →
+    pages_of page_limit 1 (pages ++ (word ∷ words)) ≡ Err (1 + length pages)
 pages_full [] words word listed e = let some : 1 ≤ 0 = listed.some in absurd (omega arith)
-pages_full (page ∷ pages) words word listed e = good_after page_limit 1 [] (page ∷ pages) (word ∷ words) (listed_good (page ∷ pages) listed) ∙ full_after page_limit 1 (page ∷ pages) words word e
+pages_full (page ∷ pages) words word listed e = good_after page_limit 1 [] (page ∷ pages) (word ∷ words) (listed_good (page ∷ pages) listed)
+    ∙ full_after page_limit 1 (page ∷ pages) words word e
 
 -- a page behind as many as a command may name is refused
-pub full_refused : (pages words : List (List ℕ)) (word : List ℕ) → IsPageList pages → length pages ≡ page_limit → words_of (codes "draw" ∷ (pages ++ (word ∷ words))) ≡ Err (1 + length pages)
+pub full_refused : (pages words : List (List ℕ)) (word : List ℕ) → IsPageList pages → length pages ≡ page_limit →
+    words_of (codes "draw" ∷ (pages ++ (word ∷ words))) ≡ Err (1 + length pages)
 full_refused pages words word listed e = plain_drawing pages (word ∷ words) listed ∙ ap (command_of (Draw Djvu)) (pages_full pages words word listed e)

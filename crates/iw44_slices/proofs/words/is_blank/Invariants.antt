@@ -1,8 +1,8 @@
-use Rattle.std.proofs.Common.{◌≡◌, ℕ, ◌+◌, ◌<◌, true}
+use Rattle.std.proofs.Common.{◌≡◌, ℕ, ◌+◌, ◌*◌, ◌<◌, true}
 use Rattle.iw44_blocks.specs.Plane.{coefficient}
-use Rattle.iw44_slices.specs.Slice.{is_zero}
+use Rattle.iw44_blocks.specs.Words.{is_zero}
 use Rattle.iw44_slices.proofs.words.is_blank.Given as goal
 
--- those before place are 0
-abbrev pub invariant-loop-place : goal.invariant-loop-place
-invariant-loop-place l = (k : ℕ) → k < l.place → is_zero (coefficient l.coefficients l.block (l.first + k)) ≡ true
+-- those of the buckets before are 0
+abbrev pub invariant-loop-bucket : goal.invariant-loop-bucket
+invariant-loop-bucket l = (k : ℕ) → k < 16 * l.bucket → is_zero (coefficient l.coefficients l.block (16 * l.first + k)) ≡ true

@@ -11,12 +11,14 @@ pub pixels-init : goal.pixels-init
 pixels-init g c = (
   still_unread c.args.canvas.now.number (c.args.canvas.now.shape.width * c.args.canvas.now.shape.height) c.is_whole.ensures.within c.if-is_whole.ensures.is,
   c.around-window.ensures,
-  keeps_first (matching_context c.args.matching.now) c.args.zp.now c.args.canvas.now (states_of c.args.contexts.now) (g.M.Meter.count c.args.meter.now) c.requires,
+  keeps_first (matching_context c.args.matching.now) c.args.zp.now c.args.canvas.now (states_of c.args.contexts.now)
+      (g.M.Meter.count c.args.meter.now) c.requires,
 )
 
 pub read_pixel-requires-clause-number : goal.read_pixel-requires-clause-number
 read_pixel-requires-clause-number g c =
-    refined_is_number c.args.matching.now c.pixels.canvas.shape (pos (column_of c.pixels.canvas)) (pos (row_of c.pixels.canvas)) c.pixels.window c.number.result c.pixels.invariant.1 c.number.ensures
+    refined_is_number c.args.matching.now c.pixels.canvas.shape (pos (column_of c.pixels.canvas))
+    (pos (row_of c.pixels.canvas)) c.pixels.window c.number.result c.pixels.invariant.1 c.number.ensures
 
 pub returns-in-NeedBytes-clause-reads : goal.returns-in-NeedBytes-clause-reads
 returns-in-NeedBytes-clause-reads g c =
@@ -25,16 +27,20 @@ returns-in-NeedBytes-clause-reads g c =
     c.pixels.zp c.pixels.canvas (states_of c.pixels.contexts) (g.M.Meter.count c.pixels.meter) c.read_pixel.result
     c.read_pixel.new.zp c.read_pixel.new.canvas (states_of c.read_pixel.new.contexts) (g.M.Meter.count c.read_pixel.new.meter)
     c.pixels.invariant.2 c.pixels.invariant.0
-    (decided_by (matching_context c.args.matching.now) c.pixels.zp c.pixels.canvas (states_of c.pixels.contexts) (g.M.Meter.count c.pixels.meter) c.read_pixel.result
+    (decided_by (matching_context c.args.matching.now) c.pixels.zp c.pixels.canvas (states_of c.pixels.contexts)
+    (g.M.Meter.count c.pixels.meter) c.read_pixel.result
     c.read_pixel.new.zp c.read_pixel.new.canvas (states_of c.read_pixel.new.contexts) (g.M.Meter.count c.read_pixel.new.meter) c.number.result
-    (refined_number c.args.matching.now c.pixels.canvas.shape (pos (column_of c.pixels.canvas)) (pos (row_of c.pixels.canvas)) c.pixels.window c.number.result c.pixels.invariant.1 c.number.ensures)
-    c.read_pixel.ensures.answer c.read_pixel.ensures.fed c.read_pixel.ensures.states c.read_pixel.ensures.pixel c.read_pixel.ensures.below c.read_pixel.ensures.room c.read_pixel.ensures.table c.read_pixel.ensures.ended c.read_pixel.ensures.ticks)
+    (refined_number c.args.matching.now c.pixels.canvas.shape (pos (column_of c.pixels.canvas))
+    (pos (row_of c.pixels.canvas)) c.pixels.window c.number.result c.pixels.invariant.1 c.number.ensures)
+    c.read_pixel.ensures.answer c.read_pixel.ensures.fed c.read_pixel.ensures.states c.read_pixel.ensures.pixel c.read_pixel.ensures.below
+    c.read_pixel.ensures.room c.read_pixel.ensures.table c.read_pixel.ensures.ended c.read_pixel.ensures.ticks)
     c.in-NeedBytes.is stays.0 (ap states_of stays.1) stays.2
 
 pub returns-in-NeedBytes-clause-counts : goal.returns-in-NeedBytes-clause-counts
 returns-in-NeedBytes-clause-counts g c =
     let stays = c.read_pixel.ensures.needs c.in-NeedBytes.is in
-    counts_same (g.M.Meter.count c.args.meter.now) c.args.canvas.now c.pixels.canvas c.read_pixel.new.canvas (g.M.Meter.count c.pixels.meter) (g.M.Meter.count c.read_pixel.new.meter)
+    counts_same (g.M.Meter.count c.args.meter.now) c.args.canvas.now c.pixels.canvas c.read_pixel.new.canvas (g.M.Meter.count c.pixels.meter)
+    (g.M.Meter.count c.read_pixel.new.meter)
     c.pixels.invariant.2.counts stays.0 (ap (λ meter. g.M.Meter.count meter) stays.3)
 
 pub returns-in-Exhausted-clause-reads : goal.returns-in-Exhausted-clause-reads
@@ -44,16 +50,20 @@ returns-in-Exhausted-clause-reads g c =
     c.pixels.zp c.pixels.canvas (states_of c.pixels.contexts) (g.M.Meter.count c.pixels.meter) c.read_pixel.result
     c.read_pixel.new.zp c.read_pixel.new.canvas (states_of c.read_pixel.new.contexts) (g.M.Meter.count c.read_pixel.new.meter)
     c.pixels.invariant.2 c.pixels.invariant.0
-    (decided_by (matching_context c.args.matching.now) c.pixels.zp c.pixels.canvas (states_of c.pixels.contexts) (g.M.Meter.count c.pixels.meter) c.read_pixel.result
+    (decided_by (matching_context c.args.matching.now) c.pixels.zp c.pixels.canvas (states_of c.pixels.contexts)
+    (g.M.Meter.count c.pixels.meter) c.read_pixel.result
     c.read_pixel.new.zp c.read_pixel.new.canvas (states_of c.read_pixel.new.contexts) (g.M.Meter.count c.read_pixel.new.meter) c.number.result
-    (refined_number c.args.matching.now c.pixels.canvas.shape (pos (column_of c.pixels.canvas)) (pos (row_of c.pixels.canvas)) c.pixels.window c.number.result c.pixels.invariant.1 c.number.ensures)
-    c.read_pixel.ensures.answer c.read_pixel.ensures.fed c.read_pixel.ensures.states c.read_pixel.ensures.pixel c.read_pixel.ensures.below c.read_pixel.ensures.room c.read_pixel.ensures.table c.read_pixel.ensures.ended c.read_pixel.ensures.ticks)
+    (refined_number c.args.matching.now c.pixels.canvas.shape (pos (column_of c.pixels.canvas))
+    (pos (row_of c.pixels.canvas)) c.pixels.window c.number.result c.pixels.invariant.1 c.number.ensures)
+    c.read_pixel.ensures.answer c.read_pixel.ensures.fed c.read_pixel.ensures.states c.read_pixel.ensures.pixel c.read_pixel.ensures.below
+    c.read_pixel.ensures.room c.read_pixel.ensures.table c.read_pixel.ensures.ended c.read_pixel.ensures.ticks)
     c.in-Exhausted.is stays.0 (ap states_of stays.1) stays.2
 
 pub returns-in-Exhausted-clause-counts : goal.returns-in-Exhausted-clause-counts
 returns-in-Exhausted-clause-counts g c =
     let stays = c.read_pixel.ensures.exhausted c.in-Exhausted.is in
-    counts_same (g.M.Meter.count c.args.meter.now) c.args.canvas.now c.pixels.canvas c.read_pixel.new.canvas (g.M.Meter.count c.pixels.meter) (g.M.Meter.count c.read_pixel.new.meter)
+    counts_same (g.M.Meter.count c.args.meter.now) c.args.canvas.now c.pixels.canvas c.read_pixel.new.canvas (g.M.Meter.count c.pixels.meter)
+    (g.M.Meter.count c.read_pixel.new.meter)
     c.pixels.invariant.2.counts stays.0 (ap (λ meter. g.M.Meter.count meter) stays.3)
 
 pub returns-then-is_whole-2-clause-reads : goal.returns-then-is_whole-2-clause-reads
@@ -63,10 +73,13 @@ returns-then-is_whole-2-clause-reads g c =
     c.pixels.zp c.pixels.canvas (states_of c.pixels.contexts) (g.M.Meter.count c.pixels.meter) c.read_pixel.result
     c.read_pixel.new.zp c.read_pixel.new.canvas (states_of c.read_pixel.new.contexts) (g.M.Meter.count c.read_pixel.new.meter) c.in-Bit.black
     c.pixels.invariant.2 c.pixels.invariant.0
-    (decided_by (matching_context c.args.matching.now) c.pixels.zp c.pixels.canvas (states_of c.pixels.contexts) (g.M.Meter.count c.pixels.meter) c.read_pixel.result
+    (decided_by (matching_context c.args.matching.now) c.pixels.zp c.pixels.canvas (states_of c.pixels.contexts)
+    (g.M.Meter.count c.pixels.meter) c.read_pixel.result
     c.read_pixel.new.zp c.read_pixel.new.canvas (states_of c.read_pixel.new.contexts) (g.M.Meter.count c.read_pixel.new.meter) c.number.result
-    (refined_number c.args.matching.now c.pixels.canvas.shape (pos (column_of c.pixels.canvas)) (pos (row_of c.pixels.canvas)) c.pixels.window c.number.result c.pixels.invariant.1 c.number.ensures)
-    c.read_pixel.ensures.answer c.read_pixel.ensures.fed c.read_pixel.ensures.states c.read_pixel.ensures.pixel c.read_pixel.ensures.below c.read_pixel.ensures.room c.read_pixel.ensures.table c.read_pixel.ensures.ended c.read_pixel.ensures.ticks)
+    (refined_number c.args.matching.now c.pixels.canvas.shape (pos (column_of c.pixels.canvas))
+    (pos (row_of c.pixels.canvas)) c.pixels.window c.number.result c.pixels.invariant.1 c.number.ensures)
+    c.read_pixel.ensures.answer c.read_pixel.ensures.fed c.read_pixel.ensures.states c.read_pixel.ensures.pixel c.read_pixel.ensures.below
+    c.read_pixel.ensures.room c.read_pixel.ensures.table c.read_pixel.ensures.ended c.read_pixel.ensures.ticks)
     c.in-Bit.is in
     whole_reading (matching_context c.args.matching.now) c.args.zp.now c.args.canvas.now (states_of c.args.contexts.now) (g.M.Meter.count c.args.meter.now)
     c.read_pixel.new.zp c.read_pixel.new.canvas (states_of c.read_pixel.new.contexts) (g.M.Meter.count c.read_pixel.new.meter) kept
@@ -79,16 +92,20 @@ returns-then-is_whole-2-clause-counts g c =
     c.pixels.zp c.pixels.canvas (states_of c.pixels.contexts) (g.M.Meter.count c.pixels.meter) c.read_pixel.result
     c.read_pixel.new.zp c.read_pixel.new.canvas (states_of c.read_pixel.new.contexts) (g.M.Meter.count c.read_pixel.new.meter) c.in-Bit.black
     c.pixels.invariant.2 c.pixels.invariant.0
-    (decided_by (matching_context c.args.matching.now) c.pixels.zp c.pixels.canvas (states_of c.pixels.contexts) (g.M.Meter.count c.pixels.meter) c.read_pixel.result
+    (decided_by (matching_context c.args.matching.now) c.pixels.zp c.pixels.canvas (states_of c.pixels.contexts)
+    (g.M.Meter.count c.pixels.meter) c.read_pixel.result
     c.read_pixel.new.zp c.read_pixel.new.canvas (states_of c.read_pixel.new.contexts) (g.M.Meter.count c.read_pixel.new.meter) c.number.result
-    (refined_number c.args.matching.now c.pixels.canvas.shape (pos (column_of c.pixels.canvas)) (pos (row_of c.pixels.canvas)) c.pixels.window c.number.result c.pixels.invariant.1 c.number.ensures)
-    c.read_pixel.ensures.answer c.read_pixel.ensures.fed c.read_pixel.ensures.states c.read_pixel.ensures.pixel c.read_pixel.ensures.below c.read_pixel.ensures.room c.read_pixel.ensures.table c.read_pixel.ensures.ended c.read_pixel.ensures.ticks)
+    (refined_number c.args.matching.now c.pixels.canvas.shape (pos (column_of c.pixels.canvas))
+    (pos (row_of c.pixels.canvas)) c.pixels.window c.number.result c.pixels.invariant.1 c.number.ensures)
+    c.read_pixel.ensures.answer c.read_pixel.ensures.fed c.read_pixel.ensures.states c.read_pixel.ensures.pixel c.read_pixel.ensures.below
+    c.read_pixel.ensures.room c.read_pixel.ensures.table c.read_pixel.ensures.ended c.read_pixel.ensures.ticks)
     c.in-Bit.is in
     kept.counts
 
 pub next-window-requires-clause-window : goal.next-window-requires-clause-window
 next-window-requires-clause-window g c more =
-    refined_before c.args.matching.now c.pixels.canvas c.read_pixel.new.canvas c.in-Bit.black c.pixels.window (c.read_pixel.ensures.pixel c.in-Bit.black c.in-Bit.is)
+    refined_before c.args.matching.now c.pixels.canvas c.read_pixel.new.canvas c.in-Bit.black c.pixels.window
+    (c.read_pixel.ensures.pixel c.in-Bit.black c.in-Bit.is)
     c.pixels.invariant.0 c.pixels.invariant.1 more
 
 pub next-window-requires-clause-colour : goal.next-window-requires-clause-colour
@@ -107,12 +124,16 @@ pixels-preserved g c =
     c.pixels.zp c.pixels.canvas (states_of c.pixels.contexts) (g.M.Meter.count c.pixels.meter) c.read_pixel.result
     c.read_pixel.new.zp c.read_pixel.new.canvas (states_of c.read_pixel.new.contexts) (g.M.Meter.count c.read_pixel.new.meter) c.in-Bit.black
     c.pixels.invariant.2 c.pixels.invariant.0
-    (decided_by (matching_context c.args.matching.now) c.pixels.zp c.pixels.canvas (states_of c.pixels.contexts) (g.M.Meter.count c.pixels.meter) c.read_pixel.result
+    (decided_by (matching_context c.args.matching.now) c.pixels.zp c.pixels.canvas (states_of c.pixels.contexts)
+    (g.M.Meter.count c.pixels.meter) c.read_pixel.result
     c.read_pixel.new.zp c.read_pixel.new.canvas (states_of c.read_pixel.new.contexts) (g.M.Meter.count c.read_pixel.new.meter) c.number.result
-    (refined_number c.args.matching.now c.pixels.canvas.shape (pos (column_of c.pixels.canvas)) (pos (row_of c.pixels.canvas)) c.pixels.window c.number.result c.pixels.invariant.1 c.number.ensures)
-    c.read_pixel.ensures.answer c.read_pixel.ensures.fed c.read_pixel.ensures.states c.read_pixel.ensures.pixel c.read_pixel.ensures.below c.read_pixel.ensures.room c.read_pixel.ensures.table c.read_pixel.ensures.ended c.read_pixel.ensures.ticks)
+    (refined_number c.args.matching.now c.pixels.canvas.shape (pos (column_of c.pixels.canvas))
+    (pos (row_of c.pixels.canvas)) c.pixels.window c.number.result c.pixels.invariant.1 c.number.ensures)
+    c.read_pixel.ensures.answer c.read_pixel.ensures.fed c.read_pixel.ensures.states c.read_pixel.ensures.pixel c.read_pixel.ensures.below
+    c.read_pixel.ensures.room c.read_pixel.ensures.table c.read_pixel.ensures.ended c.read_pixel.ensures.ticks)
     c.in-Bit.is in (
-      still_unread c.read_pixel.new.canvas.number (c.read_pixel.new.canvas.shape.width * c.read_pixel.new.canvas.shape.height) c.is_whole-in-pixels.ensures.within c.if-is_whole-2.ensures.is,
+      still_unread c.read_pixel.new.canvas.number (c.read_pixel.new.canvas.shape.width * c.read_pixel.new.canvas.shape.height)
+          c.is_whole-in-pixels.ensures.within c.if-is_whole-2.ensures.is,
       c.next-window.ensures,
       kept,
     )

@@ -10,5 +10,5 @@ of-requires g c =
     let height = ap (λ (p : Plane). p.height) c.self.view_is in
     let all : c.loop-y.y ≡ c.self.inside.rows = omega arith in
     full_values c.self.inside.columns c.self.inside.rows c.loop-y.y (coefficient_at c.args.self.now) (map g.T.Number.value c.loop-y.values.items)
-    c.self.invariant.some c.self.invariant.fits all
+    c.self.invariant.plane.some c.self.invariant.plane.fits all
     (c.loop-y.invariant.values ∙ ap (λ w. values_by w (c.loop-y.y * w) (coefficient_at c.args.self.now)) (sym width))

@@ -12,7 +12,7 @@ pub overflow_mul-row : goal.overflow_mul-row
 overflow_mul-row g c =
     let height = ap (λ (p : Plane). p.height) c.self.view_is in
     let row = even_below c.args.y c.args.self.now.height c.requires.row in
-    omega (arith, side_fits c.self.inside.columns c.self.inside.rows c.self.invariant.some c.self.invariant.fits)
+    omega (arith, side_fits c.self.inside.columns c.self.inside.rows c.self.invariant.plane.some c.self.invariant.plane.fits)
 
 pub overflow_add-first : goal.overflow_add-first
 overflow_add-first g c =
@@ -20,7 +20,7 @@ overflow_add-first g c =
     let height = ap (λ (p : Plane). p.height) c.self.view_is in
     omega (
       arith,
-      block_fits c.self.inside.columns c.self.inside.rows c.loop-x.x c.args.y c.blocks_along.result c.self.invariant.some c.self.invariant.fits
+      block_fits c.self.inside.columns c.self.inside.rows c.loop-x.x c.args.y c.blocks_along.result c.self.invariant.plane.some c.self.invariant.plane.fits
           (omega arith) (let row = c.requires.row in omega arith) c.blocks_along.ensures,
     )
 

@@ -1,7 +1,8 @@
 use Rattle.std.proofs.Common.{◌≡◌, ◌<◌, ◌+◌, ◌*◌, ℕ, true, subst, arith}
 use Rattle.std.proofs.lemmas.List.{get_or-replicate}
 use Rattle.iw44_blocks.specs.Plane.{coefficient}
-use Rattle.iw44_slices.specs.Slice.{Place, is_zero}
+use Rattle.iw44_slices.specs.Slice.{Place}
+use Rattle.iw44_blocks.specs.Words.{is_zero}
 use Rattle.iw44_slices.specs.Reader.{place_in, first_at, count_at}
 use Rattle.iw44_slices.proofs.Passing.{blank_marks}
 use Rattle.iw44_slices.proofs.spots.Spot.mark.Goals as goal

@@ -1,7 +1,7 @@
 use Rattle.std.proofs.Common.{◌≡◌, ◌<◌, ◌+◌, ◌*◌, ℕ, length, sym, ◌∙◌, ap, subst, refl, arith}
 use Rattle.iw44_slices.specs.Bands.{band_of, first_bucket}
 use Rattle.iw44_slices.specs.Slice.{Place, is_active, is_unknown}
-use Rattle.iw44_slices.specs.Kept.{AreBits}
+use Rattle.iw44_blocks.specs.Words.{AreBits}
 use Rattle.iw44_slices.specs.Reader.{place_at, first_at}
 use Rattle.iw44_slices.proofs.Bits.{some_of_buckets, words_more}
 use Rattle.iw44_slices.proofs.spots.Spot.mark_each.Goals as goal

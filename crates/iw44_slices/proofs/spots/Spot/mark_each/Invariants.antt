@@ -1,6 +1,6 @@
 use Rattle.std.proofs.Common.{◌≡◌, ℕ, ◌+◌, ◌*◌, ◌<◌, get_or}
 use Rattle.iw44_slices.specs.Slice.{is_active, is_unknown, some_from}
-use Rattle.iw44_slices.specs.Kept.{AreBits}
+use Rattle.iw44_blocks.specs.Words.{AreBits}
 use Rattle.iw44_slices.specs.Reader.{place_at, first_at}
 use Rattle.iw44_slices.proofs.spots.Spot.mark_each.Given as goal
 

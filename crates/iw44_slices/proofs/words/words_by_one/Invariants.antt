@@ -1,8 +1,8 @@
 use Rattle.std.proofs.Common.{◌+◌, ◌-◌, ◌*◌, ◌<◌}
 use Rattle.iw44_slices.specs.Slice.{is_active, is_unknown}
-use Rattle.iw44_slices.specs.Kept.{AreBits}
+use Rattle.iw44_blocks.specs.Words.{AreBits}
 use Rattle.iw44_slices.specs.Reader.{place_at}
-use Rattle.iw44_slices.proofs.words.words_of.Given as goal
+use Rattle.iw44_slices.proofs.words.words_by_one.Given as goal
 
 abbrev pub invariant-loop-place : goal.invariant-loop-place
 invariant-loop-place l = record {

@@ -6,4 +6,30 @@ mod Drawings
 mod Needing
 mod Stepwise
 mod Counting
+-- the core: its files, and its pages
+mod Filing
+mod Lasting
+mod Arriving
+mod Making
+mod Standing
+mod Beginning
+mod Together
+-- steps of the core
+mod Reading
+mod Setting
+mod Outlined
+mod Gaining
+mod Placing
+mod Settled
+mod Summing
+mod Receiving
+mod Taking
+mod Joining
+mod Going
+mod Giving
+mod Decoding
+mod Stepping
+mod Asides
+mod Answering
+mod Advancing
 mod Cutting

@@ -1,6 +1,7 @@
 -- Lists with one item changed, and the last of the first items of a list.
-use Rattle.std.proofs.Common.{◌≡◌, ◌<◌, ◌≤◌, ℕ, zero, suc, Some, None, List, [], ◌∷◌, ◌++◌, length, take, refl, ap, ◌∙◌, arith}
-use Rattle.std.specs.Prelude.{slice_get}
+use Rattle.std.proofs.Common.{◌≡◌, ◌<◌, ◌≤◌, ℕ, zero, suc, Bool, true, false, eqb, Some, None, List, [], ◌∷◌, ◌++◌, length, take, refl, sym, ap, ◌∙◌, arith}
+use Rattle.std.proofs.lemmas.Bool.{eqb-true, eqb-false}
+use Rattle.std.specs.Prelude.{slice_get, slice_set}
 use Rattle.std.proofs.Math.Seq.{take-suc}
 use Rattle.std.proofs.lemmas.Option.{slice_get_within, get_or_from_slice_get}
 use Rattle.page_decoder.specs.Given.{Front}
@@ -52,3 +53,40 @@ get_front (first ∷ items) more (suc count) less = get_front items more count (
 pub last_front : {A : Type 0} (items more : List A) (count : ℕ) → count ≤ length items → Front items more → last_of more count ≡ last_of items count
 last_front items more zero le front = refl
 last_front items more (suc count) le front = ap (λ l. slice_get l count) front.1 ∙ get_front items front.0 count (omega (arith, le))
+
+-- ---- an item that is set
+
+pub set_here : {A : Type 0} (items : List A) (number : ℕ) (item : A) → number < length items → slice_get (slice_set items number item) number ≡ Some item
+set_here [] number item less = absurd (omega (arith, less))
+set_here (first ∷ items) zero item less = refl
+set_here (first ∷ items) (suc number) item less = set_here items number item (omega (arith, less))
+
+pub set_apart : {A : Type 0} (items : List A) (number other : ℕ) (item : A) → (other ≡ number → ⊥)
+    → slice_get (slice_set items number item) other ≡ slice_get items other
+set_apart [] number other item apart = refl
+set_apart (first ∷ items) zero zero item apart = absurd (apart refl)
+set_apart (first ∷ items) zero (suc other) item apart = refl
+set_apart (first ∷ items) (suc number) zero item apart = refl
+set_apart (first ∷ items) (suc number) (suc other) item apart = set_apart items number other item (λ e. apart (ap suc e))
+
+pub set_length : {A : Type 0} (items : List A) (number : ℕ) (item : A) → length (slice_set items number item) ≡ length items
+set_length [] number item = refl
+set_length (first ∷ items) zero item = refl
+set_length (first ∷ items) (suc number) item = ap suc (set_length items number item)
+
+-- an item that is set, or one of before
+pub data AfterSet {A : Type 0} (items : List A) (number : ℕ) (item : A) (other : ℕ) (found : A) : Type 0 where
+  is_set : other ≡ number → found ≡ item → AfterSet items number item other found
+  is_other : (other ≡ number → ⊥) → slice_get items other ≡ Some found → AfterSet items number item other found
+
+pub after_set : {A : Type 0} (items : List A) (number : ℕ) (item : A) (other : ℕ) (found : A) → number < length items
+    → slice_get (slice_set items number item) other ≡ Some found → AfterSet items number item other found
+after_set items number item other found less e = by (eqb other number) refl
+  where
+    by : (b : Bool) → eqb other number ≡ b → AfterSet items number item other found
+    by true is =
+        let same = eqb-true other number is in
+        is_set same (some_same found item (sym e ∙ ap (slice_get (slice_set items number item)) same ∙ set_here items number item less))
+    by false is =
+        let apart = eqb-false other number is in
+        is_other apart (sym (set_apart items number other item apart) ∙ e)

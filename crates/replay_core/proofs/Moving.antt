@@ -13,10 +13,10 @@ use Rattle.replay_core.proofs.Listing.{changed_here, changed_apart, changed_nowh
 
 -- ---- the library
 
-same_file : (file : File) → FileGoesOn file file
+pub same_file : (file : File) → FileGoesOn file file
 same_file file = record { name = refl; bytes = inr (refl, refl) }
 
-fed_on : (piece : List ℕ) (file : File) → FileGoesOn file (fed piece file)
+pub fed_on : (piece : List ℕ) (file : File) → FileGoesOn file (fed piece file)
 fed_on piece file = by file.mark refl
   where
     by : (mark : Mark) → file.mark ≡ mark → FileGoesOn file (fed_by mark piece file)
@@ -24,7 +24,7 @@ fed_on piece file = by file.mark refl
     by Whole e = same_file file
     by Broken e = same_file file
 
-ended_on : (how : FileEnd) (file : File) → FileGoesOn file (ended how file)
+pub ended_on : (how : FileEnd) (file : File) → FileGoesOn file (ended how file)
 ended_on how file = by file.mark refl
   where
     by : (mark : Mark) → file.mark ≡ mark → FileGoesOn file (ended_by mark how file)
@@ -38,7 +38,7 @@ Same = (library : Library) → LibraryGoesOn library library
 abbrev pub Both : Type 0
 Both = (library later latest : Library) → LibraryGoesOn library later → LibraryGoesOn later latest → LibraryGoesOn library latest
 
-changed_on : Same → (change : File → File) → ((file : File) → FileGoesOn file (change file)) → (number : ℕ) (library : Library)
+pub changed_on : Same → (change : File → File) → ((file : File) → FileGoesOn file (change file)) → (number : ℕ) (library : Library)
     → LibraryGoesOn library (change_at change number library)
 changed_on same change on number [] = tt
 changed_on same change on zero (file ∷ library) = (on file, same library)

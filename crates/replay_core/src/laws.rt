@@ -12,6 +12,7 @@ ghost use Rattle.page_decoder.specs.Needs.{IsOver};
 ghost use Rattle.replay_core.specs.Machine.{State, PageState, Event, Step, Look, Drew, AtEnd, Looked, last_of, page_notices, answer, state_after_all, answers, start, drawn_in, ends_in, IsSound, AllClosed, PageGoesOn, LooksRise, ShowsNoLess, TellsDrawing, HasEnded, TellsPage, GoesWell};
 
 pub mod counts;
+pub mod standing;
 pub mod worked;
 
 /// Events only bring more: the library goes on, and so does each page. Lists of events can be joined. A state before the first

@@ -1,4 +1,4 @@
-use Rattle.std.proofs.Common.{◌≡◌, ℕ, List, [], ◌∷◌, Option, IfOk, subst}
+use Rattle.std.proofs.Common.{◌≡◌, [], ◌∷◌, Option, IfOk, subst}
 use Rattle.replay_core.specs.declared.script.ScriptLine.{ScriptLine}
 use Rattle.replay_core.specs.Script.{words_of}
 use Rattle.replay_core.proofs.Cutting.{two_words, more_words}

@@ -33,7 +33,8 @@ one_drawn kind.Passed chunks decisions layers b = absurd (true≢false (sym b))
 
 -- ---- counts
 
-pub both_ticks : (more all some before now : ℕ) → TicksExactly more 0 some → TicksExactly all 0 before → now ≡ ticked some before → TicksExactly (all + more) 0 now
+pub both_ticks : (more all some before now : ℕ) → TicksExactly more 0 some → TicksExactly all 0 before → now ≡ ticked some before
+    → TicksExactly (all + more) 0 now
 both_ticks more all some before now a b e = grind (arith, common_steps)
 
 pub both_within : (more all some before now : ℕ) → some ≤ ticked more 0 → TicksExactly all 0 before → now ≡ ticked some before → now ≤ ticked (all + more) 0

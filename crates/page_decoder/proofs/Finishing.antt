@@ -12,7 +12,7 @@ use Rattle.iff_chunks.specs.Chunks.{Form, Chunk, Chunks, Tail, InHead, InHeader,
 use Rattle.iff_chunks.specs.Ends.{is_cut, broken_off, closed}
 use Rattle.iff_chunks.specs.Layout.{Laid, AtEnd, TooShort, Beginning, NoId, TooLong, DataArriving, PadMissing, Padded, Unpadded, IsLaidForm}
 use Rattle.iff_chunks.specs.Refused.{refused_ids}
-use Rattle.page_decoder.specs.Reading.{Ending, Finished, Fault, NeedBytes, Reading, Came, kind_fault, unbuilt_ids, is_info, is_mask, header_fault, size_in, size_fault, size_came, info_came, mask_came, nothing_came, blank_page, came, came_by, is_drawn, notice_by, after_chunk, after_came, read_chunks, ending_of, without_chunks, cut_by, at_end, read_tail, chunks_place, read_page, read_form, reading}
+use Rattle.page_decoder.specs.Reading.{Ending, Finished, Fault, NeedBytes, Reading, Came, kind_fault, unread_ids, is_info, is_mask, header_fault, size_in, size_fault, size_came, info_came, mask_came, nothing_came, blank_page, came, came_by, is_drawn, notice_by, after_chunk, after_came, read_chunks, ending_of, without_chunks, cut_by, at_end, read_tail, chunks_place, read_page, read_form, reading}
 
 -- a reading that is finished has a drawing
 abbrev pub HasDrawing : Reading → Type 0
@@ -155,7 +155,7 @@ first_drawn rows chunk rest full = by (header_fault true false chunk.id chunk.si
     by (Some kind) e = λ finished. cc
     by None e =
         long (is_info chunk.id) (nat_lt chunk.size 5) refl refl
-        (first_info (is_info chunk.id) (is_listed refused_ids chunk.id || is_listed unbuilt_ids chunk.id) (is_mask chunk.id) (nat_lt chunk.size 5) e)
+        (first_info (is_info chunk.id) (is_listed refused_ids chunk.id || is_listed unread_ids chunk.id) (is_mask chunk.id) (nat_lt chunk.size 5) e)
 
 page_drawn : (rows : List Row) (place : ℕ) (whole : List Chunk) (tail : Tail) (end : Ending) → FirstIsFull whole
     → ((chunk : Chunk) → tail ≡ InData chunk → end ≢ Finished)

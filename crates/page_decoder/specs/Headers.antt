@@ -12,7 +12,7 @@ use Rattle.page_decoder.specs.Given.{Role, Page, Included}
 use Rattle.page_decoder.specs.PageRead.{Decoded, Left}
 use Rattle.page_decoder.specs.Reading.{mask_in, kind_fault as page_kind_fault}
 -- the header of a chunk: its identifier, where the chunk begins, and how many bytes of data it has
-pub use Rattle.page_decoder.specs.declared.places.Head.{Head}
+pub use Rattle.page_decoder.specs.declared.headers.Head.{Head}
 
 abbrev pub head_of : Chunk → Head
 head_of chunk = record { id = chunk.id; offset = chunk.offset; size = chunk.size }

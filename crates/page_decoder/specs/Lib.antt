@@ -6,16 +6,10 @@ pub use Rattle.iff_chunks.specs.Ends as FileEnds
 pub use Rattle.iff_chunks.specs.Events
 pub use Rattle.zp_table.specs.Rows
 pub use Rattle.layer_compose.specs.Drawing
--- the reading of a page, and how the code's answer stands to it
+-- a page with a mask at most, in a short form; layers that can be drawn
 pub mod Reading
-pub mod Ends
 pub mod Found
-pub mod Progress
-pub mod Work
 pub mod Worked
--- the inside of this crate
-pub mod Walk
-pub mod Brought
 -- the reading of a page with all its chunks, over what is given of other files
 pub use Rattle.djvu_base.specs.Announced
 pub use Rattle.include_graph.specs.Graphs

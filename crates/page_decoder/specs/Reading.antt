@@ -1,4 +1,5 @@
--- The reading of a page, chunk by chunk: which drawings it has, where it ends, and how many decisions its chunks have.
+-- The reading of a page with a mask at most, in a short form: which drawings it has, where it ends, and how many decisions its
+-- chunks have. `Read` has pages with every kind of chunk; law `plain_pages` says that both are the same for the pages that `Plain` covers.
 use Rattle.std.specs.Prelude.{ℕ, zero, suc, Bool, true, false, not, ◌+◌, ◌*◌, ◌&&◌, ◌||◌, ◌==◌, List, [], ◌∷◌, length, drop, Option, Some, None, is_some, codes, bytes_eq, nat_lt, nat_le, if◌then◌else◌}
 use Rattle.byteorder.specs.Endian.{big_number}
 use Rattle.djvu_base.specs.declared.faults.FaultKind.{FaultKind}
@@ -54,8 +55,8 @@ kind_fault kind =
     else Some fault.WrongForm
 
 -- chunks that aren't read here
-abbrev pub unbuilt_ids : List (List ℕ)
-unbuilt_ids = codes "INCL" ∷ codes "Djbz" ∷ codes "FG44" ∷ codes "BG44" ∷ []
+abbrev pub unread_ids : List (List ℕ)
+unread_ids = codes "INCL" ∷ codes "Djbz" ∷ codes "FG44" ∷ codes "BG44" ∷ []
 
 abbrev pub is_info : List ℕ → Bool
 is_info id = bytes_eq id (codes "INFO")
@@ -68,7 +69,7 @@ abbrev pub header_fault : Bool → Bool → List ℕ → ℕ → Option FaultKin
 header_fault is_first has_mask id size =
     if is_first && not (is_info id) then Some fault.NoInfo
     else if not is_first && is_info id then Some fault.SecondInfo
-    else if is_listed refused_ids id || is_listed unbuilt_ids id then Some fault.Unsupported
+    else if is_listed refused_ids id || is_listed unread_ids id then Some fault.Unsupported
     else if is_mask id && has_mask then Some fault.SecondMask
     else if is_info id && nat_lt size 5 then Some fault.BadInfo
     else None

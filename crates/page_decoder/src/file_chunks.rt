@@ -18,8 +18,8 @@ ghost use Rattle.page_decoder.specs.FileSteps.{IsHeld, IsKnown, IsEntering, MayL
 use crate::closing::ChunkCame;
 use crate::decoder::PageStep;
 use crate::file_reader::{ChunkAtHand, FileReader, Stage};
+use crate::headers::Head;
 use crate::kinds::ChunkKind;
-use crate::places::Head;
 use crate::resolving::{Include, Resolution};
 use djvu_base::{Meter, Name};
 use include_graph::Outline;

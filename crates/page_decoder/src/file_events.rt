@@ -13,8 +13,7 @@ ghost use Rattle.page_decoder.specs.FileSteps.{IsKnown, AtHeader, MayLackMemory,
 
 use crate::decoder::PageStep;
 use crate::file_reader::{FileClose, FileReader, Stage};
-use crate::headers::{form_fault, header_fault};
-use crate::places::Head;
+use crate::headers::{Head, form_fault, header_fault};
 use djvu_base::{Fault, FaultKind, FileEnd, Meter, Name, Place};
 use iff_chunks::{WalkStep, first};
 use include_graph::Outline;

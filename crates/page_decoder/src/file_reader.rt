@@ -14,9 +14,9 @@ ghost use Rattle.page_decoder.specs.FileReading.{SameFile, Stands, IsReady, IsGi
 ghost use Rattle.page_decoder.specs.FileSteps.{IsHeld};
 
 use crate::decoder::PageStep;
+use crate::headers::Head;
 use crate::kept::Kept;
 use crate::open_chunks::Open;
-use crate::places::Head;
 use crate::resolving::Includes;
 use crate::roles::Role;
 use djvu_base::{FaultKind, FileEnd, Meter, Name};

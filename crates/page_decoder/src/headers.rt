@@ -8,10 +8,19 @@ ghost use Rattle.page_decoder.specs.FileReading.{IsLike};
 use crate::kept::Kept;
 use crate::kinds::ChunkKind;
 use crate::page::kind_fault as page_kind_fault;
-use crate::places::Head;
 use crate::roles::Role;
 use djvu_base::FaultKind;
 use include_graph::{chunk_fault, kind_fault as included_kind_fault};
+
+/// The header of a chunk.
+#[derive(Clone, Copy, Debug, PartialEq, Eq)]
+pub struct Head {
+    pub id: [u8; 4],
+    /// Where the chunk begins in the file.
+    pub offset: u32,
+    /// How many bytes of data it has.
+    pub size: u32,
+}
 
 /// Why a FORM of this kind is no file of this role.
 pub fn form_fault(role: Role, kind: [u8; 4]) -> Option<FaultKind>

@@ -17,10 +17,10 @@ ghost use Rattle.page_decoder.specs.Kept.{Keeps, IsBehind, IsReady};
 ghost use Rattle.page_decoder.specs.Opened.{Opens, Begins, ReadsRecords, ClosesTo, CountsOn, LayersStay, IsRunning, decisions_by, decisions_of};
 
 use crate::closing::{ChunkCame, Closed, close_name};
+use crate::headers::Head;
 use crate::kinds::ChunkKind;
 use crate::layer_reader::LayerReader;
 use crate::open_chunks::{ChunkReader, Open};
-use crate::places::Head;
 use djvu_base::{Meter, Share};
 use jb2_records::{DictReader, Dictionary, MaskReader, SharedDictionary};
 use layer_compose::Layers;

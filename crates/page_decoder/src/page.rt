@@ -1,21 +1,17 @@
-//! What is wrong with a page, by its FORM's kind, by a chunk's header, and by its size.
+//! What is wrong with a page, by its FORM's kind and by its size.
 ghost use Rattle.std.specs.Prelude.{◌≡◌, ◌*◌, ◌<◌, ◌≤◌, None, length};
 ghost use Rattle.bit_plane.specs.Pixels.{area_limit};
-ghost use Rattle.page_decoder.specs.Reading.{kind_fault, header_fault, size_fault, size_in, is_info, is_mask};
+ghost use Rattle.page_decoder.specs.Reading.{kind_fault, size_fault, size_in, is_info, is_mask};
 ghost use Rattle.djvu_base.specs.Name.{is_listed};
 
 use byteorder::{BigEndian, ByteOrder};
 use djvu_base::FaultKind;
-use iff_chunks::is_refused;
 
 /// The largest page, in pixels.
 const AREA_LIMIT: u32 = 67_108_864;
 
 /// Kinds of a FORM that are no pages, but of which it is known what they are.
 const OTHER_KINDS: [[u8; 4]; 4] = [*b"DJVM", *b"PM44", *b"BM44", *b"THUM"];
-
-/// Chunks that aren't built yet.
-const UNBUILT_IDS: [[u8; 4]; 4] = [*b"INCL", *b"Djbz", *b"FG44", *b"BG44"];
 
 /// Width and height, in pixels.
 #[derive(Clone, Copy, Debug, PartialEq, Eq)]
@@ -34,25 +30,6 @@ pub fn kind_fault(kind: [u8; 4]) -> Option<FaultKind>
         Some(FaultKind::Unsupported)
     } else {
         Some(FaultKind::WrongForm)
-    }
-}
-
-/// Why a page can't have a chunk with this identifier and length, first or later, where it has a mask or not.
-pub fn header_fault(is_first: bool, has_mask: bool, id: [u8; 4], length: u32) -> Option<FaultKind>
-    ensures { result ≡ header_fault is_first has_mask id length }
-{
-    if is_first && !is_info(id) {
-        Some(FaultKind::NoInfo)
-    } else if !is_first && is_info(id) {
-        Some(FaultKind::SecondInfo)
-    } else if is_refused(id) || is_listed(&UNBUILT_IDS, id) {
-        Some(FaultKind::Unsupported)
-    } else if is_mask(id) && has_mask {
-        Some(FaultKind::SecondMask)
-    } else if is_info(id) && length < 5 {
-        Some(FaultKind::BadInfo)
-    } else {
-        None
     }
 }
 

@@ -3,6 +3,8 @@
 #![tactic(auto)]
 
 #[cfg(test)]
+mod asked_again;
+#[cfg(test)]
 mod broken_pages;
 #[cfg(test)]
 mod decoded_files;
@@ -14,5 +16,3 @@ mod library_cuts;
 mod page_cuts;
 #[cfg(test)]
 mod page_steps;
-#[cfg(test)]
-mod pages;

@@ -1,7 +1,7 @@
 use Rattle.std.proofs.Common.{◌≡◌, ℕ, refl, sym, ◌∙◌, subst}
 use Rattle.zp_table.specs.Rows.{IsTable}
 use Rattle.page_decoder.specs.declared.file_reader.FileReader.{FileReader}
-use Rattle.page_decoder.specs.declared.places.Head.{Head}
+use Rattle.page_decoder.specs.declared.headers.Head.{Head}
 use Rattle.page_decoder.specs.Headers.{form_fault, header_fault}
 use Rattle.page_decoder.specs.Resolving.{role_of}
 use Rattle.page_decoder.specs.FileReading.{HoldsChunk, ComesTo, IsTold}

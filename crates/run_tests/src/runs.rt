@@ -5,6 +5,8 @@ ghost use Rattle.djvu_base.specs.Library.{names_of};
 
 mod cases;
 mod files;
+mod layers;
+mod libraries;
 mod masks;
 
 use cases::{
@@ -13,6 +15,7 @@ use cases::{
 };
 use djvu_base::{CountMeter, Items, Name};
 use djvu_outside::{Folder, MemoryFolder, MemorySink, Sink, SureFolder, SureSink};
+use layers::LAYERS;
 use masks::MASKS;
 use std::alloc::Global;
 use std::process::Abort;
@@ -178,8 +181,9 @@ fn commands(rt: HostRuntime) {
 }
 
 #[test]
-fn masks_of_pages(rt: HostRuntime) {
+fn layers_of_pages(rt: HostRuntime) {
     expect_cases(&rt, rt.alloc(), &MASKS);
+    expect_cases(&rt, rt.alloc(), &LAYERS);
 }
 
 /// Draws two pages with a mask each.

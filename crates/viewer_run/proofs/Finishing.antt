@@ -1,42 +1,45 @@
 -- A page that isn't refused has the raster of its last drawing.
-use Rattle.std.proofs.Common.{◌≡◌, ◌≢◌, ◌++◌, ℕ, false, Some, List, [], ◌∷◌, refl, ap, ◌∙◌}
-use Rattle.djvu_base.specs.Library.{File, Mark, Open}
+use Rattle.std.proofs.Common.{◌≡◌, ◌≢◌, ◌++◌, ◌<◌, ℕ, false, Option, Some, None, List, length, refl, ◌∙◌, sym}
+use Rattle.std.proofs.lemmas.Bool.{true≢false}
+use Rattle.djvu_base.specs.Library.{Library}
 use Rattle.djvu_outside.specs.Puts.{to_out, to_report}
 use Rattle.zp_table.specs.declared.rows.Row.{Row}
 use Rattle.layer_compose.specs.declared.layers.Layers.{Layers}
-use Rattle.page_decoder.specs.Reading.{Notice, Ending, Finished, Fault, NeedBytes, Reading, reading}
-use Rattle.page_decoder.specs.Found.{last_layers}
+use Rattle.layer_compose.specs.Drawing.{raster_of}
+use Rattle.page_decoder.specs.Given.{Given}
+use Rattle.page_decoder.specs.PageRead.{Ending, Finished, Refused, NeedBytes, NeedOutline, NeedFile, last_layers}
+use Rattle.page_decoder.specs.Read.{read}
+use Rattle.page_decoder.specs.Libraries.{Unknown, Drawn, names_in, shown_by, run, run_given, page_in}
+use Rattle.replay_core.specs.Machine.{page_notices, AllClosed}
 use Rattle.viewer_words.specs.Lines.{name_at}
 use Rattle.viewer_run.specs.Rasters.{raster_text}
-use Rattle.viewer_run.specs.Statuses.{IsDrawn}
-use Rattle.viewer_run.specs.Texts.{raster_of, lines_of, is_refused, lines_at, raster_at, texts_of_file}
+use Rattle.viewer_run.specs.Texts.{lines_of, texts_at, texts_of_page}
 
-last_there : (notices : List Notice) → notices ≢ [] → (layers : Layers) × (last_layers notices ≡ Some layers)
-last_there [] some = absurd (some refl)
-last_there (notice ∷ []) some = (notice.layers, refl)
-last_there (notice ∷ next ∷ notices) some = last_there (next ∷ notices) (λ e. cc)
+-- what is put for a page that isn't refused, and of which it is known what it is
+pub record HasRaster (names : List (List ℕ)) (name lines : List ℕ) (end : Ending) (layers : Option Layers) : Type 0 where
+  pub last : Layers
+  pub layers_so : layers ≡ Some last
+  pub shown_so : shown_by end layers ≡ Drawn (raster_of last)
+  pub puts_so : (texts_at names name lines (shown_by end layers)).puts ≡ to_report lines ++ to_out (raster_text (raster_of last))
 
--- a page that isn't refused, and needs no bytes, is finished
-pub drawn_by : (read : Reading) → (read.end ≡ Finished → read.notices ≢ []) → read.end ≢ NeedBytes → is_refused read.end ≡ false → IsDrawn read
-drawn_by read drawn known = ends_so read.end refl
-  where
-    ends_so : (end : Ending) → read.end ≡ end → is_refused end ≡ false → IsDrawn read
-    ends_so Finished e refused = let there = last_there read.notices (drawn e) in record { finished = e; layers = there.0; last = there.1 }
-    ends_so (Fault kind offset) e refused = cc
-    ends_so NeedBytes e refused = absurd (known e)
+pub raster_by : (names : List (List ℕ)) (name lines : List ℕ) (end : Ending) (layers : Option Layers) → shown_by end layers ≢ Unknown
+    → (texts_at names name lines (shown_by end layers)).refused ≡ false → HasRaster names name lines end layers
+raster_by names name lines Finished None known refused = absurd (known refl)
+raster_by names name lines Finished (Some layers) known refused = record { last = layers; layers_so = refl; shown_so = refl; puts_so = refl }
+raster_by names name lines (Refused fault) layers known refused = absurd (true≢false refused)
+raster_by names name lines NeedBytes layers known refused = absurd (known refl)
+raster_by names name lines (NeedOutline file) layers known refused = absurd (known refl)
+raster_by names name lines (NeedFile file) layers known refused = absurd (known refl)
 
-pub raster_there : ((rows : List Row) (mark : Mark) (bytes : List ℕ) → (reading rows mark bytes).end ≡ Finished → (reading rows mark bytes).notices ≢ [])
-    → ((rows : List Row) (mark : Mark) (bytes : List ℕ) → mark ≢ Open → (reading rows mark bytes).end ≢ NeedBytes)
-    → (rows : List Row) (names : List (List ℕ)) (page : ℕ) (file : File) → file.mark ≢ Open → (texts_of_file rows names page file).refused ≡ false
-    → (layers : Layers) × (last_layers (reading rows file.mark file.bytes).notices ≡ Some layers)
-    × ((texts_of_file rows names page file).puts
-    ≡ to_report (lines_of (name_at names page) (reading rows file.mark file.bytes).notices) ++ to_out (raster_text layers))
-raster_there drawn known rows names page file some refused =
-    let read : Reading = reading rows file.mark file.bytes in
-    let there = drawn_by read (drawn rows file.mark file.bytes) (known rows file.mark file.bytes some) refused in
-    let lines = lines_of (name_at names page) read.notices in (
-      there.layers,
-      there.last,
-      ap (λ x. to_report (lines_at names page lines x) ++ to_out (raster_at (raster_of (last_layers read.notices)) x)) there.finished
-          ∙ ap (λ l. to_report lines ++ to_out (raster_of l)) there.last,
-    )
+pub raster_there : ((rows : List Row) (library : Library) (page : ℕ) → page < length library → AllClosed library → page_in rows library page ≢ Unknown)
+    → ((given : Given) → (read given).left.decoded.layers ≡ last_layers (read given).left.told.drawings)
+    → (rows : List Row) (library : Library) (page : ℕ) → page < length library → AllClosed library → (texts_of_page rows library page).refused ≡ false
+    → (layers : Layers) × (last_layers (run rows library page).left.told.drawings ≡ Some layers) × (page_in rows library page ≡ Drawn (raster_of layers))
+    × ((texts_of_page rows library page).puts
+    ≡ to_report (lines_of (name_at (names_in library) page) (page_notices rows library page)) ++ to_out (raster_text (raster_of layers)))
+raster_there known last rows library page inside closed refused =
+    let names = names_in library in
+    let there =
+    raster_by names (name_at names page) (lines_of (name_at names page) (page_notices rows library page)) (run rows library page).end
+    (run rows library page).left.decoded.layers (known rows library page inside closed) refused in
+    (there.last, sym (last (run_given rows library page)) ∙ there.layers_so, there.shown_so, there.puts_so)

@@ -1,5 +1,5 @@
 -- The lines of a file's chunks, by its events.
-use Rattle.std.proofs.Common.{◌≡◌, ℕ, ◌+◌, ◌*◌, ◌<◌, ◌≤◌, true, false, Option, Some, None, List, [], ◌∷◌, ◌++◌, length, take, drop, refl, sym, ap, ◌∙◌, subst, arith, append_assoc}
+use Rattle.std.proofs.Common.{◌≡◌, ℕ, true, false, Option, Some, None, List, [], ◌∷◌, ◌++◌, length, take, drop, refl, sym, ap, ◌∙◌, append_assoc}
 use Rattle.std.specs.List.{flat_map}
 use Rattle.std.proofs.lemmas.Bool.{true≢false}
 use Rattle.std.proofs.lemmas.List.{append-nil}
@@ -16,8 +16,7 @@ use Rattle.iff_chunks.specs.Events.{Event, Begun, Header, Data, ChunkEnd, data_e
 use Rattle.iff_chunks.specs.Ends.{tail_of, file_end}
 use Rattle.iff_chunks.specs.Told.{Walking, Told}
 use Rattle.iff_chunks.specs.Walk.{IsFed}
-use Rattle.viewer_run.specs.Info.{form_lines, header_line, tail_line, heading_lines, event_line, event_lines, step_line, fault_text, has_fault, info_lines, Informs, InformsWhole}
-use Rattle.viewer_run.specs.Texts.{page_fault}
+use Rattle.viewer_run.specs.Info.{page_fault, form_lines, header_line, tail_line, heading_lines, event_line, event_lines, step_line, fault_text, has_fault, info_lines, Informs, InformsWhole}
 use Rattle.iff_chunks.proofs.Lemmas.{Finishes, walk_begins, walk_goes_on, walk_told, walk_over, walk_end}
 
 data_lines : (name bytes : List ℕ) (events : List Event) → event_lines name (data_events bytes ++ events) ≡ event_lines name events

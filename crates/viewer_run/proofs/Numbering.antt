@@ -1,5 +1,5 @@
 -- Pages by their numbers in a library, and by their names.
-use Rattle.std.proofs.Common.{◌≡◌, ℕ, zero, suc, Bool, true, false, cond, ◌+◌, Option, Some, None, IsSome, unwrap_or, List, [], ◌∷◌, ◌++◌, map, take, zero-add, refl, sym, ap, ◌∙◌, subst}
+use Rattle.std.proofs.Common.{◌≡◌, ℕ, zero, suc, Bool, true, false, cond, Option, Some, None, Result, Ok, Err, IfOk, IsSome, unwrap_or, List, [], ◌∷◌, ◌++◌, map, take, refl, sym, ap, ◌∙◌, subst}
 use Rattle.std.specs.Str.{bytes_eq}
 use Rattle.std.specs.Prelude.{slice_get}
 use Rattle.std.proofs.lemmas.Slice.Eq.{bytes_eq-Decides}
@@ -8,22 +8,23 @@ use Rattle.djvu_base.specs.Library.{File, Files, Library, Whole, contents_of, li
 use Rattle.djvu_outside.specs.Faults.{Failure}
 use Rattle.djvu_outside.specs.Reading.{HasFile, bytes_in}
 use Rattle.djvu_outside.specs.Cut.{first_entry, cut_at, cut_file, cut}
-use Rattle.djvu_outside.specs.Puts.{to_out, to_report}
-use Rattle.zp_table.specs.declared.rows.Row.{Row}
+use Rattle.djvu_outside.specs.Puts.{to_report}
 use Rattle.iff_chunks.specs.Chunks.{Tail, InHead, InHeader, InData, InPad, FormEnd, Broken as BrokenOff, chunks_of}
 use Rattle.iff_chunks.specs.Ends.{file_end}
-use Rattle.page_decoder.specs.Reading.{Ending, Finished, Fault, NeedBytes, Reading, reading}
-use Rattle.page_decoder.specs.Found.{last_layers}
-use Rattle.page_decoder.specs.Work.{decisions_in, work}
+use Rattle.page_decoder.specs.Libraries.{names_in}
 use Rattle.viewer_words.specs.Lines.{name_at}
-use Rattle.viewer_run.specs.declared.front.Mode.{Mode}
-use Rattle.viewer_run.specs.declared.front.Mode.TheVariants as mode
-use Rattle.viewer_run.specs.Plan.{names_in, number_of, numbers_of}
-use Rattle.viewer_run.specs.Texts.{Texts, joined, raster_of, lines_of, page_fault, lines_at, raster_at, is_refused, texts_of_reading, texts_of_found, texts_of_page}
-use Rattle.viewer_run.specs.Info.{heading_lines, fault_text, has_fault, info_lines, info_of_file, info_of_found, info_of_page}
-use Rattle.viewer_run.specs.Offline.{Written, texts_of_pages, written, written_by}
-use Rattle.viewer_run.specs.Shown.{HasFiles, file_of, texts_by, work_by, texts_named, work_named}
-use Rattle.viewer_run.specs.Start.{plan_for}
+use Rattle.djvu_outside.specs.declared.stops.Stop.{Stop}
+use Rattle.djvu_outside.specs.Parts.{Ticks}
+use Rattle.djvu_outside.proofs.Lemmas.{no_ticks, puts_same}
+use Rattle.viewer_run.specs.declared.shown.Shown.{Shown}
+use Rattle.viewer_run.specs.Ended.{Around}
+use Rattle.viewer_run.specs.Plan.{Plan, Lists as PlanLists, number_of, numbers_of}
+use Rattle.viewer_run.specs.Reads.{names_behind}
+use Rattle.viewer_run.specs.Texts.{Texts, joined}
+use Rattle.viewer_run.specs.Info.{page_fault, heading_lines, fault_text, has_fault, info_of_file, info_of_found, info_of_page}
+use Rattle.viewer_run.specs.Offline.{Written, status_by, texts_of_pages, written, listed}
+use Rattle.viewer_run.specs.Listed.{HasFiles, file_of, texts_by, texts_named, Lists}
+use Rattle.viewer_run.specs.Shown.{NamesOnly, Shows}
 
 same_name_at : (o : Option ℕ) (file : File) → (cut_at o file).name ≡ file.name
 same_name_at None file = refl
@@ -69,7 +70,7 @@ names_found files (name ∷ names) h =
     ap (λ n. n ∷ map (name_at (names_in (library_of files))) (numbers_of (names_in (library_of files)) names)) (name_found file_limit files name h.0)
     ∙ ap (λ l. name ∷ l) (names_found files names h.1)
 
-names_cut : (failures : List Failure) (library : Library) → names_in (cut failures library) ≡ names_in library
+pub names_cut : (failures : List Failure) (library : Library) → names_in (cut failures library) ≡ names_in library
 names_cut failures [] = refl
 names_cut failures (file ∷ library) =
     ap (λ n. n ∷ names_in (cut failures library)) (same_name_at (first_entry failures file.name) file) ∙ ap (λ l. file.name ∷ l) (names_cut failures library)
@@ -78,19 +79,6 @@ module _ (names : List (List ℕ)) (page : ℕ) (name : List ℕ) (is : name_at 
   -- the line of a page's fault doesn't depend on its number
   fault_same : (kind : FaultKind) (offset : ℕ) → page_fault names page kind offset ≡ page_fault (name ∷ []) 0 kind offset
   fault_same kind offset = ap (λ n. page_fault (n ∷ []) 0 kind offset) is
-
-  lines_same : (lines : List ℕ) (end : Ending) → lines_at names page lines end ≡ lines_at (name ∷ []) 0 lines end
-  lines_same lines Finished = refl
-  lines_same lines (Fault kind offset) = ap (λ l. lines ++ l) (fault_same kind offset)
-  lines_same lines NeedBytes = refl
-
-  pub drawn_same : (read : Reading) → texts_of_reading names page read ≡ texts_of_reading (name ∷ []) 0 read
-  drawn_same read =
-      ap (λ l. let t : Texts = record {
-        puts = to_report l ++ to_out (raster_at (raster_of (last_layers read.notices)) read.end);
-        refused = is_refused read.end;
-      } in t)
-      (lines_same (lines_of (name_at names page) read.notices) read.end ∙ ap (λ n. lines_at (name ∷ []) 0 (lines_of n read.notices) read.end) is)
 
   tail_same : (tail : Tail) → fault_text names page tail ≡ fault_text (name ∷ []) 0 tail
   tail_same InHead = refl
@@ -106,67 +94,54 @@ module _ (names : List (List ℕ)) (page : ℕ) (name : List ℕ) (is : name_at 
       (ap (λ l. heading_lines (name_at names page) (chunks_of file.bytes) ++ l) (tail_same (file_end file.mark file.bytes))
       ∙ ap (λ n. heading_lines n (chunks_of file.bytes) ++ fault_text (name ∷ []) 0 (file_end file.mark file.bytes)) is)
 
--- what is put for a page of a library
-abbrev texts_for : Mode → Library → ℕ → Texts
-texts_for (mode.Draw rows) library page = texts_of_page rows library page
-texts_for mode.Info library page = info_of_page library page
-
-abbrev texts_in : Mode → List (List ℕ) → ℕ → Option File → Texts
-texts_in (mode.Draw rows) names page found = texts_of_found rows names page found
-texts_in mode.Info names page found = info_of_found names page found
-
-for_in : (how : Mode) (library : Library) (page : ℕ) → texts_for how library page ≡ texts_in how (names_in library) page (slice_get library page)
-for_in (mode.Draw rows) library page = refl
-for_in mode.Info library page = refl
-
-in_own : (how : Mode) (names : List (List ℕ)) (page : ℕ) (file : File) → name_at names page ≡ file.name
-    → texts_in how names page (Some file) ≡ texts_by how file
-in_own (mode.Draw rows) names page file is = drawn_same names page file.name is (reading rows file.mark file.bytes)
-in_own mode.Info names page file is = listed_same names page file.name is file
-
 -- a page of a folder's library that was cut, by its number and by its name
-page_texts : (how : Mode) (failures : List Failure) (files : Files) (name : List ℕ) → HasFile files name
-    → texts_for how (cut failures (library_of files)) (number_of (names_in (library_of files)) name) ≡ texts_by how (file_of files failures name)
-page_texts how failures files name h =
+page_texts : (failures : List Failure) (files : Files) (name : List ℕ) → HasFile files name
+    → info_of_page (cut failures (library_of files)) (number_of (names_in (library_of files)) name) ≡ texts_by (file_of files failures name)
+page_texts failures files name h =
     let library = library_of files in
     let page = number_of (names_in library) name in
     let file = file_of files failures name in
-    for_in how (cut failures library) page
-    ∙ ap (λ names. texts_in how names page (slice_get (cut failures library) page)) (names_cut failures library)
-    ∙ ap (texts_in how (names_in library) page) (page_found failures file_limit files name h)
-    ∙ in_own how (names_in library) page file
-    (name_found file_limit files name h ∙ sym (same_name_at (first_entry failures name) (whole_at file_limit name (bytes_in files name))))
+    ap (λ names. info_of_found names page (slice_get (cut failures library) page)) (names_cut failures library)
+    ∙ ap (info_of_found (names_in library) page) (page_found failures file_limit files name h)
+    ∙ listed_same (names_in library) page file.name
+    (name_found file_limit files name h ∙ sym (same_name_at (first_entry failures name) (whole_at file_limit name (bytes_in files name)))) file
 
-pages_texts : (how : Mode) (failures : List Failure) (files : Files) (names : List (List ℕ)) → HasFiles files names
-    → texts_of_pages (λ page. texts_for how (cut failures (library_of files)) page) (numbers_of (names_in (library_of files)) names)
-    ≡ texts_named how files failures names
-pages_texts how failures files [] h = refl
-pages_texts how failures files (name ∷ names) h =
-    ap (λ t. joined t (texts_of_pages (λ page. texts_for how (cut failures (library_of files)) page) (numbers_of (names_in (library_of files)) names)))
-    (page_texts how failures files name h.0)
-    ∙ ap (joined (texts_by how (file_of files failures name))) (pages_texts how failures files names h.1)
+pages_texts : (failures : List Failure) (files : Files) (names : List (List ℕ)) → HasFiles files names
+    → texts_of_pages (info_of_page (cut failures (library_of files))) (numbers_of (names_in (library_of files)) names) ≡ texts_named files failures names
+pages_texts failures files [] h = refl
+pages_texts failures files (name ∷ names) h =
+    ap (λ t. joined t (texts_of_pages (info_of_page (cut failures (library_of files))) (numbers_of (names_in (library_of files)) names)))
+    (page_texts failures files name h.0)
+    ∙ ap (joined (texts_by (file_of files failures name))) (pages_texts failures files names h.1)
 
--- their work
-drawn_work : (rows : List Row) (failures : List Failure) (files : Files) (names : List (List ℕ)) → HasFiles files names
-    → work rows (cut failures (library_of files)) (numbers_of (names_in (library_of files)) names) ≡ work_named (mode.Draw rows) files failures names
-drawn_work rows failures files [] h = refl
-drawn_work rows failures files (name ∷ names) h =
-    ap (λ f. decisions_in rows f + work rows (cut failures (library_of files)) (numbers_of (names_in (library_of files)) names))
-    (page_found failures file_limit files name h.0)
-    ∙ ap (λ n. work_by (mode.Draw rows) (file_of files failures name) + n) (drawn_work rows failures files names h.1)
+-- what is written for files of these names
+pub written_named : (failures : List Failure) (files : Files) (names : List (List ℕ)) → HasFiles files names
+    → listed (cut failures (library_of files)) (numbers_of (names_in (library_of files)) names) ≡ written (texts_named files failures names) 0
+written_named failures files names h = ap (λ t. written t 0) (pages_texts failures files names h)
 
-listed_work : (files : Files) (failures : List Failure) (names : List (List ℕ)) → 0 ≡ work_named mode.Info files failures names
-listed_work files failures [] = refl
-listed_work files failures (name ∷ names) = listed_work files failures names ∙ sym (zero-add (work_named mode.Info files failures names))
-
--- what is written for pages of these names
-pub written_named : (how : Mode) (failures : List Failure) (files : Files) (names : List (List ℕ)) → HasFiles files names
-    → written_by (cut failures (library_of files)) (plan_for how (numbers_of (names_in (library_of files)) names))
-    ≡ written (texts_named how files failures names) (work_named how files failures names)
-written_named (mode.Draw rows) failures files names h =
-    ap (λ t. written t (work rows (cut failures (library_of files)) (numbers_of (names_in (library_of files)) names)))
-    (pages_texts (mode.Draw rows) failures files names h)
-    ∙ ap (written (texts_named (mode.Draw rows) files failures names)) (drawn_work rows failures files names h)
-written_named mode.Info failures files names h =
-    ap (λ t. written t 0) (pages_texts mode.Info failures files names h)
-    ∙ ap (written (texts_named mode.Info files failures names)) (listed_work files failures names)
+-- files that were listed, as the pages of a plan
+pub shows_listed : (files : Files) (names : List (List ℕ)) (result : Result Shown Stop) (before after : Around) → HasFiles files names
+    → after.count ≡ before.count → Lists files names result before.failures after.failures before.told after.told
+    → Shows (library_of files) (PlanLists (numbers_of (names_in (library_of files)) names)) result before after
+shows_listed files names result before after has still d =
+    let pages = numbers_of (names_in (library_of files)) names in
+    let plan : Plan = PlanLists pages in
+    let same = written_named d.added files names has in
+    let read : names_behind (cut d.added (library_of files)) plan ≡ names =
+    ap (λ l. map (name_at l) pages) (names_cut d.added (library_of files)) ∙ names_found files names has in
+    record {
+      added = d.added;
+      grown = d.grown;
+      only = subst (λ l. NamesOnly l d.added) (sym read) d.only;
+      reads = d.reads;
+      puts = puts_same result _ _ before.told after.told (sym (ap (λ (w : Written). w.puts) same)) d.puts;
+      ticks = subst (λ n. Ticks result 0 before.count n) (sym still) (no_ticks result 0 before.count refl);
+      refused = by_refused result d.refused same;
+      broken = d.broken;
+    }
+  where
+    by_refused : (result : Result Shown Stop) → IfOk result (λ shown. shown.refused ≡ (texts_named files d.added names).refused)
+        → listed (cut d.added (library_of files)) (numbers_of (names_in (library_of files)) names) ≡ written (texts_named files d.added names) 0
+        → IfOk result (λ shown. (listed (cut d.added (library_of files)) (numbers_of (names_in (library_of files)) names)).status ≡ status_by shown.refused)
+    by_refused (Ok shown) h e = ap (λ (w : Written). w.status) e ∙ sym (ap status_by h)
+    by_refused (Err stop) h e = tt

@@ -1,11 +1,11 @@
 -- What a run puts, by its plan and by the failures that it met.
-use Rattle.std.proofs.Common.{◌≡◌, ℕ, Bool, true, false, cond, not, ◌&&◌, ◌||◌, Option, Some, None, Result, Ok, Err, IfOk, List, [], ◌∷◌, ◌++◌, ◌+◌, ◌<◌, ◌≤◌, map, arith, inl, inr, refl, sym, ap, ◌∙◌, subst, add-zero}
+use Rattle.std.proofs.Common.{◌≡◌, ℕ, Bool, true, false, cond, not, ◌&&◌, ◌||◌, Some, None, Result, Ok, Err, IfOk, List, [], ◌∷◌, ◌++◌, ◌+◌, ◌<◌, ◌≤◌, arith, inl, inr, refl, sym, ap, ◌∙◌, subst, add-zero}
 use Rattle.std.specs.Str.{bytes_eq}
 use Rattle.std.proofs.lemmas.Bool.{true≢false}
 use Rattle.std.proofs.lemmas.List.{append-nil}
 use Rattle.std.proofs.lemmas.Slice.Eq.{bytes_eq-Decides}
 use Rattle.djvu_base.specs.Library.{Files, Library, library_of}
-use Rattle.djvu_base.specs.Meter.{TicksExactly, TicksAtMost, ticked}
+use Rattle.djvu_base.specs.Meter.{TicksExactly, TicksAtMost}
 use Rattle.djvu_base.specs.Name.{is_listed}
 use Rattle.djvu_base.proofs.Ticks.{at_most_none}
 use Rattle.djvu_outside.specs.declared.stops.Status.{Status}
@@ -14,26 +14,25 @@ use Rattle.djvu_outside.specs.declared.stops.Stop.TheVariants as stop
 use Rattle.djvu_outside.specs.Faults.{Failure, Listing, Reading}
 use Rattle.djvu_outside.specs.Cut.{first_entry, cut}
 use Rattle.djvu_outside.specs.Parts.{FolderStops, status_of, Ticks}
-use Rattle.djvu_outside.specs.Puts.{Put, Sinks, Got, GotPrefix, GivesBoth, to_report}
-use Rattle.djvu_outside.proofs.Lemmas.{no_ticks, nothing_cut, puts_same, stops_first, got_none}
+use Rattle.djvu_outside.specs.Puts.{Put, GotPrefix, GivesBoth, to_report}
+use Rattle.djvu_outside.proofs.Lemmas.{no_ticks, nothing_cut, puts_same, stops_first}
 use Rattle.viewer_words.specs.declared.commands.Command.{Command}
 use Rattle.viewer_words.specs.declared.commands.Command.TheVariants as command
 use Rattle.viewer_words.specs.Files.{named_files}
-use Rattle.viewer_words.specs.Lines.{name_at, words_line}
+use Rattle.viewer_words.specs.Lines.{words_line}
 use Rattle.viewer_words.specs.Words.{words_of}
 use Rattle.viewer_run.specs.declared.front.Front.{Front}
 use Rattle.viewer_run.specs.declared.front.Mode.{Mode}
 use Rattle.viewer_run.specs.declared.front.Mode.TheVariants as mode
-use Rattle.viewer_run.specs.declared.pages.Shown.{Shown}
+use Rattle.viewer_run.specs.declared.shown.Shown.{Shown}
 use Rattle.viewer_run.specs.EarlyFailures.{front_may_fail, front_failed, names_table, read_after, NamesRead}
-use Rattle.viewer_run.specs.Plan.{Plan, Refuses, Draws, Lists, pages_of, plan_of, plan_by_words, asks_no_folder, names_in, numbers_of}
-use Rattle.viewer_run.specs.Offline.{Written, status_by, written, written_by, refused_by, offline, with_failures, written_cut, nothing_written, IsWritten, IsOutcome, MayFailSo}
+use Rattle.viewer_run.specs.Plan.{Plan, Refuses, Draws, Lists, plan_of, plan_by_words, asks_no_folder}
+use Rattle.viewer_run.specs.Reads.{names_behind}
+use Rattle.viewer_run.specs.Offline.{Written, status_by, written_by, refused_by, offline, with_failures, written_cut, nothing_written, IsWritten, IsOutcome, MayFailSo}
 use Rattle.viewer_run.specs.Runs.{Outside, Run}
 use Rattle.viewer_run.specs.Ended.{Around, EndsSo, GoesOnFrom, Runs}
-use Rattle.viewer_run.specs.Shown.{HasFiles, HasBroken, NamesOnly, Shows, lists_first, texts_named, work_named, status_shown}
+use Rattle.viewer_run.specs.Shown.{HasBroken, NamesOnly, Shows, lists_first, status_shown}
 use Rattle.viewer_run.specs.Start.{StartsFor, plan_for}
-use Rattle.viewer_run.specs.Texts.{Texts}
-use Rattle.viewer_run.proofs.Numbering.{names_found, written_named}
 
 -- what a plan writes, as an equation
 pub is_written : (library : Library) (plan : Plan) (failures : List Failure) (w : Written) → w ≡ with_failures failures (written_by library plan)
@@ -52,33 +51,21 @@ may_fail : (how : Mode) (pages : List ℕ) (failures : List Failure) → MayFail
 may_fail (mode.Draw rows) pages failures = tt
 may_fail mode.Info pages failures = tt
 
-pages_for : (how : Mode) (pages : List ℕ) → pages_of (plan_for how pages) ≡ pages
-pages_for (mode.Draw rows) pages = refl
-pages_for mode.Info pages = refl
-
--- the pages that are shown are what is read after the front
-read_names : (files : Files) (words names : List (List ℕ)) (how : Mode)
-    → plan_for how (numbers_of (names_in (library_of files)) names) ≡ plan_of (library_of files) words → HasFiles files names
-    → read_after (library_of files) words ≡ names
-read_names files words names how plan has =
-    let library = library_of files in
-    ap (λ p. map (name_at (names_in library)) (pages_of p)) (sym plan)
-    ∙ ap (map (name_at (names_in library))) (pages_for how (numbers_of (names_in library) names)) ∙ names_found files names has
-
 and_not : (a b : Bool) → b ≡ true → (a && not b) ≡ false
 and_not true b e = ap not e
 and_not false b e = refl
 
--- failures of pages alone aren't the front's
-not_front : (library : Library) (words names : List (List ℕ)) (failures : List Failure) → read_after library words ≡ names → NamesOnly names failures
+-- failures of what is read after the front alone aren't the front's
+not_front : (library : Library) (words : List (List ℕ)) (failures : List Failure) → NamesOnly (read_after library words failures) failures
     → lists_first failures ≡ false → front_failed library words failures ≡ false
-not_front library words names [] read only reads = refl
-not_front library words names (Listing ∷ failures) read only reads = absurd (true≢false reads)
-not_front library words names (Reading name count ∷ failures) read only reads =
-    and_not (names_table (words_of words) name) (is_listed (read_after library words) name)
-    (ap (λ l. is_listed l name) read ∙ there (is_listed names name) refl)
+not_front library words [] only reads = refl
+not_front library words (Listing ∷ failures) only reads = absurd (true≢false reads)
+not_front library words (Reading name count ∷ failures) only reads =
+    let read = read_after library words (Reading name count ∷ failures) in
+    and_not (names_table (words_of words) name) (is_listed read name) (there (is_listed read name) refl)
   where
-    there : (t : Bool) → is_listed names name ≡ t → is_listed names name ≡ true
+    there : (t : Bool) → is_listed (read_after library words (Reading name count ∷ failures)) name ≡ t
+        → is_listed (read_after library words (Reading name count ∷ failures)) name ≡ true
     there true h = h
     there false h =
         let none : cond (bytes_eq name name) (Some count) (first_entry failures name) ≡ None = only name h in
@@ -95,31 +82,25 @@ work_kept [] w = refl
 work_kept (entry ∷ failures) w = refl
 
 -- the status of pages that were shown
-status_of_all : (shown : Shown) (failures : List Failure) (texts : Texts) (work : ℕ) → HasBroken shown.broken failures → shown.refused ≡ texts.refused
-    → status_shown shown ≡ (with_failures failures (written texts work)).status
-status_of_all shown failures texts work broken refused = by shown.broken shown.refused failures broken refused
+status_of_all : (shown : Shown) (failures : List Failure) (w : Written) → HasBroken shown.broken failures → w.status ≡ status_by shown.refused
+    → status_shown shown ≡ (with_failures failures w).status
+status_of_all shown failures w broken refused = by shown.broken shown.refused failures broken refused
   where
-    by : (b r : Bool) (failures : List Failure) → HasBroken b failures → r ≡ texts.refused
-        → cond b 3 (cond r 1 0) ≡ (with_failures failures (written texts work)).status
+    by : (b r : Bool) (failures : List Failure) → HasBroken b failures → w.status ≡ status_by r → cond b 3 (cond r 1 0) ≡ (with_failures failures w).status
     by true r [] h e = absurd (h refl)
     by true r (entry ∷ failures) h e = refl
-    by false r [] h e = status_so r texts.refused e
-      where
-        status_so : (r s : Bool) → r ≡ s → cond r 1 0 ≡ status_by s
-        status_so true true e = refl
-        status_so false false e = refl
-        status_so true false e = absurd (true≢false e)
-        status_so false true e = absurd (true≢false (sym e))
+    by false true [] h e = sym e
+    by false false [] h e = sym e
     by false r (entry ∷ failures) h e = cc
 
 or_second : (a b : Bool) → (a || b) ≡ false → b ≡ false
 or_second true b e = absurd (true≢false e)
 or_second false b e = e
 
-only_named : (library : Library) (words names : List (List ℕ)) (failures : List Failure) → read_after library words ≡ names → NamesOnly names failures
+only_named : (library : Library) (words : List (List ℕ)) (failures : List Failure) → NamesOnly (read_after library words failures) failures
     → NamesRead library words failures
-only_named library words names failures read only name other =
-    only name (ap (λ l. is_listed l name) (sym read) ∙ or_second (names_table (words_of words) name) (is_listed (read_after library words) name) other)
+only_named library words failures only name other =
+    only name (or_second (names_table (words_of words) name) (is_listed (read_after library words failures) name) other)
 
 -- the listing, or the table's reading, names no other file
 early_named : (library : Library) (words : List (List ℕ)) (entry : Failure) → front_may_fail words (entry ∷ []) ≡ true → NamesRead library words (entry ∷ [])
@@ -130,41 +111,49 @@ early_named library words (Reading table count) e name other = by (bytes_eq name
     by false h = refl
     by true h =
         let same : name ≡ table = (bytes_eq-Decides name table).0 h in
-        absurd (true≢false (sym (ap (λ b. b || is_listed (read_after library words) name) (ap (names_table (words_of words)) same ∙ e)) ∙ other))
+        let read = read_after library words (Reading table count ∷ []) in
+        absurd (true≢false (sym (ap (λ b. b || is_listed read name) (ap (names_table (words_of words)) same ∙ e)) ∙ other))
 
 -- what pages that were shown come to
-module _ (files : Files) (words names : List (List ℕ)) (how : Mode)
-    (plan : plan_for how (numbers_of (names_in (library_of files)) names) ≡ plan_of (library_of files) words) (has : HasFiles files names) where
-  shown_written : (failures : List Failure) → IsWritten (cut failures (library_of files)) (plan_of (library_of files) words) failures
-      (with_failures failures (written (texts_named how files failures names) (work_named how files failures names)))
-  shown_written failures =
-      let library = cut failures (library_of files) in
-      is_written library (plan_of (library_of files) words) failures _
-      (ap (with_failures failures) (sym (written_named how failures files names has) ∙ ap (written_by library) plan))
+module _ (files : Files) (words : List (List ℕ)) (how : Mode) (pages : List ℕ) (plan : plan_for how pages ≡ plan_of (library_of files) words) where
+  -- what is written over the files as far as they came
+  abbrev shown_written : List Failure → Written
+  shown_written failures = written_by (cut failures (library_of files)) (plan_for how pages)
 
   shown_outcome : (failures : List Failure) → front_failed (library_of files) words failures ≡ false
-      → IsOutcome failures failures (library_of files) words
-      (with_failures failures (written (texts_named how files failures names) (work_named how files failures names)))
+      → IsOutcome failures failures (library_of files) words (with_failures failures (shown_written failures))
   shown_outcome failures late =
-      inr (late, subst (λ p. MayFailSo p failures) plan (may_fail how (numbers_of (names_in (library_of files)) names) failures), shown_written failures)
+      let library = cut failures (library_of files) in
+      inr (
+        late,
+        subst (λ p. MayFailSo p failures) plan (may_fail how pages failures),
+        is_written library (plan_of (library_of files) words) failures _ (ap (λ p. with_failures failures (written_by library p)) plan),
+      )
+
+  names_read : (failures : List Failure) → NamesOnly (names_behind (cut failures (library_of files)) (plan_for how pages)) failures
+      → NamesOnly (read_after (library_of files) words failures) failures
+  names_read failures only = subst (λ p. NamesOnly (names_behind (cut failures (library_of files)) p) failures) plan only
 
   -- a run that shows pages, up to its end
   pub runs_shown : (result : Result Shown Stop) (shown : Shown) (status : Status) (before mid after : Around)
-      → mid ≡ before → Shows how files names result mid after → result ≡ Ok shown → status.0 ≡ status_shown shown → Runs files words (Ok status) before after
+      → mid ≡ before → Shows (library_of files) (plan_for how pages) result mid after → result ≡ Ok shown → status.0 ≡ status_shown shown
+      → Runs files words (Ok status) before after
   runs_shown result shown status before mid after same shows ok is =
-      let s = subst (λ m. Shows how files names (Ok shown) m after) same (subst (λ r. Shows how files names r mid after) ok shows) in
-      let texts = written (texts_named how files s.added names) (work_named how files s.added names) in
-      let read = read_names files words names how plan has in
-      let late = not_front (library_of files) words names s.added read s.only s.reads in
+      let s =
+      subst (λ m. Shows (library_of files) (plan_for how pages) (Ok shown) m after) same
+      (subst (λ r. Shows (library_of files) (plan_for how pages) r mid after) ok shows) in
+      let texts = shown_written s.added in
+      let only = names_read s.added s.only in
+      let late = not_front (library_of files) words s.added only s.reads in
       record {
         added = s.added;
         grown = s.grown;
-        only = only_named (library_of files) words names s.added read s.only;
+        only = only_named (library_of files) words s.added only;
         goes_on = late;
         written = with_failures s.added texts;
         outcome = shown_outcome s.added late;
         puts = puts_same {T = Status} (Ok status) _ _ before.told after.told (sym (puts_kept s.added texts)) s.puts;
-        status = is ∙ status_of_all shown s.added (texts_named how files s.added names) (work_named how files s.added names) s.broken s.refused;
+        status = is ∙ status_of_all shown s.added texts s.broken s.refused;
         ticks = subst (λ n. TicksExactly n before.count after.count) (sym (work_kept s.added texts)) s.ticks;
         nothing = λ e. cc;
       }
@@ -179,18 +168,20 @@ module _ (files : Files) (words names : List (List ℕ)) (how : Mode)
   err_same fault other e = cc
 
   -- a run that stops at a page
-  pub runs_stopped : (pages : Result Shown Stop) (result : Result Status Stop) (fault : Stop) (before mid after : Around)
-      → mid ≡ before → Shows how files names pages mid after → pages ≡ Err fault → (fault ≡ stop.Folder → ⊥) → result ≡ Err fault
+  pub runs_stopped : (shown : Result Shown Stop) (result : Result Status Stop) (fault : Stop) (before mid after : Around)
+      → mid ≡ before → Shows (library_of files) (plan_for how pages) shown mid after → shown ≡ Err fault → (fault ≡ stop.Folder → ⊥) → result ≡ Err fault
       → Runs files words result before after
-  runs_stopped pages result fault before mid after same shows err other is =
-      let s = subst (λ m. Shows how files names (Err fault) m after) same (subst (λ r. Shows how files names r mid after) err shows) in
-      let texts = written (texts_named how files s.added names) (work_named how files s.added names) in
-      let read = read_names files words names how plan has in
-      let late = not_front (library_of files) words names s.added read s.only s.reads in
+  runs_stopped shown result fault before mid after same shows err other is =
+      let s =
+      subst (λ m. Shows (library_of files) (plan_for how pages) (Err fault) m after) same
+      (subst (λ r. Shows (library_of files) (plan_for how pages) r mid after) err shows) in
+      let texts = shown_written s.added in
+      let only = names_read s.added s.only in
+      let late = not_front (library_of files) words s.added only s.reads in
       subst (λ r. Runs files words r before after) (sym is) (record {
         added = s.added;
         grown = s.grown;
-        only = only_named (library_of files) words names s.added read s.only;
+        only = only_named (library_of files) words s.added only;
         goes_on = (not_folder fault other s.added 0).0;
         written = with_failures s.added texts;
         outcome = shown_outcome s.added late;

@@ -1,5 +1,5 @@
--- The texts of pages, and the failures that were met.
-use Rattle.std.proofs.Common.{◌≡◌, ℕ, ◌+◌, Bool, true, false, cond, ◌||◌, Option, Some, None, Result, Ok, Err, IsErr, IfOk, List, [], ◌∷◌, ◌++◌, length, map, take, add-zero, refl, sym, ap, ◌∙◌, subst, arith}
+-- The texts of files that are listed, and the failures that were met.
+use Rattle.std.proofs.Common.{◌≡◌, ℕ, ◌+◌, Bool, true, false, cond, ◌||◌, Some, None, Result, Ok, Err, IsErr, IfOk, List, [], ◌∷◌, ◌++◌, length, take, refl, sym, ap, ◌∙◌, subst, arith}
 use Rattle.std.specs.Str.{bytes_eq}
 use Rattle.std.proofs.lemmas.Bool.{true≢false}
 use Rattle.std.proofs.lemmas.Slice.Eq.{bytes_eq-Decides}
@@ -7,30 +7,19 @@ use Rattle.std.proofs.lemmas.List.{append-nil}
 use Rattle.djvu_base.specs.Library.{File, Files, Whole, Broken, file_limit}
 use Rattle.djvu_outside.specs.Faults.{Failure, Reading}
 use Rattle.djvu_outside.specs.Reading.{bytes_in}
-use Rattle.viewer_run.specs.declared.pages.Shown.{Shown}
+use Rattle.viewer_run.specs.declared.shown.Shown.{Shown}
 use Rattle.djvu_base.specs.declared.ends.FileEnd.{FileEnd}
 use Rattle.djvu_base.specs.declared.ends.FileEnd.TheVariants as file_end
-use Rattle.page_decoder.specs.declared.reading.PageReading.{PageReading}
 use Rattle.djvu_outside.specs.declared.stops.Stop.{Stop}
 use Rattle.djvu_outside.specs.FileReads.{IsReadTo}
 use Rattle.djvu_outside.specs.Cut.{cut_at}
-use Rattle.viewer_run.specs.Ended.{Around}
 use Rattle.djvu_outside.specs.Puts.{Put, Sinks, GivesBoth}
-use Rattle.viewer_run.specs.declared.front.Mode.TheVariants as mode
-use Rattle.viewer_run.specs.Shown.{lists_first, file_of, file_read, texts_by, work_by, texts_named, work_named, lines_told, texts_found, NamesOnly, HasBroken, Shows}
-use Rattle.viewer_run.specs.declared.front.Mode.{Mode}
-use Rattle.viewer_run.specs.Texts.{Texts, no_texts, joined, raster_of, lines_of, texts_at}
-use Rattle.djvu_outside.specs.Parts.{Ticks}
+use Rattle.viewer_run.specs.Listed.{file_of, file_read, texts_by, texts_named, Lists}
+use Rattle.viewer_run.specs.Shown.{lists_first, NamesOnly, HasBroken}
+use Rattle.viewer_run.specs.Texts.{Texts, no_texts, joined}
 use Rattle.djvu_base.specs.Library.{mark_of}
 use Rattle.djvu_outside.specs.FileReads.{is_broken}
-use Rattle.page_decoder.specs.Ends.{ending}
-use Rattle.page_decoder.specs.Found.{IsReading, drawn, last_layers}
-use Rattle.page_decoder.specs.Reading.{Notice, Reading as PageResult, reading}
-use Rattle.layer_compose.specs.Drawing.{sum_of}
-use Rattle.viewer_words.specs.Lines.{notice_line}
-use Rattle.djvu_base.proofs.Ticks.{at_most_none}
-use Rattle.djvu_outside.proofs.Lemmas.{puts_same, stops_first, ticks_of}
-use Rattle.zp_table.specs.declared.rows.Row.{Row}
+use Rattle.djvu_outside.proofs.Lemmas.{puts_same, stops_first}
 
 pub same_name : (name : List ℕ) → bytes_eq name name ≡ true
 same_name name = (bytes_eq-Decides name name).1 refl
@@ -72,65 +61,61 @@ read_with files name bytes file_end.Broken old new r =
       broken = λ e. cc;
     }
 
--- a page that was put, or a prefix of it
-pub shows_page : (mode : Mode) (files : Files) (name bytes : List ℕ) (end : FileEnd) (put : Result Bool Stop) (result : Result Shown Stop)
-    (before after : Around)
-    → IsReadWith files name bytes end before.failures after.failures
-    → ((puts : List Put) → GivesBoth put puts before.told after.told → GivesBoth result puts before.told after.told)
-    → GivesBoth put (texts_by mode (file_read name bytes end)).puts before.told after.told
-    → Ticks result (work_by mode (file_read name bytes end)) before.count after.count
-    → IfOk result (λ shown. (shown.refused ≡ (texts_by mode (file_read name bytes end)).refused) × (shown.broken ≡ is_broken end))
-    → Shows mode files (name ∷ []) result before after
-shows_page mode files name bytes end put result before after w for_result gave ticks done =
-    let here = texts_by mode (file_read name bytes end) in
-    let work = ap (λ f. work_by mode f + 0) w.file ∙ add-zero (work_by mode (file_read name bytes end)) in
+-- a file that was listed, or a prefix of its lines
+pub lists_page : (files : Files) (name bytes : List ℕ) (end : FileEnd) (put : Result Bool Stop) (result : Result Shown Stop)
+    (before after : List Failure) (told_before told_after : Sinks)
+    → IsReadWith files name bytes end before after
+    → ((puts : List Put) → GivesBoth put puts told_before told_after → GivesBoth result puts told_before told_after)
+    → GivesBoth put (texts_by (file_read name bytes end)).puts told_before told_after
+    → IfOk result (λ shown. (shown.refused ≡ (texts_by (file_read name bytes end)).refused) × (shown.broken ≡ is_broken end))
+    → Lists files (name ∷ []) result before after told_before told_after
+lists_page files name bytes end put result before after told_before told_after w for_result gave done =
+    let here = texts_by (file_read name bytes end) in
     record {
       added = w.added;
       grown = w.grown;
       only = w.only;
       reads = w.after;
       puts =
-          puts_same result here.puts (texts_named mode files w.added (name ∷ [])).puts before.told after.told
+          puts_same result here.puts (texts_named files w.added (name ∷ [])).puts told_before told_after
           (sym (ap (λ (t : Texts). t.puts) texts ∙ append-nil here.puts)) (for_result here.puts gave);
-      ticks = ticks_of result (work_by mode (file_read name bytes end)) (work_named mode files w.added (name ∷ [])) before.count after.count (sym work) ticks;
       refused = by_refused result done;
       broken = by_broken result done;
     }
   where
-    -- the texts of a page that was read so
-    texts : texts_named mode files w.added (name ∷ []) ≡ joined (texts_by mode (file_read name bytes end)) no_texts
-    texts = ap (λ f. joined (texts_by mode f) no_texts) w.file
+    -- the texts of a file that was read so
+    texts : texts_named files w.added (name ∷ []) ≡ joined (texts_by (file_read name bytes end)) no_texts
+    texts = ap (λ f. joined (texts_by f) no_texts) w.file
 
     or_false : (b : Bool) → (b || false) ≡ b
     or_false true = refl
     or_false false = refl
 
     by_refused : (result : Result Shown Stop)
-        → IfOk result (λ shown. (shown.refused ≡ (texts_by mode (file_read name bytes end)).refused) × (shown.broken ≡ is_broken end))
-        → IfOk result (λ shown. shown.refused ≡ (texts_named mode files w.added (name ∷ [])).refused)
-    by_refused (Ok shown) d = d.0 ∙ sym (ap (λ (t : Texts). t.refused) texts ∙ or_false (texts_by mode (file_read name bytes end)).refused)
+        → IfOk result (λ shown. (shown.refused ≡ (texts_by (file_read name bytes end)).refused) × (shown.broken ≡ is_broken end))
+        → IfOk result (λ shown. shown.refused ≡ (texts_named files w.added (name ∷ [])).refused)
+    by_refused (Ok shown) d = d.0 ∙ sym (ap (λ (t : Texts). t.refused) texts ∙ or_false (texts_by (file_read name bytes end)).refused)
     by_refused (Err stop) d = tt
 
     by_broken : (result : Result Shown Stop)
-        → IfOk result (λ shown. (shown.refused ≡ (texts_by mode (file_read name bytes end)).refused) × (shown.broken ≡ is_broken end))
+        → IfOk result (λ shown. (shown.refused ≡ (texts_by (file_read name bytes end)).refused) × (shown.broken ≡ is_broken end))
         → IfOk result (λ shown. HasBroken shown.broken w.added)
     by_broken (Ok shown) d = subst (λ b. HasBroken b w.added) (sym d.1) w.broken
     by_broken (Err stop) d = tt
 
--- a page that wasn't read
-pub shows_nothing : (mode : Mode) (files : Files) (name : List ℕ) (result : Result Shown Stop) (before after : Around) → IsErr result → after ≡ before
-    → Shows mode files (name ∷ []) result before after
-shows_nothing mode files name (Ok drawn) before after is_err e = absurd (cc)
-shows_nothing mode files name (Err stop) before after is_err e = subst (λ a. Shows mode files (name ∷ []) (Err stop) before a) (sym e) (record {
+-- a file that wasn't read
+pub lists_nothing : (files : Files) (name : List ℕ) (result : Result Shown Stop) (before after : List Failure) (told : Sinks) → IsErr result → after ≡ before
+    → Lists files (name ∷ []) result before after told told
+lists_nothing files name (Ok drawn) before after told is_err e = absurd (cc)
+lists_nothing files name (Err stop) before after told is_err e = record {
   added = [];
-  grown = sym (append-nil before.failures);
+  grown = e ∙ sym (append-nil before);
   only = λ other n. refl;
   reads = refl;
-  puts = stops_first (texts_named mode files [] (name ∷ [])).puts before.told;
-  ticks = at_most_none (work_named mode files [] (name ∷ [])) before.count;
+  puts = stops_first (texts_named files [] (name ∷ [])).puts told;
   refused = tt;
   broken = tt;
-})
+}
 
 -- a part that stops gives what it gave
 pub gives_err : (put : Result Bool Stop) (fault : Stop) (result : Result Shown Stop) → put ≡ Err fault → IsErr result → (before after : Sinks) (puts : List Put)
@@ -145,28 +130,3 @@ gives_ok put refused drawn e before after puts g = subst (λ p. GivesBoth p puts
 pub done_err : (result : Result Shown Stop) (refused broken : Bool) → IsErr result → IfOk result (λ drawn. (drawn.refused ≡ refused) × (drawn.broken ≡ broken))
 done_err (Ok drawn) refused broken is_err = absurd (cc)
 done_err (Err stop) refused broken is_err = tt
-
--- the meter of a page, by that of its putting
-pub ticks_err : (put : Result Bool Stop) (fault : Stop) (result : Result Shown Stop) → put ≡ Err fault → IsErr result → (work before after : ℕ)
-    → Ticks put work before after → Ticks result work before after
-ticks_err put fault (Ok drawn) e is_err work before after t = absurd (cc)
-ticks_err put fault (Err stop) e is_err work before after t = subst (λ p. Ticks p work before after) e t
-
-pub ticks_ok : (put : Result Bool Stop) (refused : Bool) (drawn : Shown) → put ≡ Ok refused → (work before after : ℕ) → Ticks put work before after
-    → Ticks {T = Shown} (Ok drawn) work before after
-ticks_ok put refused drawn e work before after t = subst (λ p. Ticks p work before after) e t
-
-lines_same : (name : List ℕ) (notices : List Notice) → lines_told name (map drawn notices) ≡ lines_of name notices
-lines_same name [] = refl
-lines_same name (notice ∷ notices) = ap (λ l. notice_line name notice.chunks (sum_of notice.layers) ++ l) (lines_same name notices)
-
--- the texts of a page that is drawn, by what was found in it
-pub drawn_texts : (rows : List Row) (name bytes : List ℕ) (end : FileEnd) (found : PageReading) → IsReading (reading rows (mark_of end) bytes) found
-    → texts_found name found ≡ texts_by (mode.Draw rows) (file_read name bytes end)
-drawn_texts rows name bytes end found r =
-    let wanted : PageResult = reading rows (mark_of end) bytes in
-    let names : List (List ℕ) = name ∷ [] in
-    ap (λ n. texts_at names 0 (lines_told name n) (raster_of found.layers) (ending found.end)) r.notices
-    ∙ ap (λ l. texts_at names 0 l (raster_of found.layers) (ending found.end)) (lines_same name wanted.notices)
-    ∙ ap (λ l. texts_at names 0 (lines_of name wanted.notices) (raster_of l) (ending found.end)) r.layers
-    ∙ ap (λ e. texts_at names 0 (lines_of name wanted.notices) (raster_of (last_layers wanted.notices)) e) (sym r.end)

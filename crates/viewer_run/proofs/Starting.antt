@@ -1,8 +1,8 @@
 -- What the start of a run leaves to its pages.
-use Rattle.std.proofs.Common.{◌≡◌, ◌≢◌, ℕ, suc, ◌<◌, ◌≤◌, Bool, true, false, cond, not, ltb, ◌||◌, Option, Some, None, Result, Ok, Err, IsSome, unwrap_or, List, [], ◌∷◌, ◌++◌, length, map, option_map, take, get_or, refl, sym, subst, arith, ap, ◌+◌, ◌∙◌}
+use Rattle.std.proofs.Common.{◌≡◌, ◌≢◌, ℕ, suc, Bool, true, false, cond, ltb, ◌||◌, Option, Some, None, Result, Ok, Err, IsSome, unwrap_or, List, [], ◌∷◌, ◌++◌, length, map, option_map, take, get_or, refl, sym, subst, arith, ap, ◌+◌, ◌∙◌}
 use Rattle.std.specs.List.{AllPairs}
 use Rattle.std.specs.Str.{bytes_eq}
-use Rattle.std.proofs.lemmas.Bool.{true≢false}
+use Rattle.std.proofs.lemmas.Bool.{true≢false, ltb-false}
 use Rattle.std.proofs.lemmas.List.{take_all}
 use Rattle.std.proofs.lemmas.List.Folds.{list_any_none}
 use Rattle.std.proofs.lemmas.Slice.Eq.{bytes_eq-Decides}
@@ -17,10 +17,12 @@ use Rattle.djvu_outside.specs.FileReads.{is_broken}
 use Rattle.viewer_words.specs.declared.commands.TableChoice.{TableChoice}
 use Rattle.viewer_words.specs.declared.commands.TableChoice.TheVariants as choice
 use Rattle.viewer_words.specs.Files.{NamedFile, first_unlisted, table_before, unlisted_line}
-use Rattle.viewer_run.specs.Plan.{name_limit, line_by_names, names_in, bytes_of_found, table_in, table_of}
-use Rattle.djvu_base.specs.Name.{is_listed}
-use Rattle.viewer_run.specs.Shown.{HasFiles, AreDistinct}
-use Rattle.viewer_run.specs.Start.{IsEarly, Starts, StartsFor, CanRead, CanStart}
+use Rattle.page_decoder.specs.Libraries.{names_in}
+use Rattle.viewer_run.specs.Plan.{name_limit, line_by_names, bytes_of_found, table_in, table_of}
+use Rattle.djvu_base.specs.Name.{IsAscending, is_listed}
+use Rattle.viewer_run.specs.Listed.{HasFiles}
+use Rattle.viewer_run.specs.Shown.{AreDistinct}
+use Rattle.viewer_run.specs.Start.{IsEarly, Starts, StartsFor, AreListed, HasNames, CanRead}
 use Rattle.viewer_run.specs.EarlyFailures.{front_may_fail, names_table}
 use Rattle.djvu_outside.specs.declared.stops.Stop.{Stop}
 use Rattle.djvu_outside.specs.declared.stops.Stop.TheVariants as stop
@@ -37,36 +39,57 @@ listed_file : (files : Files) (name : List ℕ) → is_listed (names_of files) n
 listed_file [] name e = absurd (true≢false (sym e))
 listed_file (file ∷ files) name e = one_listed files name file.1 (bytes_eq name file.0) (listed_file files name) e
 
--- where no file is unlisted, the folder has each
-all_listed : (files : Files) (named : List NamedFile) → first_unlisted (names_of files) named ≡ None → HasFiles files (map (λ (file : NamedFile). file.1) named)
-all_listed files [] e = tt
-all_listed files (file ∷ named) e = by (is_listed (names_of files) file.1) refl e (all_listed files named)
+-- the folder has a file of each listed name
+pub listed_files : (files : Files) (names pages : List (List ℕ)) → names ≡ names_of files → AreListed names pages → HasFiles files pages
+listed_files files names [] e h = tt
+listed_files files names (page ∷ pages) e h =
+    (listed_file files page (ap (λ l. is_listed l page) (sym e) ∙ h.0), listed_files files names pages e h.1)
+
+-- where no file is unlisted, each name is listed
+all_listed : (names : List (List ℕ)) (named : List NamedFile) → first_unlisted names named ≡ None → AreListed names (map (λ (file : NamedFile). file.1) named)
+all_listed names [] e = tt
+all_listed names (file ∷ named) e = by (is_listed names file.1) refl e (all_listed names named)
   where
-    by : (t : Bool) → is_listed (names_of files) file.1 ≡ t → cond t (first_unlisted (names_of files) named) (Some file.0) ≡ None
-        → (first_unlisted (names_of files) named ≡ None → HasFiles files (map (λ (other : NamedFile). other.1) named))
-        → HasFile files file.1 × HasFiles files (map (λ (other : NamedFile). other.1) named)
-    by true h e more = (listed_file files file.1 h, more e)
+    by : (t : Bool) → is_listed names file.1 ≡ t → cond t (first_unlisted names named) (Some file.0) ≡ None
+        → (first_unlisted names named ≡ None → AreListed names (map (λ (other : NamedFile). other.1) named))
+        → (is_listed names file.1 ≡ true) × AreListed names (map (λ (other : NamedFile). other.1) named)
+    by true h e more = (h, more e)
     by false h e more = cc
 
-by_first : (files : Files) (named : List NamedFile) (o : Option ℕ) → first_unlisted (names_of files) named ≡ o
-    → CanStart files (map (λ (file : NamedFile). file.1) named) (option_map words_line o)
-by_first files named (Some number) e = tt
-by_first files named None e = all_listed files named e
+-- where no line refuses a run, the folder has what its words name
+pub fits : (names : List (List ℕ)) (named : List NamedFile) → IsAscending names → line_by_names names named ≡ None
+    → HasNames names (map (λ (file : NamedFile). file.1) named)
+fits names named ascending e = by (ltb name_limit (length names)) refl e
+  where
+    none : (o : Option ℕ) → option_map words_line o ≡ None → o ≡ None
+    none None e = refl
+    none (Some number) e = cc
 
-by_many : (files : Files) (named : List NamedFile) (line : List ℕ) (many : Bool)
-    → CanStart files (map (λ (file : NamedFile). file.1) named) (cond many (Some line) (unlisted_line (names_of files) named))
-by_many files named line true = tt
-by_many files named line false = by_first files named (first_unlisted (names_of files) named) refl
-
-pub can_start : (files : Files) (named : List NamedFile) → CanStart files (map (λ (file : NamedFile). file.1) named) (line_by_names (names_of files) named)
-can_start files named = by_many files named (folder_line (length (names_of files))) (ltb name_limit (length (names_of files)))
+    by : (many : Bool) → ltb name_limit (length names) ≡ many → cond many (Some (folder_line (length names))) (unlisted_line names named) ≡ None
+        → HasNames names (map (λ (file : NamedFile). file.1) named)
+    by true h e = cc
+    by false h e = record {
+      ascending = ascending;
+      few = ltb-false name_limit (length names) h;
+      listed =
+          all_listed names named (none (first_unlisted names named) e);
+    }
 
 -- the table's file and the pages of a drawing
-pub has_both : (files : Files) (table : TableChoice) (pages names : List (List ℕ)) → names ≡ table_before table pages → HasFiles files names
-    → CanRead files table × HasFiles files pages
-has_both files choice.Djvu pages names e h = (tt, subst (HasFiles files) e h)
-has_both files choice.Flat pages names e h = (tt, subst (HasFiles files) e h)
-has_both files (choice.File name) pages names e h = let both = subst (HasFiles files) e h in (both.0, both.1)
+pub lists_both : (listed : List (List ℕ)) (table : TableChoice) (pages names : List (List ℕ)) → names ≡ table_before table pages → HasNames listed names
+    → HasNames listed pages
+lists_both listed choice.Djvu pages names e h = subst (HasNames listed) e h
+lists_both listed choice.Flat pages names e h = subst (HasNames listed) e h
+lists_both listed (choice.File name) pages names e h =
+    let both = subst (AreListed listed) e h.listed in
+    record { ascending = h.ascending; few = h.few; listed = both.1 }
+
+pub can_read : (files : Files) (listed : List (List ℕ)) (table : TableChoice) (pages names : List (List ℕ)) → listed ≡ names_of files
+    → names ≡ table_before table pages → HasNames listed names → CanRead files table
+can_read files listed choice.Djvu pages names over e h = tt
+can_read files listed choice.Flat pages names over e h = tt
+can_read files listed (choice.File name) pages names over e h =
+    let both = subst (AreListed listed) e h.listed in listed_file files name (ap (λ l. is_listed l name) (sym over) ∙ both.0)
 
 -- the library's names are the folder's
 pub names_of_library : (limit : ℕ) (files : Files) → names_in (library_within limit files) ≡ names_of files

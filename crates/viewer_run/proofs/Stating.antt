@@ -1,22 +1,26 @@
 -- What statuses say.
-use Rattle.std.proofs.Common.{◌≡◌, ◌≢◌, ◌↔◌, ℕ, zero, suc, Bool, true, false, ◌||◌, Option, Some, None, List, [], ◌∷◌, take, inl, inr, refl, sym, ap, ◌∙◌, subst, arith, ◌≤◌}
+use Rattle.std.proofs.Common.{◌≡◌, ◌≢◌, ◌↔◌, ℕ, zero, suc, Bool, true, false, ◌||◌, Option, Some, None, List, [], ◌∷◌, take, inl, inr, refl, sym, ap, ◌∙◌, subst, arith, ◌<◌, ◌≤◌, length}
 use Rattle.std.specs.Prelude.{slice_get}
 use Rattle.std.proofs.lemmas.Bool.{true≢false}
-use Rattle.djvu_base.specs.Library.{File, Files, Library, Mark, Open, Whole, library_within, library_of, file_limit}
+use Rattle.djvu_base.specs.Library.{File, Files, Library, Whole, library_within, library_of, file_limit}
 use Rattle.djvu_outside.specs.Faults.{Failure}
 use Rattle.djvu_outside.specs.Cut.{cut}
-use Rattle.djvu_outside.proofs.Lemmas.{nothing_cut}
 use Rattle.zp_table.specs.declared.rows.Row.{Row}
 use Rattle.iff_chunks.specs.Chunks.{Chunk, Tail, InHead, InHeader, InData, InPad, FormEnd, Broken, chunks_of, end_of}
 use Rattle.iff_chunks.specs.Ends.{file_end}
-use Rattle.page_decoder.specs.Reading.{Ending, Finished, Fault, NeedBytes, Reading, reading}
-use Rattle.viewer_run.specs.Plan.{Plan, Refuses, Draws, Lists, names_in, plan_of}
+use Rattle.djvu_base.specs.Picture.{Picture}
+use Rattle.page_decoder.specs.Given.{Given}
+use Rattle.page_decoder.specs.PageRead.{PageRead}
+use Rattle.page_decoder.specs.Read.{read}
+use Rattle.page_decoder.specs.Libraries.{Shown, Drawn, Faulty, Unknown, names_in, bytes_in, mark_in, shown_by, run_end, run_given, page_in}
+use Rattle.replay_core.specs.Machine.{page_notices, AllClosed}
+use Rattle.viewer_words.specs.Lines.{name_at}
+use Rattle.viewer_run.specs.Plan.{Plan, Refuses, Draws, Lists, plan_of}
 use Rattle.viewer_run.specs.EarlyFailures.{front_may_fail, front_failed}
-use Rattle.viewer_run.specs.Texts.{Texts, is_refused, texts_of_found, texts_of_page}
+use Rattle.viewer_run.specs.Texts.{Texts, lines_of, texts_at, texts_of_page}
 use Rattle.viewer_run.specs.Info.{has_fault, info_of_found, info_of_page}
-use Rattle.viewer_run.specs.Offline.{Written, status_by, texts_of_pages, written_by, with_failures, IsOutcome, IsWritten, MayFailSo, offline}
-use Rattle.viewer_run.specs.Statuses.{IsDrawn, PageIsDrawn, PageIsListed, AllPages, AllShown, IsRefused}
-use Rattle.viewer_run.proofs.Finishing.{drawn_by}
+use Rattle.viewer_run.specs.Offline.{Written, status_by, texts_of_pages, written_by, with_failures, IsOutcome}
+use Rattle.viewer_run.specs.Statuses.{PageIsDrawn, PageIsListed, AllPages, AllShown, IsRefused}
 use Rattle.viewer_run.proofs.Running.{written_is, sound_outcome}
 
 or_none : (a b : Bool) → (a || b) ≡ false → (a ≡ false) × (b ≡ false)
@@ -52,23 +56,53 @@ whole_files limit (first ∷ files) zero file e =
     let same : here ≡ file = cc in sym (ap (λ (f : File). f.mark) same)
 whole_files limit (first ∷ files) (suc page) file e = whole_files limit files page file e
 
-module _ (is_finished : (rows : List Row) (mark : Mark) (bytes : List ℕ) → (reading rows mark bytes).end ≡ Finished → (reading rows mark bytes).notices ≢ [])
-    (is_known : (rows : List Row) (mark : Mark) (bytes : List ℕ) → mark ≢ Open → (reading rows mark bytes).end ≢ NeedBytes) where
-  page_drawn : (rows : List Row) (files : Files) (page : ℕ) → (texts_of_page rows (library_of files) page).refused ≡ false
-      → PageIsDrawn rows (library_of files) page
-  page_drawn rows files page refused file found =
-      let whole = whole_files file_limit files page file found in
-      let known : file.mark ≢ Open = λ is_open. let both = sym whole ∙ is_open in cc in
-      let here : is_refused (reading rows file.mark file.bytes).end ≡ false =
-      ap (λ f. (texts_of_found rows (names_in (library_of files)) page f).refused) (sym found) ∙ refused in
-      drawn_by (reading rows file.mark file.bytes) (is_finished rows file.mark file.bytes) (is_known rows file.mark file.bytes known) here
+inside_at : {A : Type 0} (list : List A) (at : ℕ) (it : A) → slice_get list at ≡ Some it → at < length list
+inside_at [] at it e = cc
+inside_at (first ∷ list) zero it e = omega arith
+inside_at (first ∷ list) (suc at) it e = let rest = inside_at list at it e in omega (arith, rest)
+
+closed_files : (files : Files) → AllClosed (library_of files)
+closed_files files number file found is_open = let both = sym (whole_files file_limit files number file found) ∙ is_open in cc
+
+is_drawn : (names : List (List ℕ)) (name lines : List ℕ) (shown : Shown) → shown ≢ Unknown → (texts_at names name lines shown).refused ≡ false
+    → (picture : Picture) × (shown ≡ Drawn picture)
+is_drawn names name lines (Drawn picture) known refused = (picture, refl)
+is_drawn names name lines (Faulty fault) known refused = absurd (true≢false refused)
+is_drawn names name lines Unknown known refused = absurd (known refl)
+
+page_drawn : ((rows : List Row) (library : Library) (page : ℕ) → page < length library → AllClosed library → page_in rows library page ≢ Unknown)
+    → (rows : List Row) (files : Files) (page : ℕ) → (texts_of_page rows (library_of files) page).refused ≡ false → PageIsDrawn rows (library_of files) page
+page_drawn known rows files page refused inside =
+    let library = library_of files in
+    let names = names_in library in
+    is_drawn names (name_at names page) (lines_of (name_at names page) (page_notices rows library page)) (page_in rows library page)
+    (known rows library page inside (closed_files files)) refused
+
+-- a page of which there is this file, or none
+abbrev given_with : List Row → Library → ℕ → Option File → Given
+given_with rows library page found = record {
+  home = (run_given rows library page).home;
+  known = (run_given rows library page).known;
+  bytes = bytes_in found;
+  mark = mark_in found;
+}
+
+abbrev refused_with : List Row → Library → ℕ → Option File → Bool
+refused_with rows library page found =
+    let names = names_in library in
+    let its : PageRead = read (given_with rows library page found) in
+    (texts_at names (name_at names page) (lines_of (name_at names page) (page_notices rows library page))
+    (shown_by (run_end its.end) its.left.decoded.layers)).refused
 
 drawn_unrefused : (rows : List Row) (library : Library) (page : ℕ) → PageIsDrawn rows library page → (texts_of_page rows library page).refused ≡ false
 drawn_unrefused rows library page h = by (slice_get library page) refl
   where
-    by : (found : Option File) → slice_get library page ≡ found → (texts_of_found rows (names_in library) page found).refused ≡ false
-    by None e = refl
-    by (Some file) e = ap is_refused (h file e).finished
+    by : (found : Option File) → slice_get library page ≡ found → (texts_of_page rows library page).refused ≡ false
+    by None e = subst (λ found. refused_with rows library page found ≡ false) (sym e) refl
+    by (Some file) e =
+        let names = names_in library in
+        let lines = lines_of (name_at names page) (page_notices rows library page) in
+        ap (λ shown. (texts_at names (name_at names page) lines shown).refused) (h (inside_at library page file e)).1
 
 listed_by : (whole : List Chunk) (tail : Tail) → has_fault (end_of whole tail) ≡ false → end_of whole tail ≡ FormEnd
 listed_by whole InHead e = absurd (true≢false e)
@@ -97,18 +131,17 @@ listed_unrefused library page h = by (slice_get library page) refl
     by (Some file) e = ap has_fault (h file e)
 
 -- 0 exactly where all pages are shown
-pub done : ((rows : List Row) (mark : Mark) (bytes : List ℕ) → (reading rows mark bytes).end ≡ Finished → (reading rows mark bytes).notices ≢ [])
-    → ((rows : List Row) (mark : Mark) (bytes : List ℕ) → mark ≢ Open → (reading rows mark bytes).end ≢ NeedBytes)
+pub done : ((rows : List Row) (library : Library) (page : ℕ) → page < length library → AllClosed library → page_in rows library page ≢ Unknown)
     → (files : Files) (words : List (List ℕ)) (w : Written) → IsOutcome [] [] (library_of files) words w
     → (w.status ≡ 0) ↔ AllShown (library_of files) (plan_of (library_of files) words)
-done is_finished is_known files words w outcome =
+done is_known files words w outcome =
     subst (λ (v : Written). (v.status ≡ 0) ↔ AllShown (library_of files) (plan_of (library_of files) words))
     (sym (sound_outcome (library_of files) words w outcome)) (by (plan_of (library_of files) words))
   where
     by : (plan : Plan) → ((written_by (library_of files) plan).status ≡ 0) ↔ AllShown (library_of files) plan
     by (Refuses line) = (λ e. cc, λ h. absurd h)
     by (Draws rows pages) =
-        by_status (texts_of_page rows (library_of files)) (PageIsDrawn rows (library_of files)) (page_drawn is_finished is_known rows files)
+        by_status (texts_of_page rows (library_of files)) (PageIsDrawn rows (library_of files)) (page_drawn is_known rows files)
         (drawn_unrefused rows (library_of files)) pages
     by (Lists pages) =
         by_status (info_of_page (library_of files)) (PageIsListed (library_of files)) (page_listed files) (listed_unrefused (library_of files)) pages

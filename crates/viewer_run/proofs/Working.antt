@@ -6,9 +6,9 @@ use Rattle.viewer_words.specs.declared.commands.Command.{Command}
 use Rattle.viewer_words.specs.declared.commands.Command.TheVariants as command
 use Rattle.viewer_words.specs.Files.{named_files}
 use Rattle.viewer_words.specs.Words.{words_of}
-use Rattle.viewer_run.specs.Plan.{Plan, Refuses, Draws, Lists, draws, refused_or, line_by_names, names_in, numbers_of, plan_of, plan_by_words}
+use Rattle.viewer_run.specs.Plan.{Plan, Refuses, Draws, Lists, draws, refused_or, line_by_names, numbers_of, plan_of, plan_by_words}
+use Rattle.page_decoder.specs.Libraries.{names_in}
 use Rattle.viewer_run.specs.Texts.{texts_of_page}
-use Rattle.viewer_run.specs.Info.{info_of_page}
 use Rattle.viewer_run.specs.Offline.{offline, status_by, texts_of_pages, written_by}
 use Rattle.std.specs.Prelude.{Bool, true}
 

@@ -1,5 +1,5 @@
 -- The parts of a run, which may have stopped, with one folder, two sinks and one meter.
-use Rattle.std.specs.Prelude.{ℕ, false, ◌≡◌, ◌++◌, ◌<◌, ◌≤◌, ⊤, List, [], Option, Result, Ok, Err}
+use Rattle.std.specs.Prelude.{ℕ, false, ◌≡◌, ◌++◌, ◌≤◌, ⊤, List, [], Option, Result, Ok, Err}
 use Rattle.djvu_base.specs.Library.{Files, Library, library_of}
 use Rattle.djvu_outside.specs.declared.stops.Status.{Status}
 use Rattle.djvu_outside.specs.declared.stops.Stop.{Stop}

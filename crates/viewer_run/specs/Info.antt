@@ -10,9 +10,10 @@ use Rattle.iff_chunks.specs.Events.{Event, Begun, Header, Data, ChunkEnd, events
 use Rattle.iff_chunks.specs.Ends.{file_end}
 use Rattle.iff_chunks.specs.Told.{Walking}
 use Rattle.iff_chunks.specs.Walk.{HasTold, HasToldAll}
-use Rattle.viewer_words.specs.Lines.{name_at, form_line, chunk_line}
-use Rattle.viewer_run.specs.Plan.{names_in}
-use Rattle.viewer_run.specs.Texts.{Texts, no_texts, page_fault}
+use Rattle.djvu_base.specs.declared.faults.FaultKind.{FaultKind}
+use Rattle.page_decoder.specs.Libraries.{names_in}
+use Rattle.viewer_words.specs.Lines.{name_at, form_line, chunk_line, fault_line}
+use Rattle.viewer_run.specs.Texts.{Texts, no_texts}
 
 abbrev pub form_lines : List ℕ → Option Form → List ℕ
 form_lines name None = []
@@ -32,6 +33,10 @@ tail_line name (Broken kind offset) = []
 
 abbrev pub heading_lines : List ℕ → Chunks → List ℕ
 heading_lines name chunks = form_lines name chunks.form ++ (flat_map (header_line name) chunks.whole ++ tail_line name chunks.tail)
+
+-- the line of a fault in the file of a page, which has this number among the names of the folder
+abbrev pub page_fault : List (List ℕ) → ℕ → FaultKind → ℕ → List ℕ
+page_fault names page kind offset = fault_line (name_at names page) (record { kind = kind; place = record { file = page; offset = offset } }) names
 
 -- the line of a fault of form, or none
 abbrev pub fault_text : List (List ℕ) → ℕ → Tail → List ℕ

@@ -6,10 +6,12 @@ pub use Rattle.djvu_outside.specs.Faults
 pub use Rattle.djvu_outside.specs.Parts
 pub use Rattle.djvu_outside.specs.Cut
 pub use Rattle.djvu_outside.specs.Puts
-pub use Rattle.page_decoder.specs.Work
+pub use Rattle.page_decoder.specs.Libraries
+pub use Rattle.replay_core.specs.Machine
 pub use Rattle.viewer_words.specs.Words
 pub use Rattle.viewer_words.specs.Lines
 pub mod Plan
+pub mod Reads
 pub mod Rasters
 pub mod Texts
 pub mod Info
@@ -22,3 +24,7 @@ pub mod Worked
 pub mod Ended
 pub mod Shown
 pub mod Start
+pub mod Listed
+pub mod Found
+pub mod CoreRun
+pub mod Drawing

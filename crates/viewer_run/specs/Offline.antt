@@ -5,7 +5,7 @@ use Rattle.djvu_outside.specs.Cut.{cut}
 use Rattle.djvu_outside.specs.Faults.{Failure}
 use Rattle.djvu_outside.specs.Puts.{Put, to_report}
 use Rattle.zp_table.specs.declared.rows.Row.{Row}
-use Rattle.page_decoder.specs.Work.{work}
+use Rattle.page_decoder.specs.Libraries.{work_of}
 use Rattle.viewer_run.specs.Texts.{Texts, no_texts, joined, texts_of_page}
 use Rattle.viewer_run.specs.Info.{info_of_page}
 use Rattle.viewer_run.specs.Plan.{Plan, Refuses, Draws, Lists, plan_of}
@@ -16,7 +16,8 @@ abbrev pub texts_of_pages : (ℕ → Texts) → List ℕ → Texts
 texts_of_pages texts [] = no_texts
 texts_of_pages texts (page ∷ pages) = joined (texts page) (texts_of_pages texts pages)
 
--- what a run puts into its two sinks, in that order, its status, and its work: the decisions that its pages' readings take
+-- what a run puts into its two sinks, in that order, its status, and its work: the decisions of its pages, and of the files that
+-- these reach, once of each
 pub record Written : Type 0 where
   pub puts : List Put
   pub status : ℕ
@@ -35,7 +36,7 @@ refused_by line = record { puts = to_report line; status = 2; work = 0 }
 
 -- pages of a library that are drawn with this state table
 abbrev pub drawn : List Row → Library → List ℕ → Written
-drawn rows library pages = written (texts_of_pages (texts_of_page rows library) pages) (work rows library pages)
+drawn rows library pages = written (texts_of_pages (texts_of_page rows library) pages) (work_of rows library pages)
 
 -- pages whose chunks are listed: no decision is read
 abbrev pub listed : Library → List ℕ → Written

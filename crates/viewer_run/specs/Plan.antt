@@ -6,6 +6,7 @@ use Rattle.zp_table.specs.declared.rows.Row.{Row}
 use Rattle.zp_table.specs.declared.faults.TableFault.{TableFault}
 use Rattle.zp_table.specs.Listing.{djvu_rows, flat_rows}
 use Rattle.zp_table.specs.Reading.{rows_in, fault_of, word_of}
+use Rattle.page_decoder.specs.Libraries.{names_in}
 use Rattle.viewer_words.specs.declared.commands.Command.{Command}
 use Rattle.viewer_words.specs.declared.commands.Command.TheVariants as command
 use Rattle.viewer_words.specs.declared.commands.TableChoice.{TableChoice}
@@ -51,9 +52,6 @@ abbrev pub table_of : Library → TableChoice → Result (List Row) TableFault
 table_of library choice.Djvu = Ok djvu_rows
 table_of library choice.Flat = Ok flat_rows
 table_of library (choice.File name) = table_in (bytes_of_found (file_named name library))
-
-abbrev pub names_in : Library → List (List ℕ)
-names_in library = map (λ file. file.name) library
 
 -- the number of a name among these, or how many they are where it isn't there
 abbrev pub number_of : List (List ℕ) → List ℕ → ℕ

@@ -1,13 +1,12 @@
 -- Rasters of drawings, as bytes in the format PPM.
 use Rattle.std.specs.Prelude.{ℕ, ◌++◌, List, codes, decimal}
+use Rattle.djvu_base.specs.Picture.{Picture}
 use Rattle.djvu_base.specs.Text.{newline}
-use Rattle.layer_compose.specs.declared.layers.Layers.{Layers}
-use Rattle.layer_compose.specs.Drawing.{samples_of, drawing_width, drawing_height}
 
 -- the head of a raster: `P6`, the sizes, and the largest sample
 abbrev pub raster_head : ℕ → ℕ → List ℕ
 raster_head width height = codes "P6" ++ (newline ++ (decimal width ++ (codes " " ++ (decimal height ++ (newline ++ (codes "255" ++ newline))))))
 
 -- the raster of a drawing: the head, and the samples from the top row on
-abbrev pub raster_text : Layers → List ℕ
-raster_text layers = raster_head (drawing_width layers) (drawing_height layers) ++ samples_of layers
+abbrev pub raster_text : Picture → List ℕ
+raster_text picture = raster_head picture.width picture.height ++ picture.samples

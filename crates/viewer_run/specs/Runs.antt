@@ -1,14 +1,10 @@
 -- A whole run, by what is outside of it before and after.
-use Rattle.std.specs.Prelude.{ℕ, false, ◌≡◌, ◌+◌, ◌++◌, ◌<◌, ◌≤◌, ⊤, List, [], ◌∷◌, length, Option, Result, Ok, Err}
+use Rattle.std.specs.Prelude.{ℕ, ◌≡◌, ◌+◌, ◌++◌, ◌<◌, ◌≤◌, List, [], ◌∷◌, length, Option}
 use Rattle.djvu_base.specs.Library.{Files, library_of}
 use Rattle.djvu_base.specs.Meter.{ticked}
-use Rattle.djvu_outside.specs.declared.stops.Status.{Status}
-use Rattle.djvu_outside.specs.declared.stops.Stop.{Stop}
-use Rattle.djvu_outside.specs.declared.stops.Stop.TheVariants as stop
 use Rattle.djvu_outside.specs.Faults.{Failure, Rises}
-use Rattle.djvu_outside.specs.Parts.{Ticks}
-use Rattle.djvu_outside.specs.Puts.{Put, Sinks, sinks, Got, GivesBoth}
-use Rattle.viewer_run.specs.EarlyFailures.{front_failed, NamesRead}
+use Rattle.djvu_outside.specs.Puts.{Put, Sinks, sinks, Got}
+use Rattle.viewer_run.specs.EarlyFailures.{NamesRead}
 use Rattle.viewer_run.specs.Offline.{Written, IsOutcome}
 
 -- the failures of each folder, what both sinks tell that they were given, and the count of each meter

@@ -1,23 +1,16 @@
 -- What the statuses of a run say of its pages.
-use Rattle.std.specs.Prelude.{ℕ, ◌≡◌, ⊤, List, [], ◌∷◌, Some, slice_get}
+use Rattle.std.specs.Prelude.{ℕ, ◌≡◌, ◌<◌, ⊤, List, [], ◌∷◌, length, Some, slice_get}
 use Rattle.djvu_base.specs.Library.{File, Library}
 use Rattle.zp_table.specs.declared.rows.Row.{Row}
-use Rattle.layer_compose.specs.declared.layers.Layers.{Layers}
+use Rattle.djvu_base.specs.Picture.{Picture}
 use Rattle.iff_chunks.specs.Chunks.{FormEnd}
 use Rattle.iff_chunks.specs.Ends.{file_end}
-use Rattle.page_decoder.specs.Reading.{Finished, Reading, reading}
-use Rattle.page_decoder.specs.Found.{last_layers}
+use Rattle.page_decoder.specs.Libraries.{Drawn, page_in}
 use Rattle.viewer_run.specs.Plan.{Plan, Refuses, Draws, Lists}
-
--- a page that is finished, with a last drawing
-pub record IsDrawn (read : Reading) : Type 0 where
-  pub finished : read.end ≡ Finished
-  pub layers : Layers
-  pub last : last_layers read.notices ≡ Some layers
 
 -- the page of this number is drawn
 abbrev pub PageIsDrawn : List Row → Library → ℕ → Type 0
-PageIsDrawn rows library page = (file : File) → slice_get library page ≡ Some file → IsDrawn (reading rows file.mark file.bytes)
+PageIsDrawn rows library page = page < length library → (picture : Picture) × (page_in rows library page ≡ Drawn picture)
 
 -- the file of the page of this number ends with its FORM
 abbrev pub PageIsListed : Library → ℕ → Type 0

@@ -2,14 +2,14 @@
 ghost use Rattle.std.specs.Prelude.{◌≡◌, ◌<◌, ◌^◌, IfOk, [], ◌∷◌, length};
 ghost use Rattle.iff_chunks.specs.Ends.{file_end};
 ghost use Rattle.iff_chunks.specs.Told.{Told};
-ghost use Rattle.viewer_run.specs.Info.{info_lines, has_fault, step_line, InformsWhole};
+ghost use Rattle.viewer_run.specs.Info.{info_lines, has_fault, page_fault, step_line, InformsWhole};
 ghost use Rattle.djvu_base.specs.Library.{mark_of};
 
-use crate::texts::own_fault;
-use djvu_base::{FileEnd, Name};
+use djvu_base::{Fault, FaultKind, FileEnd, Name, Place};
 use iff_chunks::{WalkEnd, WalkStep, Walker, rest_of};
 use std::alloc::{AllocError, Global};
-use viewer_words::{chunk_line, form_line};
+use std::slice::from_ref;
+use viewer_words::{chunk_line, fault_line, form_line};
 
 /// What is told of a file's chunks.
 #[derive(Debug, Drop)]
@@ -79,4 +79,17 @@ fn step_line(alloc: Global, name: &Name, step: WalkStep) -> Result<Vec<u8>, Allo
         WalkStep::Header { id, offset, length } => chunk_line(alloc, name, id, offset, length),
         _ => Ok(Vec::new(alloc)),
     }
+}
+
+/// The line of a fault in a page's own file.
+fn own_fault(
+    alloc: Global,
+    page: &Name,
+    kind: FaultKind,
+    offset: u32,
+) -> Result<Vec<u8>, AllocError>
+    ensures { IfOk result (λ line. line.items ≡ page_fault (page.now ∷ []) 0 kind offset) }
+{
+    let place = Place { file: 0, offset };
+    fault_line(alloc, page, &Fault { kind, place }, from_ref(page))
 }

@@ -1,20 +1,22 @@
 //! Laws of the definitions, apart from a run: each is a clause of a function that changes nothing. `worked` has values of
 //! them that are worked out.
-ghost use Rattle.std.specs.Prelude.{◌≡◌, ◌≢◌, ◌≤◌, ◌↔◌, ◌++◌, ℕ, false, List, [], Some};
-ghost use Rattle.djvu_base.specs.Library.{File, Files, Library, Open, library_of};
+ghost use Rattle.std.specs.Prelude.{◌≡◌, ◌≢◌, ◌<◌, ◌≤◌, ◌↔◌, ◌++◌, ℕ, false, List, [], length, Some};
+ghost use Rattle.djvu_base.specs.Library.{Files, Library, library_of};
 ghost use Rattle.djvu_outside.specs.Faults.{Failure};
 ghost use Rattle.djvu_outside.specs.Puts.{to_out, to_report};
 ghost use Rattle.zp_table.specs.declared.rows.Row.{Row};
 ghost use Rattle.layer_compose.specs.declared.layers.Layers.{Layers};
-ghost use Rattle.page_decoder.specs.Reading.{reading};
-ghost use Rattle.page_decoder.specs.Found.{last_layers};
+ghost use Rattle.layer_compose.specs.Drawing.{raster_of};
+ghost use Rattle.page_decoder.specs.PageRead.{last_layers};
+ghost use Rattle.page_decoder.specs.Libraries.{names_in, run, Drawn, page_in};
+ghost use Rattle.replay_core.specs.Machine.{page_notices, AllClosed};
 ghost use Rattle.viewer_words.specs.Lines.{name_at};
 ghost use Rattle.viewer_words.specs.Words.{words_of};
 ghost use Rattle.viewer_run.specs.Plan.{draws, plan_of};
 ghost use Rattle.viewer_run.specs.EarlyFailures.{front_may_fail, front_failed};
 ghost use Rattle.viewer_run.specs.Statuses.{AllShown, IsRefused};
 ghost use Rattle.viewer_run.specs.Rasters.{raster_text};
-ghost use Rattle.viewer_run.specs.Texts.{lines_of, texts_of_file};
+ghost use Rattle.viewer_run.specs.Texts.{lines_of, texts_of_page};
 ghost use Rattle.viewer_run.specs.Offline.{Written, offline, IsOutcome};
 
 pub mod worked;
@@ -41,7 +43,7 @@ pub fn statuses_tell()
         → front_may_fail words first ≡ front_failed library words first →
         IsOutcome first all library words texts → IsOutcome first all library words others → texts ≡ others }
 {
-    page_decoder::laws::ends();
+    page_decoder::page_laws::libraries::closed_libraries();
 }
 
 /// A run that draws no page, or is refused, has no work.
@@ -50,13 +52,15 @@ pub fn others_have_no_work()
     ensures refused { (library : Library) (words : List (List ℕ)) → (offline library words).status ≡ 2 → (offline library words).work ≡ 0 }
 {}
 
-/// A page of a file whose end is known, which isn't refused, has a drawing, and what is put of it is its lines and the raster
-/// of its last drawing.
+/// A page of a library whose files are all closed, which isn't refused, has a drawing, and what is put of it is its lines and the
+/// raster of its last drawing.
 pub fn unrefused_pages_are_drawn()
-    ensures { (rows : List Row) (names : List (List ℕ)) (page : ℕ) (file : File) → file.mark ≢ Open → (texts_of_file rows names page file).refused ≡ false →
-        (layers : Layers) × (last_layers (reading rows file.mark file.bytes).notices ≡ Some layers)
-        × ((texts_of_file rows names page file).puts
-        ≡ to_report (lines_of (name_at names page) (reading rows file.mark file.bytes).notices) ++ to_out (raster_text layers)) }
+    ensures { (rows : List Row) (library : Library) (page : ℕ) → page < length library → AllClosed library
+        → (texts_of_page rows library page).refused ≡ false →
+        (layers : Layers) × (last_layers (run rows library page).left.told.drawings ≡ Some layers) × (page_in rows library page ≡ Drawn (raster_of layers))
+        × ((texts_of_page rows library page).puts
+        ≡ to_report (lines_of (name_at (names_in library) page) (page_notices rows library page)) ++ to_out (raster_text (raster_of layers))) }
 {
-    page_decoder::laws::ends();
+    page_decoder::page_laws::libraries::closed_libraries();
+    page_decoder::page_laws::shows();
 }

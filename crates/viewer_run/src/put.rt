@@ -1,6 +1,6 @@
 //! Putting rasters into sinks.
 ghost use Rattle.std.specs.Prelude.{◌≡◌, ℕ, ◌+◌, ◌*◌, ◌<◌, ◌≤◌, IfOk, length, vec_len};
-ghost use Rattle.layer_compose.specs.Drawing.{samples_of, rows_of, drawing_width, drawing_height};
+ghost use Rattle.layer_compose.specs.Drawing.{raster_of, samples_of, rows_of, drawing_width, drawing_height};
 ghost use Rattle.page_decoder.specs.Found.{CanDraw};
 ghost use Rattle.djvu_outside.specs.Parts.{SinkStops, Gives};
 ghost use Rattle.viewer_run.specs.Rasters.{raster_head, raster_text};
@@ -15,7 +15,7 @@ const BLOCK: u32 = 65_536;
 /// Puts the raster of a drawing, in blocks of rows.
 pub fn put_raster<S: Sink>(alloc: Global, sink: &mut S, layers: &Layers) -> Result<(), Stop>
     requires { CanDraw layers.now }
-    ensures taken { Gives result (S.given sink.old) (S.given sink.new) (raster_text layers.now) }
+    ensures taken { Gives result (S.given sink.old) (S.given sink.new) (raster_text (raster_of layers.now)) }
     ensures stops { SinkStops result (S.faults sink.old) (S.faults sink.new) }
 {
     let head = raster_head(alloc, layers.drawing_width(), layers.drawing_height())?;

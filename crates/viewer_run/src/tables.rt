@@ -40,11 +40,11 @@ impl SharedTable {
         Ok(SharedTable { table })
     }
 
-    /// The table.
-    pub fn shared(&self) -> &Arc<Table>
-        ensures { arc_value result.now ≡ self.now }
+    /// A share of the table.
+    pub fn share(&self) -> Result<Arc<Table>, AllocError>
+        ensures { IfOk result (λ share. arc_value share ≡ self.now) }
     {
-        &self.table
+        Arc::try_clone(&self.table)
     }
 }
 

@@ -1,80 +1,78 @@
-//! What is written for one page.
-ghost use Rattle.std.specs.Prelude.{◌≡◌, IfOk, [], ◌∷◌};
+//! What is put for one page.
+ghost use Rattle.std.specs.Prelude.{◌≡◌, ◌++◌, IfOk};
 ghost use Rattle.page_decoder.specs.Found.{CanDrawLast};
-ghost use Rattle.djvu_outside.specs.Parts.{SinksEnd, NeverFolder};
+ghost use Rattle.djvu_outside.specs.Parts.{Gives, SinkStops, SinksEnd, NeverFolder};
 ghost use Rattle.djvu_outside.specs.Puts.{GivesBoth, sinks};
-ghost use Rattle.page_decoder.specs.Ends.{ending};
-ghost use Rattle.viewer_run.specs.Texts.{lines_at, page_fault};
-ghost use Rattle.viewer_run.specs.Shown.{lines_told, texts_found};
+ghost use Rattle.viewer_run.specs.Texts.{texts_at};
+ghost use Rattle.viewer_run.specs.Found.{FaultFits, fault_text, raster_found, shown_found};
 
 use crate::put::put_raster;
-use djvu_base::{Fault, FaultKind, Name, Place};
+use djvu_base::{Fault, Name};
 use djvu_outside::{Sink, Stop, put_text};
-use page_decoder::{Drawn, PageEnd, PageReading};
+use layer_compose::Layers;
 use std::alloc::{AllocError, Global};
-use std::slice::from_ref;
-use viewer_words::{fault_line, notice_line};
+use viewer_words::fault_line;
 
-/// Puts the lines of a page, and its raster where it is finished. Answers whether it was refused.
+/// What is put for a page behind the lines of its notices: its fault where it has one, and else its layers.
+#[derive(Debug, Drop)]
+pub struct PageFound {
+    pub fault: Option<Fault>,
+    pub layers: Option<Layers>,
+}
+
+/// Puts the lines of a page, with that of its fault where it has one, and else its raster behind them.
 pub fn put_page<S: Sink, E: Sink>(
     alloc: Global,
+    names: &[Name],
     page: &Name,
-    read: &PageReading,
+    lines: &[u8],
+    found: &PageFound,
     out: &mut S,
     report: &mut E,
-) -> Result<bool, Stop>
-    requires { CanDrawLast read.now.layers }
-    ensures puts { GivesBoth result (texts_found page.now read.now).puts (sinks (S.given out.old) (E.given report.old))
-        (sinks (S.given out.new) (E.given report.new)) }
-    ensures refused { IfOk result (λ refused. refused ≡ (texts_found page.now read.now).refused) }
+) -> Result<(), Stop>
+    requires drawable { CanDrawLast found.now.layers }
+    requires fits { FaultFits names.now found.now.fault }
+    ensures puts { GivesBoth result (texts_at names.now page.now lines.now (shown_found found.now.fault found.now.layers)).puts
+        (sinks (S.given out.old) (E.given report.old)) (sinks (S.given out.new) (E.given report.new)) }
     ensures sinks_end { SinksEnd result (S.faults out.old) (S.faults out.new) (E.faults report.old) (E.faults report.new) }
     ensures no_folder { NeverFolder result }
 {
-    let lines = lines_of(alloc, page, read)?;
-    put_text(report, lines.as_slice())?;
-    match (read.end, &read.layers) {
-        (PageEnd::Finished, Some(layers)) => {
-            put_raster(alloc, out, layers)?;
-            Ok(false)
-        }
-        (PageEnd::Finished, None) => Ok(false),
-        (PageEnd::Refused { .. }, _) => Ok(true),
-    }
+    let text = with_fault(alloc, names, page, lines, &found.fault)?;
+    put_text(report, text.as_slice())?;
+    put_found(alloc, found, out)
 }
 
-/// The lines of a page: its drawings, and its fault.
-fn lines_of(alloc: Global, page: &Name, read: &PageReading) -> Result<Vec<u8>, AllocError>
-    ensures { IfOk result (λ lines. lines.items ≡ lines_at (page.now ∷ []) 0 (lines_told page.now read.now.notices) (ending read.now.end)) }
+/// Puts the raster of a page without a fault, where it has one.
+fn put_found<S: Sink>(alloc: Global, found: &PageFound, out: &mut S) -> Result<(), Stop>
+    requires { CanDrawLast found.now.layers }
+    ensures taken { Gives result (S.given out.old) (S.given out.new) (raster_found found.now.fault found.now.layers) }
+    ensures stops { SinkStops result (S.faults out.old) (S.faults out.new) }
 {
-    let mut lines = drawn_lines(alloc, page, read.notices.slice())?;
-    if let PageEnd::Refused { kind, offset } = read.end {
-        let line = own_fault(alloc, page, kind, offset)?;
-        lines.extend_from_slice(line.as_slice())?;
+    if found.fault.is_some() {
+        return Ok(());
     }
-    Ok(lines)
+    match &found.layers {
+        Some(layers) => put_raster(alloc, out, layers),
+        None => Ok(()),
+    }
 }
 
-/// The line of a fault in a page's own file.
-pub fn own_fault(
+/// The lines of a page, and that of its fault where it has one.
+fn with_fault(
     alloc: Global,
+    names: &[Name],
     page: &Name,
-    kind: FaultKind,
-    offset: u32,
+    lines: &[u8],
+    fault: &Option<Fault>,
 ) -> Result<Vec<u8>, AllocError>
-    ensures { IfOk result (λ line. line.items ≡ page_fault (page.now ∷ []) 0 kind offset) }
+    requires { FaultFits names.now fault.now }
+    ensures { IfOk result (λ text. text.items ≡ lines.now ++ fault_text names.now page.now fault.now) }
 {
-    let place = Place { file: 0, offset };
-    fault_line(alloc, page, &Fault { kind, place }, from_ref(page))
-}
-
-/// The lines of a page's drawings.
-fn drawn_lines(alloc: Global, page: &Name, notices: &[Drawn]) -> Result<Vec<u8>, AllocError>
-    ensures { IfOk result (λ lines. lines.items ≡ lines_told page.now notices.now) }
-{
-    let mut lines = Vec::new(alloc);
-    for drawn in notices {
-        let line = notice_line(alloc, page, drawn.chunks, drawn.sum)?;
-        lines.extend_from_slice(line.as_slice())?;
+    let mut text = Vec::new(alloc);
+    text.extend_from_slice(lines)?;
+    if let Some(fault) = fault {
+        let line = fault_line(alloc, page, fault, names)?;
+        text.extend_from_slice(line.as_slice())?;
     }
-    Ok(lines)
+    Ok(text)
 }

@@ -91,8 +91,9 @@ fn carry_out<F: Folder, S: Sink, E: Sink, M: Meter>(
 {
     match find_front(alloc, words, folder)? {
         Front::Refused(line) => refuse(line.slice(), report),
-        Front::Accepted { mode, pages } => {
-            let shown = show_pages(alloc, &mode, pages.slice(), folder, out, report, meter)?;
+        Front::Accepted { names, mode, pages } => {
+            let pages = pages.slice();
+            let shown = show_pages(alloc, names, &mode, pages, folder, out, report, meter)?;
             Ok(shown.status())
         }
     }

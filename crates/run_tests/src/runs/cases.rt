@@ -41,12 +41,8 @@ pub const DRAWN: [&[u8]; 4] = [
 ];
 
 /// Pages that are refused, and what is reported of them.
-pub const REFUSED: [(&[u8], &[u8]); 9] = [
+pub const REFUSED: [(&[u8], &[u8]); 8] = [
     (NONE, b"p: truncated p 0\n"),
-    (
-        b"AT&TFORM\0\0\0\x1EDJVUINFO\0\0\0\x0A\0\x01\0\x01\x18\0\x2C\x01\x16\x01Djbz\0\0\0\0",
-        b"p: chunk 1 sum 765\np: unsupported p 34\n",
-    ),
     // A chunk that is too long, and one that is never read.
     (
         b"AT&TFORM\0\0\0\x1EDJVUINFO\0\0\0\x0A\0\x01\0\x01\x18\0\x2C\x01\x16\x01BG44\0\0\0\x64",

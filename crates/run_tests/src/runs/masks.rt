@@ -2,7 +2,7 @@
 
 use super::cases::{BLANK, Case, LINE, MASKED, NONE};
 
-const FLAT_P: &[&[u8]] = &[b"draw", b"--table", b"flat", b"p"];
+pub const FLAT_P: &[&[u8]] = &[b"draw", b"--table", b"flat", b"p"];
 
 const FLAT_P_Q: &[&[u8]] = &[b"draw", b"--table", b"flat", b"p", b"q"];
 

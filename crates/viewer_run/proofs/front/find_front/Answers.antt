@@ -3,7 +3,7 @@ use Rattle.djvu_base.specs.Library.{library_of}
 use Rattle.viewer_words.specs.declared.commands.Command.{Command}
 use Rattle.viewer_words.specs.declared.commands.Command.TheVariants.{Draw, Info}
 use Rattle.viewer_words.specs.Files.{named_files}
-use Rattle.viewer_run.specs.Plan.{names_in, plan_by_words}
+use Rattle.viewer_run.specs.Plan.{plan_by_words}
 use Rattle.viewer_run.specs.Start.{plan_by}
 use Rattle.viewer_run.proofs.Starting.{are_distinct}
 use Rattle.viewer_run.proofs.front.find_front.Goals as goal
@@ -32,5 +32,5 @@ pub returns-in-Ok-Draw-clause-told : goal.returns-in-Ok-Draw-clause-told
 returns-in-Ok-Draw-clause-told g c told files =
     let command = c.in-Ok-Draw.ensures.command ∙ ap Ok c.in-Ok-Draw.field-0-is in
     subst (λ (r : Result Command ℕ).
-    IfOk c.front_of_draw.result (λ front. plan_by (names_in (library_of told)) front ≡ plan_by_words (library_of told) (named_files c.args.words.now) r))
+    IfOk c.front_of_draw.result (λ front. plan_by front ≡ plan_by_words (library_of told) (named_files c.args.words.now) r))
     (sym command) (c.front_of_draw.ensures.told told files)

@@ -8,7 +8,7 @@ pub returns-clause-refused : goal.returns-clause-refused
 returns-clause-refused c first all library words texts outcome = refused first all library words texts outcome
 
 pub returns-clause-done : goal.returns-clause-done
-returns-clause-done c files words texts outcome = done c.ends.ensures.drawn c.ends.ensures.known files words texts outcome
+returns-clause-done c files words texts outcome = done c.closed_libraries.ensures.known files words texts outcome
 
 pub returns-clause-below : goal.returns-clause-below
 returns-clause-below c first all library words texts outcome = below first all library words texts outcome

@@ -1,54 +1,29 @@
-use Rattle.std.proofs.Common.{ℕ, suc, Ok, Err, List, take, drop, sym, ap, ◌∙◌}
-use Rattle.std.proofs.lemmas.List.{take_all}
-use Rattle.std.proofs.lemmas.Result.{err_from_is_err_and}
-use Rattle.viewer_run.proofs.Joining.{one_more, stopped_at, shows_named, has_file_at, here_at, counts_more}
-use Rattle.viewer_run.proofs.Ticking.{only_both}
+use Rattle.std.proofs.Common.{◌∙◌, List, ℕ, refl, sym, subst}
+use Rattle.djvu_base.specs.Library.{library_of, file_limit}
+use Rattle.viewer_run.specs.Ended.{around}
+use Rattle.viewer_run.specs.Plan.{Lists, numbers_of}
+use Rattle.viewer_run.specs.Shown.{Shows}
+use Rattle.viewer_run.specs.Start.{plan_for}
+use Rattle.viewer_run.proofs.Numbering.{shows_listed}
+use Rattle.viewer_run.proofs.Starting.{listed_files, names_of_library}
 use Rattle.viewer_run.proofs.pages.show_pages.Goals as goal
 
-pub show_page-requires : goal.show_page-requires
-show_page-requires g c told files =
-    let names : List (List ℕ) = c.args.pages.now in
-    has_file_at told names c.loop-at.at c.index-pages-at.result (drop (suc c.loop-at.at) names) (c.requires.listed told (sym c.loop-at.invariant.files ∙ files))
-    (here_at names c.loop-at.at c.index-pages-at.result c.index-pages-at.is c.loop-at-test.true)
+pub list_pages-requires-clause-listed : goal.list_pages-requires-clause-listed
+list_pages-requires-clause-listed g c told files =
+    listed_files told c.args.names c.args.pages.now (c.requires.over told files) c.requires.listed.listed
 
-pub returns-in_err-shown-clause-told : goal.returns-in_err-shown-clause-told
-returns-in_err-shown-clause-told g c told files =
-    let inv = c.loop-at.invariant in
-    let p = err_from_is_err_and c.from_residual.result c.from_residual.ensures.1 in
-    stopped_at c.args.mode.now told c.args.pages.now c.loop-at.at c.index-pages-at.result c.loop-at.all c.in_err-shown.field-0.0 c.show_page.result
-    c.from_residual.result
-    _ _ _
-    (inv.drawn told files) (c.show_page.ensures.told told (inv.files ∙ files)) c.requires.distinct c.index-pages-at.is c.loop-at-test.true c.in_err-shown.was
-    (p.1 ∙ ap Err p.2)
-
-pub loop-at-preserved : goal.loop-at-preserved
-loop-at-preserved g c =
-    let inv = c.loop-at.invariant in
-    let with = c.with-all.ensures in
-    record {
-      drawn = λ told files.
-          one_more c.args.mode.now told c.args.pages.now c.loop-at.at c.index-pages-at.result c.loop-at.all c.in_ok-shown.shown c.with-all.result
-          c.show_page.result
-          _ _ _
-          (inv.drawn told files) (c.show_page.ensures.told told (inv.files ∙ files)) c.requires.distinct c.index-pages-at.is c.loop-at-test.true
-          c.in_ok-shown.was with;
-      files = c.in_ok-shown.ensures.same_files ∙ inv.files;
-      counts = counts_more c.loop-at.all c.in_ok-shown.shown c.with-all.result _ _ _ with inv.counts c.in_ok-shown.ensures.counts;
-      out_faults = c.in_ok-shown.ensures.sinks_end.0 ∙ inv.out_faults;
-      report_faults = c.in_ok-shown.ensures.sinks_end.1 ∙ inv.report_faults;
-      only_ticks =
-          only_both (g.M.Meter.count c.args.meter.now) (g.M.Meter.count c.loop-at.meter) (g.M.Meter.count c.show_page.new.meter) inv.only_ticks
-          c.show_page.ensures.only_ticks;
-      still = λ info. c.show_page.ensures.still info ∙ inv.still info;
-    }
-
-pub returns-clause-told : goal.returns-clause-told
-returns-clause-told g c told files =
-    let names : List (List ℕ) = c.args.pages.now in
-    shows_named c.args.mode.now told (take c.loop-at.at names) names (Ok c.loop-at.all) _ _ (take_all c.loop-at.at names c.loop-at-test.false)
-    (c.loop-at.invariant.drawn told files)
-
-pub returns-in_err-shown-clause-only_ticks : goal.returns-in_err-shown-clause-only_ticks
-returns-in_err-shown-clause-only_ticks g c =
-    only_both (g.M.Meter.count c.args.meter.now) (g.M.Meter.count c.loop-at.meter) (g.M.Meter.count c.show_page.new.meter) c.loop-at.invariant.only_ticks
-    c.show_page.ensures.only_ticks
+pub returns-in-Info-clause-told : goal.returns-in-Info-clause-told
+returns-in-Info-clause-told g c told files =
+    let names : List (List ℕ) = c.args.names in
+    let pages : List (List ℕ) = c.args.pages.now in
+    let before =
+    around (g.F.Folder.failures c.args.folder.now) (g.S.Sink.given c.args.out.now) (g.E.Sink.given c.args.report.now) (g.M.Meter.count c.args.meter.now) in
+    let after =
+    around (g.F.Folder.failures c.list_pages.new.folder) (g.S.Sink.given c.args.out.now) (g.E.Sink.given c.list_pages.new.report)
+    (g.M.Meter.count c.args.meter.now) in
+    subst (λ mode. Shows (library_of told) (plan_for mode (numbers_of names pages)) c.list_pages.result before after) (sym c.in-Info.is)
+    (subst (λ (l : List (List ℕ)). Shows (library_of told) (Lists (numbers_of l pages)) c.list_pages.result before after)
+    (names_of_library file_limit told ∙ sym (c.requires.over told files))
+    (shows_listed told pages c.list_pages.result before after
+    (listed_files told names pages (c.requires.over told files) c.requires.listed.listed) refl
+    (c.list_pages.ensures.told told (g.S.Sink.given c.args.out.now) files)))

@@ -1,9 +1,9 @@
 #!/usr/bin/env python3
-"""Writes the bitmap of a page of 2,550 by 3,300 pixels, in the format PBM:  make_page.py FILE [SPECKS]
+"""Writes the bitmap of a page of 2,550 by 3,300 pixels, in the format PBM:  make_page.py FILE [SPECKS [PAGE]]
 
 The page has 55 lines of marks that look like letters: strokes drawn from a fixed seed, each mark now and then with a pixel
 more or less, as a scanner would see it. `cjb2 FILE lines` of DjVuLibre makes the page `lines` of it. With SPECKS so many
-black pixels lie anywhere on it, as in a bad scan.
+black pixels lie anywhere on it, as in a bad scan. With PAGE it is another page of a book in the same letters.
 """
 import random
 import sys
@@ -33,6 +33,8 @@ def letter():
 
 
 letters = [letter() for _ in range(60)]
+if len(sys.argv) > 3:
+    random.seed(int(sys.argv[3]))
 rows = [bytearray(WIDTH) for _ in range(HEIGHT)]
 for line in range(55):
     x = 200

@@ -49,23 +49,26 @@ def samples_of(raster):
 
 
 def smaller_rows(raster, step):
-    """Rows of one byte a pixel, each the mean of step by step green samples."""
+    """Rows of three bytes a pixel, each the mean of step by step samples."""
     width, height, samples = samples_of(raster)
     for top in range(0, height - step + 1, step):
-        rows = [samples[3 * width * y + 1 : 3 * width * (y + 1) : 3] for y in range(top, top + step)]
-        yield bytes(
-            sum(sum(row[left : left + step]) for row in rows) // (step * step)
-            for left in range(0, width - step + 1, step)
-        )
+        out = bytearray(3 * (width // step))
+        for colour in range(3):
+            rows = [samples[3 * width * y + colour : 3 * width * (y + 1) : 3] for y in range(top, top + step)]
+            out[colour::3] = bytes(
+                sum(sum(row[left : left + step]) for row in rows) // (step * step)
+                for left in range(0, width - step + 1, step)
+            )
+        yield bytes(out)
 
 
 def png(rows):
-    """A grey picture."""
+    """A picture in colours."""
     def block(kind, data):
         body = kind + data
         return struct.pack(">I", len(data)) + body + struct.pack(">I", zlib.crc32(body))
 
-    head = struct.pack(">IIBBBBB", len(rows[0]), len(rows), 8, 0, 0, 0, 0)
+    head = struct.pack(">IIBBBBB", len(rows[0]) // 3, len(rows), 8, 2, 0, 0, 0)
     body = zlib.compress(b"".join(b"\0" + row for row in rows), 9)
     return b"\x89PNG\r\n\x1a\n" + block(b"IHDR", head) + block(b"IDAT", body) + block(b"IEND", b"")
 

@@ -23,3 +23,5 @@ mod Keying
 mod Pathing
 -- pixels of a shape: Coding::direct, Coding::refined
 mod Sketching
+-- fields: Coding
+mod Fielding

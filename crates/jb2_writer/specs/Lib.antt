@@ -7,3 +7,4 @@ pub mod Worked
 pub mod Coding
 pub mod Numbers
 pub mod Pixels
+pub mod Given

@@ -238,24 +238,6 @@ impl Reading {
         ))
     }
 
-    /// Reads a page of a folder, which comes in pieces. Whether there was memory for it.
-    fn read_page(&mut self, files: &[File], page: u32, pieces: Pieces) -> bool
-        requires { self.old.decoder.mark ≡ Open }
-    {
-        match files.get(page as usize) {
-            Some(file) => self.read_file(files, file, pieces).is_some(),
-            None => false,
-        }
-    }
-
-    /// Whether it told this.
-    fn tells(&self, tells: &Tells) -> bool {
-        self.text.as_slice() == tells.text.as_bytes()
-            && self.preview.as_slice() == tells.preview
-            && self.decoder.decisions() == tells.decisions
-            && self.meter.count() == tells.ticks
-    }
-
     /// Tells a notice, and keeps its preview.
     fn tell_notice(&mut self, notice: &Notice) -> Option<()>
         ensures { self.new.decoder ≡ self.old.decoder }
@@ -285,15 +267,25 @@ impl Reading {
     }
 }
 
+/// What a page of a folder tells that comes in pieces.
+fn read_in_pieces(alloc: Global, files: &[File], page: u32, pieces: Pieces) -> Option<Reading> {
+    let file = files.get(page as usize)?;
+    let mut reading = Reading::new(alloc, flat(alloc)?, files, page)?;
+    reading.read_file(files, file, pieces)?;
+    Some(reading)
+}
+
 /// Whether a page tells this that comes in pieces.
 fn is_told(alloc: Global, files: &[File], page: u32, pieces: Pieces, tells: &Tells) -> bool {
-    let Some(table) = flat(alloc) else {
-        return false;
-    };
-    let Some(mut reading) = Reading::new(alloc, table, files, page) else {
-        return false;
-    };
-    reading.read_page(files, page, pieces) && reading.tells(tells)
+    match read_in_pieces(alloc, files, page, pieces) {
+        Some(reading) => {
+            reading.text.as_slice() == tells.text.as_bytes()
+                && reading.preview.as_slice() == tells.preview
+                && reading.decoder.decisions() == tells.decisions
+                && reading.meter.count() == tells.ticks
+        }
+        None => false,
+    }
 }
 
 /// Asserts what a page tells that comes in pieces.
@@ -311,17 +303,18 @@ fn expect_pieces(
 
 /// Whether a page tells its text byte by byte, or there was no memory.
 pub fn is_right_or_none(alloc: Global, files: &[File], page: u32, text: &str) -> bool {
-    let pieces = Pieces {
-        first: 0,
-        others: 1,
-    };
-    let Some(table) = flat(alloc) else {
-        return true;
-    };
-    let Some(mut reading) = Reading::new(alloc, table, files, page) else {
-        return true;
-    };
-    !reading.read_page(files, page, pieces) || reading.text.as_slice() == text.as_bytes()
+    match read_in_pieces(
+        alloc,
+        files,
+        page,
+        Pieces {
+            first: 0,
+            others: 1,
+        },
+    ) {
+        Some(reading) => reading.text.as_slice() == text.as_bytes(),
+        None => true,
+    }
 }
 
 /// Asserts what a page tells: in one piece, in each cut in two, and byte by byte.

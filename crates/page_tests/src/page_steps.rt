@@ -16,7 +16,7 @@ use zp_table::Table;
 
 /// What a page answers: a notice as its chunks and its sum.
 #[derive(Clone, Copy, Debug, PartialEq, Eq)]
-enum Answer {
+pub enum Answer {
     Notice(u32, u64),
     Bytes,
     Outline(u32),
@@ -29,7 +29,7 @@ enum Answer {
 use Answer::{Bytes, Finished, NoMemory, Notice, Outline, Refused};
 
 /// The next answer of a page.
-fn next(decoder: &mut PageDecoder, meter: &mut CountMeter) -> Answer
+pub fn next(decoder: &mut PageDecoder, meter: &mut CountMeter) -> Answer
     ensures { decoder.new.mark ≡ decoder.old.mark }
 {
     match decoder.step(meter) {
@@ -61,7 +61,7 @@ fn expect(
 }
 
 /// The decoder of the page `p` beside a file `d`, with the table of one row.
-fn begin(alloc: Global) -> Option<PageDecoder>
+pub fn begin(alloc: Global) -> Option<PageDecoder>
     ensures { IfSome result (λ decoder. decoder.mark ≡ Open) }
 {
     let names = names_of(alloc, &[whole("d", DOT), whole("p", PAGE)])?;
@@ -69,7 +69,7 @@ fn begin(alloc: Global) -> Option<PageDecoder>
 }
 
 /// Gives a page the outline that it asks for.
-fn give_outline(alloc: Global, decoder: &mut PageDecoder, meter: &mut CountMeter) -> Option<()>
+pub fn give_outline(alloc: Global, decoder: &mut PageDecoder, meter: &mut CountMeter) -> Option<()>
     ensures { decoder.new.mark ≡ decoder.old.mark }
 {
     match decoder.step(meter) {
@@ -82,7 +82,7 @@ fn give_outline(alloc: Global, decoder: &mut PageDecoder, meter: &mut CountMeter
 }
 
 /// Gives a page what a file gives that it asks for.
-fn give_file(decoder: &mut PageDecoder, meter: &mut CountMeter, gift: FileResult) -> Option<()>
+pub fn give_file(decoder: &mut PageDecoder, meter: &mut CountMeter, gift: FileResult) -> Option<()>
     ensures { decoder.new.mark ≡ decoder.old.mark }
 {
     match decoder.step(meter) {

@@ -33,3 +33,7 @@ mod Asides
 mod Answering
 mod Advancing
 mod Cutting
+mod Scripting
+mod Replaying
+mod Leaving
+mod Left

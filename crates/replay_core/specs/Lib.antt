@@ -9,3 +9,6 @@ pub mod Core
 pub mod CoreSteps
 pub mod Script
 pub mod ScriptRead
+pub mod ScriptLaws
+pub mod Replays
+pub mod WorkedReplays

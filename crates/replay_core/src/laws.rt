@@ -12,6 +12,8 @@ ghost use Rattle.page_decoder.specs.Needs.{IsOver};
 ghost use Rattle.replay_core.specs.Machine.{State, PageState, Event, Step, Look, Drew, AtEnd, Looked, last_of, page_notices, answer, state_after_all, answers, start, drawn_in, ends_in, IsSound, AllClosed, PageGoesOn, LooksRise, ShowsNoLess, TellsDrawing, HasEnded, TellsPage, GoesWell};
 
 pub mod counts;
+pub mod replays;
+pub mod scripts;
 pub mod standing;
 pub mod worked;
 

@@ -17,6 +17,7 @@ pub mod Texts
 pub mod Info
 pub mod EarlyFailures
 pub mod Offline
+pub mod Replayed
 pub mod Runs
 pub mod Statuses
 pub mod Worked
@@ -28,3 +29,4 @@ pub mod Listed
 pub mod Found
 pub mod CoreRun
 pub mod Drawing
+pub mod ReplayRun

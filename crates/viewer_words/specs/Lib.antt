@@ -4,6 +4,7 @@ pub use Rattle.djvu_base.specs.Text
 pub mod Tables
 pub mod Options
 pub mod Words
+pub mod Replaying
 pub mod Lines
 pub mod Files
 pub mod Answers

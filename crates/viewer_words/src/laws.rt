@@ -1,5 +1,5 @@
 //! Laws of the definitions, and worked values of them: each is a clause of a function that does nothing.
-ghost use Rattle.std.specs.Prelude.{◌≡◌, ℕ, ◌+◌, ◌-◌, ◌<◌, ◌≤◌, ◌↔◌, ◌++◌, List, [], ◌∷◌, length, map, take, Some, Ok, Err, codes};
+ghost use Rattle.std.specs.Prelude.{◌≡◌, ℕ, ◌+◌, ◌-◌, ◌<◌, ◌≤◌, ◌↔◌, ◌++◌, List, [], ◌∷◌, length, map, take, Some, None, Ok, Err, codes};
 ghost use Rattle.std.specs.List.{range_with_len};
 ghost use Rattle.djvu_base.specs.declared.faults.FaultKind.TheVariants.{Truncated, CyclicInclude};
 ghost use Rattle.djvu_base.specs.Text.{newline};
@@ -8,8 +8,9 @@ ghost use Rattle.viewer_words.specs.declared.commands.Command.TheVariants.{Draw,
 ghost use Rattle.viewer_words.specs.declared.commands.TableChoice.TheVariants.{Djvu, Flat, File};
 ghost use Rattle.viewer_words.specs.Words.{words_of, page_limit, pages_in};
 ghost use Rattle.viewer_words.specs.Files.{AreWords, files_in, named_files, unlisted_line};
+ghost use Rattle.viewer_words.specs.Replaying.{replaying, replaying_of};
 ghost use Rattle.viewer_words.specs.Laws.{IsPageList, IsWritten, CanBegin};
-ghost use Rattle.viewer_words.specs.Lines.{notice_line, fault_line, form_line, chunk_line, words_line, folder_line, table_line};
+ghost use Rattle.viewer_words.specs.Lines.{notice_line, fault_line, form_line, chunk_line, words_line, folder_line, table_line, look_line, needs_bytes_line, needs_file_line, finished_line, refused_line, script_line};
 
 /// Words are a command exactly where they are its first word, then its option or none, and then its pages: 1 to 1,024 of
 /// them, each a name that doesn't begin with `--`, and none twice. The table of DjVu files may stand there by its word,
@@ -92,4 +93,29 @@ pub fn worked_lines()
     ensures words { words_line 2 ≡ codes "words 2" ++ 0x0A ∷ [] }
     ensures table { table_line 250 (codes "short") ≡ codes "table 250 short" ++ newline }
     ensures names { folder_line 1025 ≡ codes "folder 1025" ++ 0x0A ∷ [] }
+{}
+
+/// A line of each kind that a script can bring.
+pub fn worked_script_lines()
+    ensures drawing_seen { look_line 0 (codes "p") (Some (1, 765)) ≡ codes "viewer 0 p chunks 1 sum 765" ++ newline }
+    ensures nothing_seen { look_line 63 (codes "p") None ≡ codes "viewer 63 p none" ++ newline }
+    ensures needs_bytes { needs_bytes_line (codes "p") 17 ≡ codes "p: needs bytes decisions 17" ++ newline }
+    ensures needs_file { needs_file_line (codes "p") (codes "d") ≡ codes "p: needs file d" ++ newline }
+    ensures finished { finished_line (codes "p") 29 ≡ codes "p: finished decisions 29" ++ newline }
+    ensures refused { refused_line (codes "p") (record { kind = CyclicInclude; place = record { file = 1; offset = 16 } }) (codes "a" ∷ codes "b" ∷ []) 0 ≡ codes "p: refused cyclic-include b 16 decisions 0" ++ newline }
+    ensures script { script_line 65537 ≡ codes "script 65537" ++ newline }
+{}
+
+/// Words after `replay` that say what is replayed, and those that don't fit. A page may be the script's file.
+pub fn worked_replayings()
+    ensures usual { replaying_of (codes "s" ∷ codes "p" ∷ []) ≡ Ok (replaying Djvu (codes "s") (codes "p" ∷ [])) }
+    ensures flat { replaying_of (codes "--table" ∷ codes "flat" ∷ codes "s" ∷ codes "p" ∷ codes "q" ∷ [])
+        ≡ Ok (replaying Flat (codes "s") (codes "p" ∷ codes "q" ∷ [])) }
+    ensures same_file { replaying_of (codes "p" ∷ codes "p" ∷ []) ≡ Ok (replaying Djvu (codes "p") (codes "p" ∷ [])) }
+    ensures no_script { replaying_of (codes "--table" ∷ codes "flat" ∷ []) ≡ Err 3 }
+    ensures no_page { replaying_of (codes "s" ∷ []) ≡ Err 2 }
+    ensures dashes { replaying_of (codes "--" ∷ codes "p" ∷ []) ≡ Err 1 }
+    ensures twice { replaying_of (codes "s" ∷ codes "p" ∷ codes "p" ∷ []) ≡ Err 3 }
+    ensures ninth { replaying_of (codes "s" ∷ codes "1" ∷ codes "2" ∷ codes "3" ∷ codes "4" ∷ codes "5" ∷ codes "6" ∷ codes "7" ∷ codes "8" ∷ codes "9" ∷ [])
+        ≡ Err 10 }
 {}

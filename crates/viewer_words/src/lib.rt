@@ -15,12 +15,15 @@ mod files;
 pub mod laws;
 mod lines;
 mod options;
+mod replaying;
 mod tables;
 mod words;
 
 pub use commands::{Command, TableChoice, WordsError};
 pub use files::unlisted_line;
 pub use lines::{
-    chunk_line, fault_line, folder_line, form_line, notice_line, table_line, words_line,
+    chunk_line, fault_line, finished_line, folder_line, form_line, look_line, needs_bytes_line,
+    needs_file_line, notice_line, refused_line, script_line, table_line, words_line,
 };
+pub use replaying::{Replaying, read_replaying};
 pub use words::read_words;

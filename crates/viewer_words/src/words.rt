@@ -67,7 +67,7 @@ pub fn rest_of(words: &[Items<u8>], count: usize) -> &[Items<u8>]
 }
 
 /// The pages that these words name, at most so many. The first of them has the number `first` among the words of the command.
-fn read_pages(
+pub fn read_pages(
     alloc: Global,
     limit: usize,
     first: usize,
